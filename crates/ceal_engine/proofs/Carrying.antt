@@ -1,5 +1,5 @@
 -- A run with which a repair goes on, and what a slice of it is of the definition's repair.
-use Rattle.std.proofs.Common.{◌≡◌, ◌≢◌, ℕ, ◌+◌, Bool, true, false, Option, Some, None, List, refl, sym, ap, subst, ◌∙◌, inl, inr, ◌⊎◌, arith}
+use Rattle.std.proofs.Common.{◌≡◌, ℕ, ◌+◌, Bool, true, false, Option, Some, None, List, refl, sym, ap, subst, ◌∙◌, inl, inr, ◌⊎◌, arith}
 use Rattle.std.specs.Option.{IsSomeAnd}
 use Rattle.std.specs.Prelude.{◌↔◌, IsSome, Ok, Err}
 use Rattle.std.proofs.lemmas.Bool.{false≢true}
@@ -214,7 +214,7 @@ module _ (code : Code) (fuel : ℕ) (inputs : List Block) (phase : Phase) (call 
     abbrev found : (z : Repair) → IsSliceOf code inputs reads fuel k.repair (Some z) → Carries code inputs call.function call.args fuel next' r reads z
     found = there code inputs call.function call.args fuel k.repair run k.of reads next' r h.0 h.1
 
-    pub comes-more : (run' : Running) → IsSliced code inputs call.function call.args reads fuel k.repair (More run') → GoesOn e (under_way code fuel inputs (Some call) run') reads next' r
+    pub comes-more : (run' : Running) → IsSliced code inputs call.function call.args reads fuel k.repair run' More → GoesOn e (under_way code fuel inputs (Some call) run') reads next' r
     comes-more run' s = let z = found s.0 s.1 in record {
       repair = z.repair;
       is = z.is;
@@ -229,7 +229,7 @@ module _ (code : Code) (fuel : ℕ) (inputs : List Block) (phase : Phase) (call 
       };
     }
 
-    pub comes-done : (run' : Running) → IsSliced code inputs call.function call.args reads fuel k.repair (Done run') → Ends e (finished code fuel inputs (Some call) run') reads next' r
+    pub comes-done : (run' : Running) → IsSliced code inputs call.function call.args reads fuel k.repair run' Done → Ends e (finished code fuel inputs (Some call) run') reads next' r
     comes-done run' s = let z = found s.0 s.1 in record {
       repair = z.repair;
       is = z.is;
@@ -239,25 +239,25 @@ module _ (code : Code) (fuel : ℕ) (inputs : List Block) (phase : Phase) (call 
       work = s.3 ∙ sym z.carried.spent;
     }
 
-    pub comes-none : IsSliced code inputs call.function call.args reads fuel k.repair Spent → sliced code own inputs reads fuel r ≡ None
-    comes-none s = none-there code inputs call.function call.args fuel k.repair run k.of reads next' r h.0 h.1 s
+    pub comes-none : (run' : Running) → IsSliced code inputs call.function call.args reads fuel k.repair run' Spent → sliced code own inputs reads fuel r ≡ None
+    comes-none run' s = none-there code inputs call.function call.args fuel k.repair run k.of reads next' r h.0 h.1 s
 
-    pub comes-out : IsSliced code inputs call.function call.args reads fuel k.repair OutOfFuel → IsOut e reads r
-    comes-out s = let z = found s.0 s.1 in inr (z.repair, z.is, done-of code inputs z.repair (z.honest.1 s.2))
+    pub comes-out : (run' : Running) → IsSliced code inputs call.function call.args reads fuel k.repair run' OutOfFuel → IsOut e reads r
+    comes-out run' s = let z = found s.0 s.1 in inr (z.repair, z.is, done-of code inputs z.repair (z.honest.1 s.2))
 
   -- a part of it can be kept
-  pub more-kept : (reads : Option ℕ) (run' : Running) → IsSliced code inputs call.function call.args reads fuel k.repair (More run') → IsPartKept code fuel inputs call run'
+  pub more-kept : (reads : Option ℕ) (run' : Running) → IsSliced code inputs call.function call.args reads fuel k.repair run' More → IsPartKept code fuel inputs call run'
   more-kept reads run' s =
       let z = there code inputs call.function call.args fuel k.repair run k.of reads k.next k.ordered k.sound k.carried s.0 s.1 in
       record { repair = s.0; of = s.3; next = k.next; ordered = z.repair; sound = z.sound; carried = z.carried }
 
   -- it is a part of a repair only where a number of reads was given
-  pub more-some : (reads : Option ℕ) (run' : Running) → IsSliced code inputs call.function call.args reads fuel k.repair (More run') → IsSome reads
+  pub more-some : (reads : Option ℕ) (run' : Running) → IsSliced code inputs call.function call.args reads fuel k.repair run' More → IsSome reads
   more-some None run' s = absurd (s.2 (whole-done code inputs call.function call.args fuel k.repair run k.of None s.0 s.1 refl))
   more-some (Some n) run' s = refl
 
   -- and blocks can still be read
-  pub words-stay : (reads : Option ℕ) (run' : Running) → IsSliced code inputs call.function call.args reads fuel k.repair (More run') → KeepsWords (Some before.heap) (Some run'.heap)
+  pub words-stay : (reads : Option ℕ) (run' : Running) → IsSliced code inputs call.function call.args reads fuel k.repair run' More → KeepsWords (Some before.heap) (Some run'.heap)
   words-stay reads run' s b block w =
       sym (s.3.stands.known b)
       ∙ still-known code inputs call.function call.args fuel k.repair run k.of reads s.0 s.1 b block (k.of.stands.known b ∙ (ap (λ h. plain_of h (Core b)) same.heap ∙ w))
@@ -286,13 +286,13 @@ comes-so before after k next' r came.Anew c p is = subst (λ q. ComesSo before a
 -- ---- in the words of the engine's functions
 
 module _ (code : Code) (fuel : ℕ) (inputs : List Block) (phase : Phase) (call : Option Call) (before : Option Running) (keeps : Keeps code fuel inputs phase call before) (run : Running) (is : opened phase before ≡ Some run)
-    (reads : Option ℕ) (s : Sliced) (slice : IsSliceFor code fuel inputs call reads run s) where
+    (reads : Option ℕ) (run' : Running) (s : Sliced) (slice : IsSliceFor code fuel inputs call reads run run' s) where
   -- what is true of a call that is there, of the run before it, and of what the slice comes to
   by-parts : (P : Option Call → Option Running → Type 0)
-      → ((c : Call) (b : Running) → call ≡ Some c → before ≡ Some b → opened phase (Some b) ≡ Some run → (k : IsPartKept code fuel inputs c run) → IsSliced code inputs c.function c.args reads fuel k.repair s → P (Some c) (Some b)) → P call before
+      → ((c : Call) (b : Running) → call ≡ Some c → before ≡ Some b → opened phase (Some b) ≡ Some run → (k : IsPartKept code fuel inputs c run) → IsSliced code inputs c.function c.args reads fuel k.repair run' s → P (Some c) (Some b)) → P call before
   by-parts P f = go call before refl refl (open-run code fuel inputs phase call before keeps run is) slice
     where
-      go : (c : Option Call) (b : Option Running) → call ≡ c → before ≡ b → IsOpenRun code fuel inputs c run → IsSliceFor code fuel inputs c reads run s → P c b
+      go : (c : Option Call) (b : Option Running) → call ≡ c → before ≡ b → IsOpenRun code fuel inputs c run → IsSliceFor code fuel inputs c reads run run' s → P c b
       go None b i j k s = elim k [ ]
       go (Some c) None i j k s = none-some run (sym (opened-none phase) ∙ (ap (opened phase) (sym j) ∙ is))
       go (Some c) (Some b) i j k s = f c b i j (ap (opened phase) (sym j) ∙ is) k (s k.repair k.of)
@@ -300,43 +300,42 @@ module _ (code : Code) (fuel : ℕ) (inputs : List Block) (phase : Phase) (call 
   abbrev old : Option Call → Option Running → EngineState
   old c b = state_of code fuel inputs c phase b
 
-  module _ (run' : Running) where
-    pub keeps-more : s ≡ More run' → Keeps code fuel inputs Partial call (Some run')
-    keeps-more h = by-parts (λ c b. Keeps code fuel inputs Partial c (Some run'))
-        (λ c b i j o k t. KeepsRun.part refl (more-kept code fuel inputs phase c b run o k reads run' (subst (IsSliced code inputs c.function c.args reads fuel k.repair) h t)))
+  pub keeps-more : s ≡ More → Keeps code fuel inputs Partial call (Some run')
+  keeps-more h = by-parts (λ c b. Keeps code fuel inputs Partial c (Some run'))
+      (λ c b i j o k t. KeepsRun.part refl (more-kept code fuel inputs phase c b run o k reads run' (subst (IsSliced code inputs c.function c.args reads fuel k.repair run') h t)))
 
-    pub keeps-done : s ≡ Done run' → Keeps code fuel inputs IsFinished call (Some run')
-    keeps-done h = by-parts (λ c b. Keeps code fuel inputs IsFinished c (Some run'))
-        (λ c b i j o k t. let d = subst (IsSliced code inputs c.function c.args reads fuel k.repair) h t in KeepsRun.whole (kept-as code fuel inputs c k.of.fits d.0.items run' d.2))
+  pub keeps-done : s ≡ Done → Keeps code fuel inputs IsFinished call (Some run')
+  keeps-done h = by-parts (λ c b. Keeps code fuel inputs IsFinished c (Some run'))
+      (λ c b i j o k t. let d = subst (IsSliced code inputs c.function c.args reads fuel k.repair run') h t in KeepsRun.whole (kept-as code fuel inputs c k.of.fits d.0.items run' d.2))
 
-    pub goes-on : s ≡ More run' → (next' : ℕ) (r : Repair) → CarriesFrom (old call before) next' r → GoesOn (old call before) (under_way code fuel inputs call run') reads next' r
-    goes-on h = by-parts (λ c b. (next' : ℕ) (r : Repair) → CarriesFrom (old c b) next' r → GoesOn (old c b) (under_way code fuel inputs c run') reads next' r)
-        (λ c b i j o k t next' r m. comes-more code fuel inputs phase c b run o k reads next' r m run' (subst (IsSliced code inputs c.function c.args reads fuel k.repair) h t))
+  pub goes-on : s ≡ More → (next' : ℕ) (r : Repair) → CarriesFrom (old call before) next' r → GoesOn (old call before) (under_way code fuel inputs call run') reads next' r
+  goes-on h = by-parts (λ c b. (next' : ℕ) (r : Repair) → CarriesFrom (old c b) next' r → GoesOn (old c b) (under_way code fuel inputs c run') reads next' r)
+      (λ c b i j o k t next' r m. comes-more code fuel inputs phase c b run o k reads next' r m run' (subst (IsSliced code inputs c.function c.args reads fuel k.repair run') h t))
 
-    pub ends : s ≡ Done run' → (next' : ℕ) (r : Repair) → CarriesFrom (old call before) next' r → Ends (old call before) (finished code fuel inputs call run') reads next' r
-    ends h = by-parts (λ c b. (next' : ℕ) (r : Repair) → CarriesFrom (old c b) next' r → Ends (old c b) (finished code fuel inputs c run') reads next' r)
-        (λ c b i j o k t next' r m. comes-done code fuel inputs phase c b run o k reads next' r m run' (subst (IsSliced code inputs c.function c.args reads fuel k.repair) h t))
+  pub ends : s ≡ Done → (next' : ℕ) (r : Repair) → CarriesFrom (old call before) next' r → Ends (old call before) (finished code fuel inputs call run') reads next' r
+  ends h = by-parts (λ c b. (next' : ℕ) (r : Repair) → CarriesFrom (old c b) next' r → Ends (old c b) (finished code fuel inputs c run') reads next' r)
+      (λ c b i j o k t next' r m. comes-done code fuel inputs phase c b run o k reads next' r m run' (subst (IsSliced code inputs c.function c.args reads fuel k.repair run') h t))
 
-    pub some-reads : s ≡ More run' → IsSome reads
-    some-reads h = by-parts (λ c b. IsSome reads)
-        (λ c b i j o k t. more-some code fuel inputs phase c b run o k reads run' (subst (IsSliced code inputs c.function c.args reads fuel k.repair) h t))
+  pub some-reads : s ≡ More → IsSome reads
+  some-reads h = by-parts (λ c b. IsSome reads)
+      (λ c b i j o k t. more-some code fuel inputs phase c b run o k reads run' (subst (IsSliced code inputs c.function c.args reads fuel k.repair run') h t))
 
-    pub keeps-words : s ≡ More run' → KeepsWords (heap_in before) (Some run'.heap)
-    keeps-words h = by-parts (λ c b. KeepsWords (heap_in b) (Some run'.heap))
-        (λ c b i j o k t. words-stay code fuel inputs phase c b run o k reads run' (subst (IsSliced code inputs c.function c.args reads fuel k.repair) h t))
+  pub keeps-words : s ≡ More → KeepsWords (heap_in before) (Some run'.heap)
+  keeps-words h = by-parts (λ c b. KeepsWords (heap_in b) (Some run'.heap))
+      (λ c b i j o k t. words-stay code fuel inputs phase c b run o k reads run' (subst (IsSliced code inputs c.function c.args reads fuel k.repair run') h t))
 
   pub no-slice : s ≡ Spent → (next' : ℕ) (r : Repair) → CarriesFrom (old call before) next' r → sliced code own inputs reads fuel r ≡ None
   no-slice h = by-parts (λ c b. (next' : ℕ) (r : Repair) → CarriesFrom (old c b) next' r → sliced code own inputs reads fuel r ≡ None)
-      (λ c b i j o k t next' r m. comes-none code fuel inputs phase c b run o k reads next' r m (subst (IsSliced code inputs c.function c.args reads fuel k.repair) h t))
+      (λ c b i j o k t next' r m. comes-none code fuel inputs phase c b run o k reads next' r m run' (subst (IsSliced code inputs c.function c.args reads fuel k.repair run') h t))
 
   pub is-out : s ≡ OutOfFuel → (next' : ℕ) (r : Repair) → CarriesFrom (old call before) next' r → IsOut (old call before) reads r
   is-out h = by-parts (λ c b. (next' : ℕ) (r : Repair) → CarriesFrom (old c b) next' r → IsOut (old c b) reads r)
-      (λ c b i j o k t next' r m. comes-out code fuel inputs phase c b run o k reads next' r m (subst (IsSliced code inputs c.function c.args reads fuel k.repair) h t))
+      (λ c b i j o k t next' r m. comes-out code fuel inputs phase c b run o k reads next' r m run' (subst (IsSliced code inputs c.function c.args reads fuel k.repair run') h t))
 
   -- then the run from scratch is out of fuel, too
   pub fresh-out : s ≡ OutOfFuel → Rattle.ceal_engine.specs.Engine.fresh_call code inputs fuel call ≡ None
   fresh-out h = by-parts (λ c b. Rattle.ceal_engine.specs.Engine.fresh_call code inputs fuel c ≡ None)
-      (λ c b i j o k t. (subst (IsSliced code inputs c.function c.args reads fuel k.repair) h t).3)
+      (λ c b i j o k t. (subst (IsSliced code inputs c.function c.args reads fuel k.repair run') h t).3)
 
 -- an open run is a part run
 pub open-part : (code : Code) (fuel : ℕ) (inputs : List Block) (call : Option Call) (run : Running) → IsOpenRun code fuel inputs call run → (f : ℕ) × (args : List Word) × (r : Repair) × IsPartRun code inputs f args fuel r run
@@ -344,10 +343,10 @@ open-part code fuel inputs None run k = elim k [ ]
 open-part code fuel inputs (Some call) run k = (call.function, call.args, k.repair, k.of)
 
 -- what the slice promises of each call is so of this one
-pub slice-for : (code : Code) (fuel : ℕ) (inputs : List Block) (call : Option Call) (reads : Option ℕ) (run : Running) (s : Sliced)
-    → ((f : ℕ) (args : List Word) (r : Repair) → IsPartRun code inputs f args fuel r run → IsSliced code inputs f args reads fuel r s) → IsSliceFor code fuel inputs call reads run s
-slice-for code fuel inputs None reads run s h = tt
-slice-for code fuel inputs (Some call) reads run s h = h call.function call.args
+pub slice-for : (code : Code) (fuel : ℕ) (inputs : List Block) (call : Option Call) (reads : Option ℕ) (run run' : Running) (s : Sliced)
+    → ((f : ℕ) (args : List Word) (r : Repair) → IsPartRun code inputs f args fuel r run → IsSliced code inputs f args reads fuel r run' s) → IsSliceFor code fuel inputs call reads run run' s
+slice-for code fuel inputs None reads run run' s h = tt
+slice-for code fuel inputs (Some call) reads run run' s h = h call.function call.args
 
 -- ---- a repair of the call goes on
 

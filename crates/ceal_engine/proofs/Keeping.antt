@@ -37,8 +37,10 @@ use Rattle.ceal_repair.specs.Blocks.{There}
 use Rattle.ceal_repair.specs.Kept.{Kept as KeptTables}
 use Rattle.ceal_repair.specs.Slicing.{IsPartRun}
 use Rattle.ceal_repair.specs.Words.{HasBases, default_of}
+use Rattle.ceal_repair.specs.declared.propagate.Propagation.{Propagation}
+use Rattle.ceal_repair.specs.declared.propagate.Propagation.TheVariants as propagation
 use Rattle.ceal_repair.specs.declared.running.Outcome.{Outcome}
-use Rattle.ceal_repair.specs.declared.running.Outcome.TheVariants.{Done, OutOfFuel}
+use Rattle.ceal_repair.specs.declared.running.Outcome.TheVariants.{Done}
 use Rattle.ceal_repair.specs.declared.running.Running.{Running}
 use Rattle.ceal_theory.proofs.SlicedRepair.CarriedLaws.{carried-more-law}
 use Rattle.ceal_theory.proofs.Store.FittingInputs.{fits-more}
@@ -312,6 +314,38 @@ module _ (code : Code) (fuel : ℕ) (inputs : List Block) where
     keeps = k;
   }
 
+  part-called : (call : Option Call) (run : Running) → Keeps code fuel inputs Partial call (Some run) → call ≡ None → ⊥
+  part-called None run k e = k
+  part-called (Some call) run k e = none-some call (sym e)
+
+  pub sound-part : (kept : Kept) (phase : Phase) (before : Option Running) (run : Running) → Sound code fuel inputs kept phase before → Keeps code fuel inputs Partial kept.call (Some run)
+      → Sound code fuel inputs kept Partial (Some run)
+  sound-part kept phase before run s k = record {
+    is_valid = s.is_valid;
+    limits = s.limits;
+    fit = s.fit;
+    count = s.count;
+    calls = s.calls;
+    uncalled = λ e. absurd (grind (arith, e));
+    new = λ e. absurd (part-called kept.call run k e);
+    room = s.room;
+    keeps = k;
+  }
+
+  -- a run is given up
+  pub sound-dropped : (kept : Kept) (phase : Phase) (before : Option Running) → has_run phase ≡ true → Sound code fuel inputs kept phase before → Sound code fuel inputs kept Dropped None
+  sound-dropped kept phase before there s = record {
+    is_valid = s.is_valid;
+    limits = s.limits;
+    fit = s.fit;
+    count = s.count;
+    calls = s.calls;
+    uncalled = λ e. absurd (grind (arith, e));
+    new = λ e. absurd (let none : has_run New ≡ true = subst (λ p. has_run p ≡ true) (s.new e) there in grind (arith, none));
+    room = s.room;
+    keeps = refl;
+  }
+
   -- the call from its parts
   pub the-call : (call : Option Call) (f : ℕ) (args : List Word) → option_map (λ call. call.function) call ≡ Some f → IfSome call (λ call. call.args ≡ args) → call ≡ Some (record { function = f; args = args })
   the-call None f args e h = none-some f e
@@ -331,25 +365,24 @@ module _ (code : Code) (fuel : ℕ) (inputs : List Block) where
   old-kept None run o = elim o [ ]
   old-kept (Some call) run o = (call.function, call.args, o.0, o.1)
 
-  abbrev Propagates : Running → Outcome → Type 0
-  Propagates old o = (f : ℕ) (args : List Word) (l : Trace) → IsKeptRun code inputs f args fuel l old → IsRepairedAnswer code inputs f args fuel l old o
+  abbrev Propagates : Running → Running → Propagation → Type 0
+  Propagates old run o = (f : ℕ) (args : List Word) (l : Trace) → IsKeptRun code inputs f args fuel l old → IsRepairedAnswer code inputs f args fuel l old run o
 
-  pub repaired-out : (call : Option Call) (old : Running) → IsOldRun code fuel inputs call old → (o : Outcome) → Propagates old o → o ≡ OutOfFuel → fresh_call code inputs fuel call ≡ None
-  repaired-out None old h o a k = elim h [ ]
-  repaired-out (Some call) old h o a k = subst (λ o. IsRepairedAnswer code inputs call.function call.args fuel h.0 old o) k (a call.function call.args h.0 h.1)
+  pub repaired-out : (call : Option Call) (old run : Running) → IsOldRun code fuel inputs call old → (o : Propagation) → Propagates old run o → o ≡ propagation.OutOfFuel → fresh_call code inputs fuel call ≡ None
+  repaired-out None old run h o a k = elim h [ ]
+  repaired-out (Some call) old run h o a k = subst (λ o. IsRepairedAnswer code inputs call.function call.args fuel h.0 old run o) k (a call.function call.args h.0 h.1)
 
-  pub repaired-done : (call : Option Call) (old : Running) → IsOldRun code fuel inputs call old → (o : Outcome) → Propagates old o → (run : Running) → o ≡ Done run
-      → IsRepairOf code fuel inputs call old run
-  repaired-done None old h o a run k = elim h [ ]
-  repaired-done (Some call) old h o a run k = λ l was.
-      repaired-of code fuel inputs call was.fits l old was run (subst (λ o. IsRepairedAnswer code inputs call.function call.args fuel l old o) k (a call.function call.args l was))
+  pub repaired-done : (call : Option Call) (old run : Running) → IsOldRun code fuel inputs call old → (o : Propagation) → Propagates old run o → o ≡ propagation.Done → IsRepairOf code fuel inputs call old run
+  repaired-done None old run h o a k = elim h [ ]
+  repaired-done (Some call) old run h o a k = λ l was.
+      repaired-of code fuel inputs call was.fits l old was run (subst (λ o. IsRepairedAnswer code inputs call.function call.args fuel l old run o) k (a call.function call.args l was))
 
   -- an honest trace is not out of fuel, and has no work
-  pub honest-in : (call : Option Call) (old : Running) → IsStillHonest code fuel inputs call old → (o : Outcome) → Propagates old o → o ≡ OutOfFuel → ⊥
-  honest-in None old h o a k = elim h [ ]
-  honest-in (Some call) old h o a k =
+  pub honest-in : (call : Option Call) (old run : Running) → IsStillHonest code fuel inputs call old → (o : Propagation) → Propagates old run o → o ≡ propagation.OutOfFuel → ⊥
+  honest-in None old run h o a k = elim h [ ]
+  honest-in (Some call) old run h o a k =
       no-end code inputs call.function call.args h.1.fits fuel h.0 h.1.replays h.1.few h.2
-      (subst (λ o. IsRepairedAnswer code inputs call.function call.args fuel h.0 old o) k (a call.function call.args h.0 h.1))
+      (subst (λ o. IsRepairedAnswer code inputs call.function call.args fuel h.0 old run o) k (a call.function call.args h.0 h.1))
 
   pub still-honest : (call : Option Call) (old : Running) → IsStillHonest code fuel inputs call old → (f : ℕ) × (args : List Word) × (l : Trace) × IsKeptRun code inputs f args fuel l old × IsHonest code inputs l
   still-honest None old h = elim h [ ]

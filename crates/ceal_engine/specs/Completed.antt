@@ -85,11 +85,11 @@ IsOpenRun code fuel inputs None run = ⊥
 IsOpenRun code fuel inputs (Some call) run = IsPartKept code fuel inputs call run
 
 -- what so many reads more make of it
-abbrev pub IsSliceOf : Code → ℕ → List Block → Option Call → Option ℕ → Running → Sliced → Type 0
-IsSliceOf code fuel inputs None reads old s = ⊤
-IsSliceOf code fuel inputs (Some call) reads old s =
+abbrev pub IsSliceOf : Code → ℕ → List Block → Option Call → Option ℕ → Running → Running → Sliced → Type 0
+IsSliceOf code fuel inputs None reads old run s = ⊤
+IsSliceOf code fuel inputs (Some call) reads old run s =
     (r : Repair) → IsPartRun code inputs call.function call.args fuel r old
-    → IsSliced code inputs call.function call.args reads fuel r s
+    → IsSliced code inputs call.function call.args reads fuel r run s
 
 -- where a repair goes on its steps are counted on, and a new one begins with none
 abbrev pub opened : Phase → Option Running → Option Running

@@ -21,6 +21,7 @@ use ceal_base::memory::{BlockWords, Inputs};
 use ceal_base::no_memory::NoMemory;
 use ceal_base::word::{BlockId, Place, Word};
 use ceal_code::code::Code;
+use ceal_repair::room::Room;
 use ceal_repair::running::Running;
 use std::alloc::Global;
 use std::marker::Model;
@@ -42,6 +43,7 @@ pub struct Engine {
     call: KeptCall,
     phase: Phase,
     running: Option<Running>,
+    room: Room,
 }
 
 impl Model for Engine {
@@ -102,6 +104,7 @@ impl Engine {
             call,
             phase: Phase::New,
             running: None,
+            room: Room::new(alloc),
         })
     }
 
@@ -168,6 +171,7 @@ impl Engine {
             call,
             phase: Phase::New,
             running: None,
+            room: Room::new(alloc),
         })
     }
 

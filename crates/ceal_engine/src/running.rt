@@ -16,6 +16,7 @@ use ceal_base::word::{Place, Word};
 use ceal_code::code::Code;
 use ceal_repair::edits::{set_input, touch_input};
 use ceal_repair::running::Running;
+use std::mem;
 
 /// Sets what a place holds before any write, where there is a run.
 pub fn edit(run: &mut Option<Running>, place: Place, value: Word) -> Result<(), NoMemory>
@@ -87,6 +88,13 @@ pub fn reopen(run: &mut Option<Running>, phase: Phase)
         Phase::Pending => rest(run),
         Phase::Dropped => rest(run),
     }
+}
+
+/// The run is given up.
+pub fn give_up(run: &mut Option<Running>)
+    ensures { run.new ≡ None }
+{
+    drop(mem::replace(run, None));
 }
 
 /// From now on so much work is told of the run.

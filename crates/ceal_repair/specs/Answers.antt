@@ -11,6 +11,8 @@ use Rattle.ceal_code.specs.Program.{Code}
 use Rattle.ceal_code.specs.Replay.{Replays, IsHonest, bases, plain_of}
 use Rattle.ceal_heap.specs.Heap.{Known, Revoked, HasSlots, standing, plain_of as heap_words}
 use Rattle.ceal_repair.specs.Blocks.{HasBlocks}
+use Rattle.ceal_repair.specs.declared.propagate.Propagation.{Propagation}
+use Rattle.ceal_repair.specs.declared.propagate.Propagation.TheVariants as propagation
 use Rattle.ceal_repair.specs.declared.running.Outcome.{Outcome}
 use Rattle.ceal_repair.specs.declared.running.Outcome.TheVariants.{Done, OutOfFuel}
 use Rattle.ceal_repair.specs.declared.running.Running.{Running}
@@ -92,6 +94,7 @@ pub record IsRepairedRun (code : Code) (inputs : List Block) (f : ℕ) (args : L
       → AgreesAll code (bases code inputs) (forest_of front)
       → (later : List Entry) × (run.tables.trace.nodes ≡ front ++ later)
 
-abbrev pub IsRepaired : Code → List Block → ℕ → List Word → ℕ → Trace → Running → Outcome → Type 0
-IsRepaired code inputs f args fuel old before (Done run) = IsRepairedRun code inputs f args fuel old before run
-IsRepaired code inputs f args fuel old before OutOfFuel = fresh code f args inputs fuel ≡ None
+-- what a propagation makes of a run, by what it comes to
+abbrev pub IsRepaired : Code → List Block → ℕ → List Word → ℕ → Trace → Running → Running → Propagation → Type 0
+IsRepaired code inputs f args fuel old before run propagation.Done = IsRepairedRun code inputs f args fuel old before run
+IsRepaired code inputs f args fuel old before run propagation.OutOfFuel = fresh code f args inputs fuel ≡ None

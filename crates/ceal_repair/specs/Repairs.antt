@@ -29,19 +29,19 @@ inputs_of r = r.inputs.now
 
 -- what the run keeps that is repaired
 abbrev pub running_of : Repair → Running
-running_of r = r.running
+running_of r = r.running.now
 
 -- the units of the repair
 abbrev pub stack_of : Repair → CodeStack
-stack_of r = r.stack
+stack_of r = r.stack.now
 
 -- the arguments of the read that its unit makes
 abbrev pub arguments_of : Repair → List Word
-arguments_of r = r.args.items
+arguments_of r = r.args.now.items
 
 -- what follows the ends of reads, the next last
 abbrev pub frames_of : Repair → List Frame
-frames_of r = r.frames.items
+frames_of r = r.frames.now.items
 
 abbrev pub view : Repair → View
 view r = record {
@@ -93,10 +93,11 @@ pub record IsOver (start : Start) (r : Repair) : Type 0 where
 abbrev pub PassesOn : Start → Repair → Type 0
 PassesOn start r = (until : Stamp) × PassingNow (code_of r) (inputs_of r) start until (view r)
 
--- the code and the inputs stay
+-- the code and the inputs stay, and so does the place of what the run keeps
 pub record SameCall (old new : Repair) : Type 0 where
   pub code : code_of new ≡ code_of old
   pub inputs : inputs_of new ≡ inputs_of old
+  pub place : new.running.ghost_name ≡ old.running.ghost_name
 
 -- the unit of a new read is over; its frame was taken off
 pub record EndsRead (start : Start) (below : Waits) (read : Stamp) (r : Repair) : Type 0 where

@@ -33,22 +33,22 @@ pub record IsSliceOf (code : Code) (inputs : List Block) (reads : Option ℕ) (f
   pub off : (k : ℕ) → r.known (Core (names k)) ≡ None
   pub is : sliced code names inputs reads fuel (counted_anew r) ≡ o
 
--- what a run that is up to date comes to, whose items are these
-abbrev pub IsConcluded : Code → List Block → ℕ → List Word → ℕ → Trace → ℕ → Sliced → Type 0
-IsConcluded code inputs f args fuel l spent (More run) = ⊥
-IsConcluded code inputs f args fuel l spent (Done run) = IsRunOf code inputs f args fuel l run × (run.spent ≡ spent)
-IsConcluded code inputs f args fuel l spent Spent = ⊥
-IsConcluded code inputs f args fuel l spent OutOfFuel = fresh code f args inputs fuel ≡ None
+-- what a run that is up to date, whose items are these, comes to, and what it is then
+abbrev pub IsConcluded : Code → List Block → ℕ → List Word → ℕ → Trace → ℕ → Running → Sliced → Type 0
+IsConcluded code inputs f args fuel l spent run More = ⊥
+IsConcluded code inputs f args fuel l spent run Done = IsRunOf code inputs f args fuel l run × (run.spent ≡ spent)
+IsConcluded code inputs f args fuel l spent run Spent = ⊥
+IsConcluded code inputs f args fuel l spent run OutOfFuel = fresh code f args inputs fuel ≡ None
 
--- what a slice comes to
-abbrev pub IsSliced : Code → List Block → ℕ → List Word → Option ℕ → ℕ → Repair → Sliced → Type 0
-IsSliced code inputs f args reads fuel r (More run) =
+-- what a slice comes to, and what the run is then
+abbrev pub IsSliced : Code → List Block → ℕ → List Word → Option ℕ → ℕ → Repair → Running → Sliced → Type 0
+IsSliced code inputs f args reads fuel r run More =
     (r' : Repair) × IsSliceOf code inputs reads fuel r (Some r')
     × (¬ IsHonest code inputs r'.items) × IsPartRun code inputs f args fuel r' run
-IsSliced code inputs f args reads fuel r (Done run) =
+IsSliced code inputs f args reads fuel r run Done =
     (r' : Repair) × IsSliceOf code inputs reads fuel r (Some r')
     × IsRunOf code inputs f args fuel r'.items run × (run.spent ≡ r'.spent)
-IsSliced code inputs f args reads fuel r Spent = IsSliceOf code inputs reads fuel r None
-IsSliced code inputs f args reads fuel r OutOfFuel =
+IsSliced code inputs f args reads fuel r run Spent = IsSliceOf code inputs reads fuel r None
+IsSliced code inputs f args reads fuel r run OutOfFuel =
     (r' : Repair) × IsSliceOf code inputs reads fuel r (Some r')
     × IsHonest code inputs r'.items × (fresh code f args inputs fuel ≡ None)

@@ -6,12 +6,12 @@ ghost use Rattle.ceal_repair.specs.Answers.{IsFirst};
 
 use crate::complete::complete;
 use crate::repair::Repair;
+use crate::room::Room;
 use crate::running::{Outcome, Running};
 use ceal_base::memory::Inputs;
 use ceal_base::no_memory::NoMemory;
 use ceal_base::word::Word;
 use ceal_code::code::Code;
-use ceal_code::stack::Stack;
 use ceal_theory::names::chosen_law;
 use ceal_theory::walks::known_law;
 use std::alloc::Global;
@@ -34,21 +34,23 @@ pub fn first(
     // for the proof: numbers may be chosen as a repair goes, and what it reads is known
     chosen_law();
     known_law();
-    let stack = Stack::call(alloc, code, function, args)?;
-    let running = Running::begin(alloc, code, inputs)?;
-    let mut repair = Repair::first(code, inputs, running, stack);
+    let mut room = Room::of_call(alloc, code, function, args)?;
+    let mut running = Running::begin(alloc, code, inputs)?;
+    let mut repair = Repair::at_root(code, inputs, &mut running, &mut room);
     match complete(&mut repair, fuel) {
         Ok(true) => {
-            let mut running = repair.into_running();
+            drop(room);
             running.heap.release_revoked();
             Ok(Outcome::Done(running))
         }
         Ok(false) => {
-            drop(repair);
+            drop(room);
+            drop(running);
             Ok(Outcome::OutOfFuel)
         }
         Err(error) => {
-            drop(repair);
+            drop(room);
+            drop(running);
             Err(error)
         }
     }

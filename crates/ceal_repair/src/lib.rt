@@ -14,7 +14,8 @@
 //! (`specs/Around`). A run from nothing has no limit and nothing left over. A propagation is one turn after another (`specs/Turning`), each
 //! the first stale read with what is inside it.
 //!
-//! `running` has what a run keeps, `first` the run from nothing, and `propagate` change propagation. A `repair` under way does one act of a unit at a time: it puts nodes in behind
+//! `running` has what a run keeps, `room` what is kept from one repair to the next, `first` the run from nothing, and `propagate`
+//! change propagation. A `repair` under way does one act of a unit at a time: it puts nodes in behind
 //! its cursor (`put`), takes allocations and reads that are left over (`take`, `read`), and passes kept nodes inside a taken read
 //! (`pass`). `turns` are made one after another; `turn` begins one, `complete` lets its unit act until it is over, and `end` ends it. `cutting` revokes nodes that are left over, `bases` sets what modifiables hold before any write,
 //! `edits` does so for an input that is new to a run, `sought` are keys that are looked for among the nodes, and `words` reads plain words.
@@ -30,6 +31,7 @@ pub mod laws;
 pub mod propagate;
 mod recorded;
 mod repair;
+pub mod room;
 pub mod running;
 pub mod slice;
 mod sought;

@@ -14,66 +14,66 @@ ghost use Rattle.ceal_repair.specs.declared.running.Running.{Running as RunningO
 
 use crate::repair::Repair;
 use crate::repair::turns::Ending;
-use crate::running::{Outcome, Running};
+use crate::room::Room;
+use crate::running::Running;
 use ceal_base::memory::Inputs;
 use ceal_base::no_memory::NoMemory;
 use ceal_code::code::Code;
-use ceal_code::stack::Stack;
-use std::alloc::Global;
+
+/// What a propagation comes to.
+#[derive(Clone, Copy)]
+pub enum Propagation {
+    /// the run is up to date
+    Done,
+    /// a run from scratch needs more steps than the fuel allows
+    OutOfFuel,
+}
 
 /// Brings a run up to date with inputs that have other bases: change propagation (Acar, *Self-Adjusting Computation*, 2005). Each
 /// stale read is run anew, the first one first; what the new run of its unit takes of the old one stays. It is out of fuel
-/// exactly where a run from scratch needs more steps than the fuel allows. Where no read is stale it takes no memory.
+/// exactly where a run from scratch needs more steps than the fuel allows. Where no read is stale it takes no memory. What the run
+/// keeps is changed in place: after want of memory, and where it is out of fuel, it is of no further use.
 pub fn propagate(
-    alloc: Global,
+    room: &mut Room,
     code: &Code,
     inputs: &Inputs,
     fuel: u32,
-    running: Running,
-) -> Result<Outcome, NoMemory>
+    running: &mut Running,
+) -> Result<Propagation, NoMemory>
     requires kept { (f : ℕ) × (args : List Word) × (l : Trace)
-        × IsKeptRun code.now inputs.now f args fuel l running }
+        × IsKeptRun code.now inputs.now f args fuel l running.old }
     requires few { length inputs.now < 2 ^ 32 }
     ensures repaired { IfOk result (λ o. (f : ℕ) (args : List Word) (l : Trace)
-        → IsKeptRun code.now inputs.now f args fuel l running
-        → IsRepaired code.now inputs.now f args fuel l running o) }
+        → IsKeptRun code.now inputs.now f args fuel l running.old
+        → IsRepaired code.now inputs.now f args fuel l running.old running.new o) }
     ensures sure { (f : ℕ) (args : List Word) (l : Trace)
-        → IsKeptRun code.now inputs.now f args fuel l running
+        → IsKeptRun code.now inputs.now f args fuel l running.old
         → IsHonest code.now inputs.now l → IsOk result }
 {
-    let mut running = running;
     running.spent = 0;
-    let mut repair = Repair::first(code, inputs, running, Stack::empty(alloc));
+    let mut repair = Repair::at_root(code, inputs, running, room);
     match repair.turns(None, fuel) {
-        Ok(Ending::Done) => Ok(repair.into_running().finish(fuel)),
+        Ok(Ending::Done) => Ok(running.finish(fuel)),
         Ok(Ending::More) => unreachable!(),
-        Ok(Ending::Spent) => {
-            drop(repair);
-            Ok(Outcome::OutOfFuel)
-        }
-        Err(error) => {
-            drop(repair);
-            Err(error)
-        }
+        Ok(Ending::Spent) => Ok(Propagation::OutOfFuel),
+        Err(error) => Err(error),
     }
 }
 
 impl Running {
     /// What a run that is up to date comes to: it may have more steps than the fuel allows. Revoked blocks are released.
-    fn finish(self, fuel: u32) -> Outcome
+    fn finish(&mut self, fuel: u32) -> Propagation
         ensures answers { (code : CodeOf) (inputs : List Block) (f : ℕ) (args : List Word)
             (l : Trace) → Fits code inputs f args → Replays code inputs f args l
             → (n : ℕ) (before : RunningOf)
-            → IsUpToDate code inputs f args (later n (since_begun code inputs l)) before self
-            → IsRepaired code inputs f args fuel l before result }
+            → IsUpToDate code inputs f args (later n (since_begun code inputs l)) before self.old
+            → IsRepaired code inputs f args fuel l before self.new result }
     {
         if self.tables.trace.steps() > u64::from(fuel) {
-            drop(self);
-            Outcome::OutOfFuel
+            Propagation::OutOfFuel
         } else {
-            let mut running = self;
-            running.heap.release_revoked();
-            Outcome::Done(running)
+            self.heap.release_revoked();
+            Propagation::Done
         }
     }
 }

@@ -6,12 +6,13 @@ ghost use Rattle.ceal_code.specs.declared.step.Step.TheVariants.{Makes as IsMaki
 ghost use Rattle.ceal_code.specs.declared.step.Act.TheVariants as does;
 ghost use Rattle.ceal_repair.specs.Moment.{Start};
 ghost use Rattle.ceal_repair.specs.Reads.{closure_in};
-ghost use Rattle.ceal_repair.specs.Repairs.{code_of, inputs_of, running_of, arguments_of, view, next_in, step_of, Runs, Acts, IsOver, Turned, SameCall};
+ghost use Rattle.ceal_repair.specs.Repairs.{code_of, inputs_of, running_of, stack_of, arguments_of, view, next_in, step_of, Runs, Acts, IsOver, Turned, SameCall};
 ghost use Rattle.ceal_repair.specs.Kept.{Kept};
 ghost use Rattle.ceal_order.specs.Stamps.{head_of};
 ghost use Rattle.ceal_trace.specs.Nodes.{has_node, stamps_in, with_steps, steps_at};
 
 use crate::frame::Frame;
+use crate::room::Room;
 use crate::running::Running;
 use crate::words::RunWords;
 use ceal_base::forest::Key;
@@ -34,53 +35,56 @@ pub mod turns;
 
 /// A repair that is under way, or a run from nothing. A unit runs; the nodes up to the cursor are final, and those behind it, up to
 /// the limit, are left over to the unit. The cursor only moves on. The arguments are those of the read that is made.
+///
+/// It holds nothing itself: what the run keeps is changed in place, and the units, the frames and the arguments are in the
+/// room of its caller.
 #[derive(Drop)]
 pub struct Repair<'a> {
     alloc: Global,
     code: &'a Code,
     inputs: &'a Inputs,
-    running: Running,
+    running: &'a mut Running,
     cursor: Stamp,
-    stack: Stack,
+    stack: &'a mut Stack,
     limit: Option<Stamp>,
-    frames: Vec<Frame>,
-    args: Vec<Word>,
+    frames: &'a mut Vec<Frame>,
+    args: &'a mut Vec<Word>,
 }
 
 impl<'a> Repair<'a> {
-    /// A run from nothing of this stack, behind the root.
-    pub fn first(code: &'a Code, inputs: &'a Inputs, running: Running, stack: Stack) -> Repair<'a>
+    /// Before the first act, behind the root: the units of the room are still to do, no frame waits, and nothing is left over.
+    pub fn at_root(
+        code: &'a Code,
+        inputs: &'a Inputs,
+        running: &'a mut Running,
+        room: &'a mut Room,
+    ) -> Repair<'a>
         ensures code { code_of result ≡ code.now }
         ensures inputs { inputs_of result ≡ inputs.now }
-        ensures view { (view result).tables ≡ running.tables }
-        ensures heap { (view result).heap ≡ running.heap }
-        ensures spent { (view result).spent ≡ running.spent }
+        ensures place { result.running.ghost_name ≡ running.entry.ghost_name }
+        ensures view { (view result).tables ≡ running.old.tables }
+        ensures heap { (view result).heap ≡ running.old.heap }
+        ensures spent { (view result).spent ≡ running.old.spent }
         ensures frames { (view result).frames ≡ [] }
         ensures limit { (view result).limit ≡ None }
-        ensures stack { stack_in result.stack ≡ stack_in stack }
-        ensures cursor { head_of (stamps_in running.tables.trace.nodes)
+        ensures stack { stack_in (stack_of result) ≡ stack_in room.old.stack }
+        ensures cursor { head_of (stamps_in running.old.tables.trace.nodes)
             ≡ Some (view result).cursor }
     {
-        let alloc = stack.allocator();
+        let alloc = room.stack.allocator();
         let cursor = running.tables.trace.root();
+        room.frames.clear();
         Repair {
             alloc,
             code,
             inputs,
             running,
             cursor,
-            stack,
+            stack: &mut room.stack,
             limit: None,
-            frames: Vec::new(alloc),
-            args: Vec::new(alloc),
+            frames: &mut room.frames,
+            args: &mut room.args,
         }
-    }
-
-    /// What is kept of it.
-    pub fn into_running(self) -> Running
-        ensures { result ≡ self.entry.running }
-    {
-        self.running
     }
 
     /// How many steps were run anew.
@@ -93,7 +97,7 @@ impl<'a> Repair<'a> {
     /// What the unit that runs does next; the stack is that after it.
     fn next(&mut self) -> Result<Step<'a>, NoMemory>
         ensures rest { self.new ≡ record self.old { stack = self.new.stack } }
-        ensures acts { IfOk result (λ s. next_in self.old (stack_in self.old.stack)
+        ensures acts { IfOk result (λ s. next_in self.old (stack_in (stack_of self.old))
             ≡ step_of self.new s) }
     {
         let words = RunWords {
@@ -107,8 +111,8 @@ impl<'a> Repair<'a> {
     /// The key of the block that is made. The unit that makes it stays where it is.
     fn key(&self, making: Making<'_>) -> Result<Key, NoMemory>
         ensures key { IfOk result (λ key. step_of self.now (IsMaking making.entry)
-            ≡ act_in (does.Makes key making.entry.var (top_of self.now.stack))
-            (below_in self.now.stack)) }
+            ≡ act_in (does.Makes key making.entry.var (top_of (stack_of self.now)))
+            (below_in (stack_of self.now))) }
     {
         let words = RunWords {
             code: self.code,
@@ -124,7 +128,7 @@ impl<'a> Repair<'a> {
             ≡ record self.old { stack = self.new.stack; args = self.new.args } }
         ensures closure { OnOk result (step_of self.old (IsReading reading.entry)
             ≡ act_in (does.Reads (closure_in reading.entry (arguments_of self.new)))
-            (stack_in self.new.stack)) }
+            (stack_in (stack_of self.new))) }
     {
         let words = RunWords {
             code: self.code,
@@ -132,7 +136,7 @@ impl<'a> Repair<'a> {
             heap: &self.running.heap,
         };
         let es = reading.args.items();
-        self.stack.evaluate(self.code, &words, es, &mut self.args)?;
+        self.stack.evaluate(self.code, &words, es, self.args)?;
         self.stack.leave();
         Ok(())
     }
@@ -143,6 +147,7 @@ impl<'a> Repair<'a> {
         requires kept { Kept (running_of self.old).tables }
         requires here { has_node self.old.cursor.0 (running_of self.old).tables.trace.nodes ≡ true }
         ensures rest { self.new ≡ record self.old { running = self.new.running } }
+        ensures place { self.new.running.ghost_name ≡ self.old.running.ghost_name }
         ensures heap { (running_of self.new).heap ≡ (running_of self.old).heap }
         ensures spent { OnOk result
             ((running_of self.new).spent ≡ (running_of self.old).spent + 1) }
@@ -154,7 +159,7 @@ impl<'a> Repair<'a> {
         ensures queue { (running_of self.new).tables.stale ≡ (running_of self.old).tables.stale }
         ensures kept { Kept (running_of self.new).tables }
     {
-        let running = &mut self.running;
+        let running = &mut *self.running;
         let steps = one_more(running.tables.trace.steps_at(self.cursor))?;
         let spent = one_more(running.spent)?;
         running.tables.set_steps(self.cursor, steps);

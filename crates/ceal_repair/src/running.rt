@@ -34,7 +34,7 @@ pub struct Running {
     pub spent: u32,
 }
 
-/// What a run from nothing or a repair comes to.
+/// What a run from nothing comes to.
 #[derive(Drop)]
 pub enum Outcome {
     Done(Running),

@@ -1,12 +1,13 @@
 // Runs, and change propagation.
 
-ghost use Rattle.std.specs.Prelude.{◌≡◌, ◌≢◌, ℕ, ◌<◌, ◌≤◌, true, Some, None, IfOk, IsSome, IsOk, OnOk, OnErr};
+ghost use Rattle.std.specs.Prelude.{◌≡◌, ◌≢◌, ℕ, ◌<◌, ◌≤◌, ◌^◌, true, Option, Some, None, length, IfOk, IsSome, IsOk, OnOk, OnErr};
 ghost use Rattle.std.specs.Option.{IsSomeAnd};
 ghost use Rattle.ceal_base.specs.Trace.{Trace as TraceOf};
+ghost use Rattle.ceal_base.specs.declared.call.Call.{Call as CallOf};
 ghost use Rattle.ceal_code.specs.Fitting.{Fits};
 ghost use Rattle.ceal_code.specs.Replay.{IsHonest};
-ghost use Rattle.ceal_engine.specs.Engine.{trace, takes, fresh_of, has_run, IsWhole, IsPresent, IfOutOfFuel};
-ghost use Rattle.ceal_engine.specs.Completed.{finished, under_way, IsFirstOf, IsOldRun, IsRepairOf, IsStillHonest, IsOpenRun, IsSliceOf};
+ghost use Rattle.ceal_engine.specs.Engine.{trace, takes, fresh_call, fresh_of, has_run, IsWhole, IsPresent, IfOutOfFuel};
+ghost use Rattle.ceal_engine.specs.Completed.{finished, IsFirstOf, IsOldRun, IsRepairOf, IsStillHonest};
 ghost use Rattle.ceal_engine.specs.Keeping.{Keeps};
 ghost use Rattle.ceal_engine.specs.Partial.{phase_after, phase_behind, CarriesFrom, Comes, ComesSo, EndsSo, KeepsWords};
 ghost use Rattle.ceal_engine.specs.Repaired.{IsFirst, IsRepaired, IsUnchanged, KeepsFront};
@@ -16,14 +17,41 @@ ghost use Rattle.ceal_theory.specs.Slices.{Repair as RepairOf};
 use super::Engine;
 use crate::phase::{Came, Phase, Progress};
 use crate::run_error::RunError;
-use crate::running::{reopen, rest};
-use ceal_base::no_memory::NoMemory;
+use crate::running::{give_up, reopen, rest};
+use ceal_base::memory::Inputs;
 use ceal_base::word::Word;
+use ceal_code::code::Code;
 use ceal_repair::first::first;
-use ceal_repair::propagate::propagate;
+use ceal_repair::propagate::{Propagation, propagate};
+use ceal_repair::room::Room;
 use ceal_repair::running::{Outcome, Running};
 use ceal_repair::slice::{Sliced, slice};
 use std::mem;
+
+/// Repairs a run of the call on these inputs, in place. After an error it is of no further use.
+fn repaired(
+    room: &mut Room,
+    code: &Code,
+    inputs: &Inputs,
+    fuel: u32,
+    run: &mut Running,
+) -> Result<(), RunError>
+    requires old { (call : Option CallOf) × IsOldRun code.now fuel inputs.now call run.old }
+    requires few { length inputs.now < 2 ^ 32 }
+    ensures ok { OnOk result ((call : Option CallOf)
+        → IsOldRun code.now fuel inputs.now call run.old
+        → IsRepairOf code.now fuel inputs.now call run.old run.new) }
+    ensures out { (call : Option CallOf) → IsOldRun code.now fuel inputs.now call run.old
+        → IfOutOfFuel result (fresh_call code.now inputs.now fuel call ≡ None) }
+    ensures sure { (call : Option CallOf)
+        → IsStillHonest code.now fuel inputs.now call run.old → IsOk result }
+{
+    let outcome = propagate(room, code, inputs, fuel, run)?;
+    match outcome {
+        Propagation::OutOfFuel => Err(RunError::OutOfFuel),
+        Propagation::Done => Ok(()),
+    }
+}
 
 impl Engine {
     /// The first trace of the call, as a run.
@@ -51,43 +79,6 @@ impl Engine {
                 }
             }
         }
-    }
-
-    /// The repair of an old run on the present inputs.
-    fn repaired(&self, old: Running) -> Result<Running, RunError>
-        requires old { IsOldRun self.now.code self.now.fuel self.now.inputs self.now.call old }
-        ensures ok { IfOk result (λ run.
-            IsRepairOf self.now.code self.now.fuel self.now.inputs self.now.call old run) }
-        ensures out { IfOutOfFuel result (fresh_of self.now ≡ None) }
-        ensures sure { IsStillHonest self.now.code self.now.fuel self.now.inputs self.now.call old
-            → IsOk result }
-    {
-        let outcome = propagate(self.alloc, &self.code, &self.inputs, self.fuel, old)?;
-        match outcome {
-            Outcome::OutOfFuel => Err(RunError::OutOfFuel),
-            Outcome::Done(run) => Ok(run),
-        }
-    }
-
-    /// What so many reads, or all that are left, make of a repair that goes on.
-    fn sliced(&self, reads: Option<u32>, old: Running) -> Result<Sliced, NoMemory>
-        requires ready { IsOpenRun self.now.code self.now.fuel self.now.inputs self.now.call old }
-        requires some { reads ≢ Some 0 }
-        ensures ok { IfOk result (λ s.
-            IsSliceOf self.now.code self.now.fuel self.now.inputs self.now.call reads old s) }
-    {
-        slice(self.alloc, &self.code, &self.inputs, reads, self.fuel, old)
-    }
-
-    /// Takes a run of a repair that goes on.
-    fn keep_part(&mut self, run: Running)
-        requires kept { Keeps self.old.code self.old.fuel self.old.inputs Partial
-            self.old.call (Some run) }
-        ensures state { self.new
-            ≡ under_way self.old.code self.old.fuel self.old.inputs self.old.call run }
-    {
-        drop(mem::replace(&mut self.running, Some(run)));
-        self.phase = Phase::Partial;
     }
 
     /// Takes a run of the call on the present inputs.
@@ -142,13 +133,20 @@ impl Engine {
         ensures out_of_fuel { IfOutOfFuel result (fresh_of self.new ≡ None) }
         ensures dropped { OnErr result (self.new.phase ≡ Dropped) }
     {
-        self.phase = Phase::Dropped;
-        match self.running.take() {
+        match &mut self.running {
             None => unreachable!(),
-            Some(old) => {
-                let run = self.repaired(old)?;
-                self.keep(run);
-                Ok(())
+            Some(run) => {
+                match repaired(&mut self.room, &self.code, &self.inputs, self.fuel, run) {
+                    Ok(()) => {
+                        self.phase = Phase::Finished;
+                        Ok(())
+                    }
+                    Err(error) => {
+                        self.phase = Phase::Dropped;
+                        give_up(&mut self.running);
+                        Err(error)
+                    }
+                }
             }
         }
     }
@@ -242,25 +240,41 @@ impl Engine {
         ensures dropped { OnErr result (self.new.phase ≡ Dropped) }
     {
         reopen(&mut self.running, self.phase);
-        self.phase = Phase::Dropped;
-        match self.running.take() {
+        match &mut self.running {
             None => unreachable!(),
-            Some(old) => {
-                let sliced = self.sliced(reads, old)?;
-                match sliced {
-                    Sliced::More(run) => {
-                        self.keep_part(run);
+            Some(run) => {
+                match slice(
+                    &mut self.room,
+                    &self.code,
+                    &self.inputs,
+                    reads,
+                    self.fuel,
+                    run,
+                ) {
+                    Ok(Sliced::More) => {
+                        self.phase = Phase::Partial;
                         Ok(Came::More)
                     }
-                    Sliced::Done(run) => {
-                        self.keep(run);
+                    Ok(Sliced::Done) => {
+                        self.phase = Phase::Finished;
                         Ok(Came::Done)
                     }
-                    Sliced::Spent => {
+                    Ok(Sliced::Spent) => {
+                        self.phase = Phase::Dropped;
+                        give_up(&mut self.running);
                         self.run_anew()?;
                         Ok(Came::Anew)
                     }
-                    Sliced::OutOfFuel => Err(RunError::OutOfFuel),
+                    Ok(Sliced::OutOfFuel) => {
+                        self.phase = Phase::Dropped;
+                        give_up(&mut self.running);
+                        Err(RunError::OutOfFuel)
+                    }
+                    Err(error) => {
+                        self.phase = Phase::Dropped;
+                        give_up(&mut self.running);
+                        Err(RunError::from(error))
+                    }
                 }
             }
         }

@@ -32,21 +32,21 @@ module _ (old : Repair) (start : Start) (until end : Stamp) (a : EndsKept start 
 
   -- what is left over was revoked
   module _ (run : Running)
-      (all : (front : List Entry) (left : Grove) (tail : List Entry) → Lies old.cursor.0 front left tail old.running.tables → first_in tail ≡ Some end.0 → Lies old.cursor.0 front Bare tail run.tables)
-      (bases : (p : Place) → base_in run.tables.mods p ≡ base_in old.running.tables.mods p) (blocks : (b : BlockId) → block_of run.heap b ≡ block_of old.running.heap b)
-      (has : (code : Code) (inputs : List Block) → HasBlocks code inputs old.running.heap old.running.tables → HasBlocks code inputs run.heap run.tables)
-      (spent : run.spent ≡ old.running.spent) (kept : Kept run.tables) where
+      (all : (front : List Entry) (left : Grove) (tail : List Entry) → Lies old.cursor.0 front left tail old.running.now.tables → first_in tail ≡ Some end.0 → Lies old.cursor.0 front Bare tail run.tables)
+      (bases : (p : Place) → base_in run.tables.mods p ≡ base_in old.running.now.tables.mods p) (blocks : (b : BlockId) → block_of run.heap b ≡ block_of old.running.now.heap b)
+      (has : (code : Code) (inputs : List Block) → HasBlocks code inputs old.running.now.heap old.running.now.tables → HasBlocks code inputs run.heap run.tables)
+      (spent : run.spent ≡ old.running.now.spent) (kept : Kept run.tables) where
     lies-bare : Lies old.cursor.0 (through a.now.placed.done a.now.placed.last) Bare a.now.tail run.tables
     lies-bare = all (through a.now.placed.done a.now.placed.last) a.now.left a.now.tail (lies-kept (code_of old) (inputs_of old) start a.stack (view old) until a.now) end-first
 
-    pub goes-on : PassesOn start (record old { running = run; cursor = end; limit = Some until })
+    pub goes-on : PassesOn start (record old { running = record old.running { now = run }; cursor = end; limit = Some until })
     goes-on =
         let n = next-kept (code_of old) (inputs_of old) start a.stack (view old) until a.now in (
           until,
           passes-as (code_of old) (inputs_of old) start until
-              (record { tables = run.tables; heap = run.heap; spent = old.running.spent; cursor = n.end; limit = Some until; frames = (view old).frames })
-              (record old { running = run; cursor = end; limit = Some until })
+              (record { tables = run.tables; heap = run.heap; spent = old.running.now.spent; cursor = n.end; limit = Some until; frames = (view old).frames })
+              (record old { running = record old.running { now = run }; cursor = end; limit = Some until })
               (now-go-on (code_of old) (inputs_of old) start a.stack (view old) until a.now run.tables run.heap a.over lies-bare bases blocks (has (code_of old) (inputs_of old)) kept) refl refl
               (ap (λ (k : ℕ). record { tables = run.tables; heap = run.heap; spent = k; cursor = end.0; limit = Some until; frames = (view old).frames }) spent
-              ∙ ap (λ (s : Stamp). record { tables = run.tables; heap = run.heap; spent = old.running.spent; cursor = s.0; limit = Some until; frames = (view old).frames }) (sym same-end)),
+              ∙ ap (λ (s : Stamp). record { tables = run.tables; heap = run.heap; spent = old.running.now.spent; cursor = s.0; limit = Some until; frames = (view old).frames }) (sym same-end)),
         )

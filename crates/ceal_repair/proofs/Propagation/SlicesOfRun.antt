@@ -146,18 +146,18 @@ module _ (code : Code) (inputs : List Block) (f : ℕ) (args : List Word) (fuel 
   is-over n (Some k) h s = record { names = s.names; single = s.single; off = not-known s.names s.off; is = s.part k (omega (arith, h, no-turns-more n)) }
 
   -- a repair in code that begins with the run
-  pub begun-in : (rep : RepairInCode) → code_of rep ≡ code → inputs_of rep ≡ inputs → rep.running.tables ≡ run.tables → rep.running.heap ≡ run.heap → rep.running.spent ≡ run.spent
-      → HasCome (code_of rep) (inputs_of rep) f args since run rep.running
-  begun-in rep same_code same_inputs tables heap spent = rw (same_code, same_inputs, same-running rep.running run tables heap spent) begun
+  pub begun-in : (rep : RepairInCode) → code_of rep ≡ code → inputs_of rep ≡ inputs → rep.running.now.tables ≡ run.tables → rep.running.now.heap ≡ run.heap → rep.running.now.spent ≡ run.spent
+      → HasCome (code_of rep) (inputs_of rep) f args since run rep.running.now
+  begun-in rep same_code same_inputs tables heap spent = rw (same_code, same_inputs, same-running rep.running.now run tables heap spent) begun
 
   module _ (before now : Running) (n : ℕ) (done : IsUpToDate code inputs f args (later n since) before now) (reads : Option ℕ) (some : reads ≢ Some 0) (less : IsWithin n reads) (few : now.spent ≤ fuel) where
-    pub concluded : (s : Sliced) → IsConcluded code inputs f args fuel done.come.so_far.repair.items now.spent s → IsSliced code inputs f args reads fuel r s
-    concluded (More z) h = absurd h
-    concluded (Done z) h =
+    pub concluded : (z : Running) (s : Sliced) → IsConcluded code inputs f args fuel done.come.so_far.repair.items now.spent z s → IsSliced code inputs f args reads fuel r z s
+    concluded z More h = absurd h
+    concluded z Done h =
         let w = is-whole before now n done.come done.honest reads some less few in
         (w.0, w.1, subst (λ m. IsRunOf code inputs f args fuel m z) (sym w.2) h.0, h.1 ∙ (sym done.come.so_far.stands.spent ∙ sym w.3))
-    concluded Spent h = absurd h
-    concluded OutOfFuel h =
+    concluded z Spent h = absurd h
+    concluded z OutOfFuel h =
         let w = is-whole before now n done.come done.honest reads some less few in
         (w.0, w.1, subst (λ m. IsHonest code inputs m) (sym w.2) done.honest, h)
 
@@ -165,7 +165,7 @@ module _ (code : Code) (inputs : List Block) (f : ℕ) (args : List Word) (fuel 
   at-least zero h = absurd (h refl)
   at-least (suc n) h = omega arith
 
-  pub goes-on-so : (before now : Running) (n : ℕ) → IsUnderWay code inputs f args (later n since) before now → (reads : Option ℕ) → reads ≢ Some 0 → reads ≡ Some n → now.spent ≤ fuel → IsSliced code inputs f args reads fuel r (More now)
+  pub goes-on-so : (before now : Running) (n : ℕ) → IsUnderWay code inputs f args (later n since) before now → (reads : Option ℕ) → reads ≢ Some 0 → reads ≡ Some n → now.spent ≤ fuel → IsSliced code inputs f args reads fuel r now More
   goes-on-so before now n way reads some e few =
       let s = is-slice before now n way.come (at-least n (λ z. some (e ∙ ap Some z))) few in
       (last before now n way.come, subst (λ k. IsSliceOf code inputs k fuel r (Some (last before now n way.come))) (sym e) s, way.stale, is-part before now n way.come few)

@@ -127,13 +127,13 @@ module _ (code : Code) (inputs : List Block) (f : ℕ) (args : List Word) (o : S
 -- After some turns. Where the old trace was honest no turn was made.
 pub record Turning (old now : Repair) (turns : ℕ) : Type 0 where
   pub call : SameCall old now
-  pub idle : now.frames.items ≡ []
-  pub come : (f : ℕ) (args : List Word) (o : Since) (before : Running) → HasCome (code_of old) (inputs_of old) f args o before old.running → HasCome (code_of old) (inputs_of old) f args (later turns o) before now.running
-  pub sure : (f : ℕ) (args : List Word) (o : Since) (before : Running) → HasCome (code_of old) (inputs_of old) f args o before old.running → IsHonest (code_of old) (inputs_of old) o.repair.items → turns ≡ 0
+  pub idle : now.frames.now.items ≡ []
+  pub come : (f : ℕ) (args : List Word) (o : Since) (before : Running) → HasCome (code_of old) (inputs_of old) f args o before old.running.now → HasCome (code_of old) (inputs_of old) f args (later turns o) before now.running.now
+  pub sure : (f : ℕ) (args : List Word) (o : Since) (before : Running) → HasCome (code_of old) (inputs_of old) f args o before old.running.now → IsHonest (code_of old) (inputs_of old) o.repair.items → turns ≡ 0
 
-pub no-turns : (r : Repair) → r.frames.items ≡ [] → Turning r r 0
+pub no-turns : (r : Repair) → r.frames.now.items ≡ [] → Turning r r 0
 no-turns r idle = record {
-  call = record { code = refl; inputs = refl };
+  call = record { code = refl; inputs = refl; place = refl };
   idle = idle;
   come = λ f args o before h. h;
   sure = λ f args o before h k. refl;
@@ -143,9 +143,9 @@ no-turns r idle = record {
 pub record TurningIn (old now : Repair) (turns : ℕ) (reads : Option ℕ) (fuel : ℕ) : Type 0 where
   pub turning : Turning old now turns
   pub few : IsWithin turns reads
-  pub within : old.running.spent ≤ fuel → now.running.spent ≤ fuel
+  pub within : old.running.now.spent ≤ fuel → now.running.now.spent ≤ fuel
 
-pub no-turns-in : (r : Repair) → r.frames.items ≡ [] → (reads : Option ℕ) (fuel : ℕ) → TurningIn r r 0 reads fuel
+pub no-turns-in : (r : Repair) → r.frames.now.items ≡ [] → (reads : Option ℕ) (fuel : ℕ) → TurningIn r r 0 reads fuel
 no-turns-in r idle reads fuel = record { turning = no-turns r idle; few = of reads; within = λ h. h }
   where
     of : (reads : Option ℕ) → IsWithin 0 reads
@@ -165,45 +165,45 @@ one-more turns None h = tt
 one-more turns (Some k) h = omega (arith, h)
 
 -- the first stale read was looked for
-module _ (old now : Repair) (turns : ℕ) (t : Turning old now turns) (looked : Tables) (kept : Kept looked) (cells : looked.mods.cells ≡ now.running.tables.mods.cells) where
+module _ (old now : Repair) (turns : ℕ) (t : Turning old now turns) (looked : Tables) (kept : Kept looked) (cells : looked.mods.cells ≡ now.running.now.tables.mods.cells) where
   abbrev looked_run : Running
-  looked_run = record now.running { tables = looked }
+  looked_run = record now.running.now { tables = looked }
 
   -- and there was none
-  module _ (trace : looked.trace ≡ now.running.tables.trace) (none : (s : ℕ) → is_in s looked.stale.stamps ≡ true → ⊥) where
-    pub is-up-to-date : (f : ℕ) (args : List Word) (o : Since) (before : Running) → HasCome (code_of old) (inputs_of old) f args o before old.running → IsUpToDate (code_of old) (inputs_of old) f args (later turns o) before looked_run
-    is-up-to-date f args o before h = up-to-date (code_of old) (inputs_of old) f args (later turns o) before now.running (t.come f args o before h) looked kept trace cells
+  module _ (trace : looked.trace ≡ now.running.now.tables.trace) (none : (s : ℕ) → is_in s looked.stale.stamps ≡ true → ⊥) where
+    pub is-up-to-date : (f : ℕ) (args : List Word) (o : Since) (before : Running) → HasCome (code_of old) (inputs_of old) f args o before old.running.now → IsUpToDate (code_of old) (inputs_of old) f args (later turns o) before looked_run
+    is-up-to-date f args o before h = up-to-date (code_of old) (inputs_of old) f args (later turns o) before now.running.now (t.come f args o before h) looked kept trace cells
         (λ r. unqueued-honest looked kept r (false-of (is_in r looked.stale.stamps) (λ i. absurd (none r i))) (λ z i. absurd (none z i)))
 
-  pub come-here : (f : ℕ) (args : List Word) (o : Since) (before : Running) → HasCome (code_of old) (inputs_of old) f args o before old.running → HasCome (code_of now) (inputs_of now) f args (later turns o) before now.running
+  pub come-here : (f : ℕ) (args : List Word) (o : Since) (before : Running) → HasCome (code_of old) (inputs_of old) f args o before old.running.now → HasCome (code_of now) (inputs_of now) f args (later turns o) before now.running.now
   come-here f args o before h = rw (t.call.code, t.call.inputs) (t.come f args o before h)
 
   -- each read has the content of its moment
-  module _ (trace : looked.trace ≡ now.running.tables.trace) (all : (s : ℕ) → IsHonestRecord s looked) where
-    pub is-done : (f : ℕ) (args : List Word) (o : Since) (before : Running) → HasCome (code_of old) (inputs_of old) f args o before old.running → IsUpToDate (code_of old) (inputs_of old) f args (later turns o) before looked_run
-    is-done f args o before h = up-to-date (code_of old) (inputs_of old) f args (later turns o) before now.running (t.come f args o before h) looked kept trace cells all
+  module _ (trace : looked.trace ≡ now.running.now.tables.trace) (all : (s : ℕ) → IsHonestRecord s looked) where
+    pub is-done : (f : ℕ) (args : List Word) (o : Since) (before : Running) → HasCome (code_of old) (inputs_of old) f args o before old.running.now → IsUpToDate (code_of old) (inputs_of old) f args (later turns o) before looked_run
+    is-done f args o before h = up-to-date (code_of old) (inputs_of old) f args (later turns o) before now.running.now (t.come f args o before h) looked kept trace cells all
 
   -- one is stale still
-  module _ (trace : looked.trace ≡ now.running.tables.trace) (z : ℕ) (stale : IsStale z now.running.tables) where
-    pub is-under-way : (f : ℕ) (args : List Word) (o : Since) (before : Running) → HasCome (code_of old) (inputs_of old) f args o before old.running → IsUnderWay (code_of old) (inputs_of old) f args (later turns o) before looked_run
+  module _ (trace : looked.trace ≡ now.running.now.tables.trace) (z : ℕ) (stale : IsStale z now.running.now.tables) where
+    pub is-under-way : (f : ℕ) (args : List Word) (o : Since) (before : Running) → HasCome (code_of old) (inputs_of old) f args o before old.running.now → IsUnderWay (code_of old) (inputs_of old) f args (later turns o) before looked_run
     is-under-way f args o before h =
         let come = t.come f args o before h in
-        let now-come = come-now (code_of old) (inputs_of old) f args (later turns o) before now.running come looked kept trace cells in
+        let now-come = come-now (code_of old) (inputs_of old) f args (later turns o) before now.running.now come looked kept trace cells in
         record {
           come = now-come;
           stale = still-stale (code_of old) (inputs_of old) f args come.called.fits now-come.so_far.repair looked_run now-come.so_far.stands z
-              (stale-same now.running.tables looked z (sym trace) (sym cells) stale);
+              (stale-same now.running.now.tables looked z (sym trace) (sym cells) stale);
         }
 
   -- it was found
-  module _ (read : ℕ) (stale : IsStale read now.running.tables)
-      (nodes : (p : Place) × (v : Word) × Records p v (node_at read now.running.tables.trace.nodes) × (looked.trace.nodes ≡ with_value read (contents_at read now.running.tables p) now.running.tables.trace.nodes))
+  module _ (read : ℕ) (stale : IsStale read now.running.now.tables)
+      (nodes : (p : Place) × (v : Word) × Records p v (node_at read now.running.now.tables.trace.nodes) × (looked.trace.nodes ≡ with_value read (contents_at read now.running.now.tables p) now.running.now.tables.trace.nodes))
       (behind : QueuedBehind read looked) where
-    module _ (f : ℕ) (args : List Word) (o : Since) (before : Running) (h : HasCome (code_of old) (inputs_of old) f args o before old.running) where
+    module _ (f : ℕ) (args : List Word) (o : Since) (before : Running) (h : HasCome (code_of old) (inputs_of old) f args o before old.running.now) where
       abbrev found : FoundStale (code_of now) (inputs_of now) f args (later turns o) read looked_run
       found = record {
         called = (come-here f args o before h).called;
-        before = now.running;
+        before = now.running.now;
         so_far = (come-here f args o before h).so_far;
         stale = stale;
         place = nodes.0;
@@ -219,27 +219,27 @@ module _ (old now : Repair) (turns : ℕ) (t : Turning old now turns) (looked : 
 
       pub found-never : IsHonest (code_of old) (inputs_of old) o.repair.items → ⊥
       found-never honest =
-          not-honest (code_of now) (inputs_of now) f args (later turns o) (come-here f args o before h).called now.running (come-here f args o before h).so_far
+          not-honest (code_of now) (inputs_of now) f args (later turns o) (come-here f args o before h).called now.running.now (come-here f args o before h).so_far
           (spot (code_of now) (inputs_of now) f args (later turns o) read looked_run listed-law ready-law turn-known-law found) (front-agrees (code_of now) (inputs_of now) f args (later turns o) read looked_run listed-law ready-law turn-known-law found)
           (store-differs (code_of now) (inputs_of now) f args (later turns o) read looked_run listed-law ready-law turn-known-law found) before (come-here f args o before h) (rw (t.call.code, t.call.inputs) honest)
 
-      further : (new : Repair) → TurnMade (code_of now) (inputs_of now) f args (later turns o) now.running new.running → HasCome (code_of old) (inputs_of old) f args (later (turns + 1) o) before new.running
+      further : (new : Repair) → TurnMade (code_of now) (inputs_of now) f args (later turns o) now.running.now new.running.now → HasCome (code_of old) (inputs_of old) f args (later (turns + 1) o) before new.running.now
       further new made =
           let next : suc turns ≡ turns + 1 = omega arith in
           let count : suc (turns_more turns o.turns) ≡ turns_more (turns + 1) o.turns = ap (λ n. turns_more n o.turns) next in
-          subst (λ n. HasCome (code_of old) (inputs_of old) f args (record { repair = o.repair; first = o.first; turns = n }) before new.running) count
-          (rw (t.call.code, t.call.inputs) at (comes-further (code_of now) (inputs_of now) f args (later turns o) before now.running new.running (come-here f args o before h) made))
+          subst (λ n. HasCome (code_of old) (inputs_of old) f args (record { repair = o.repair; first = o.first; turns = n }) before new.running.now) count
+          (rw (t.call.code, t.call.inputs) at (comes-further (code_of now) (inputs_of now) f args (later turns o) before now.running.now new.running.now (come-here f args o before h) made))
 
     -- the same for any call
-    abbrev pub found_by : (f : ℕ) (args : List Word) (o : Since) (before : Running) → HasCome (code_of old) (inputs_of old) f args o before old.running → FoundStale (code_of now) (inputs_of now) f args (later turns o) read looked_run
+    abbrev pub found_by : (f : ℕ) (args : List Word) (o : Since) (before : Running) → HasCome (code_of old) (inputs_of old) f args o before old.running.now → FoundStale (code_of now) (inputs_of now) f args (later turns o) read looked_run
     found_by f args o before h = found f args o before h
 
     -- and its turn was made
-    pub turn-more : (new : Repair) → code_of new ≡ code_of now → inputs_of new ≡ inputs_of now → new.frames.items ≡ []
-        → ((f : ℕ) (args : List Word) (o : Since) (before : Running) → HasCome (code_of old) (inputs_of old) f args o before old.running → TurnMade (code_of now) (inputs_of now) f args (later turns o) now.running new.running)
+    pub turn-more : (new : Repair) → SameCall now new → new.frames.now.items ≡ []
+        → ((f : ℕ) (args : List Word) (o : Since) (before : Running) → HasCome (code_of old) (inputs_of old) f args o before old.running.now → TurnMade (code_of now) (inputs_of now) f args (later turns o) now.running.now new.running.now)
         → Turning old new (turns + 1)
-    turn-more new same_code same_inputs idle made = record {
-      call = record { code = same_code ∙ t.call.code; inputs = same_inputs ∙ t.call.inputs };
+    turn-more new same idle made = record {
+      call = record { code = same.code ∙ t.call.code; inputs = same.inputs ∙ t.call.inputs; place = same.place ∙ t.call.place };
       idle = idle;
       come = λ f args o before h. further f args o before h new (made f args o before h);
       sure = λ f args o before h honest. absurd (found-never f args o before h honest);
@@ -248,7 +248,7 @@ module _ (old now : Repair) (turns : ℕ) (t : Turning old now turns) (looked : 
 -- ---- one turn in code
 
 module _ (old begun gone : Repair) (read : ℕ) (call_begun : SameCall old begun) (call_gone : SameCall begun gone) (f : ℕ) (args : List Word) (o : Since)
-    (found : FoundStale (code_of old) (inputs_of old) f args o read old.running) (runs : TurnRuns (code_of old) (inputs_of old) f args o found.before begun) where
+    (found : FoundStale (code_of old) (inputs_of old) f args o read old.running.now) (runs : TurnRuns (code_of old) (inputs_of old) f args o found.before begun) where
   -- it has run too many steps
   pub turn-out : Runs runs.start gone → (fuel : ℕ) → fuel < (view gone).spent → IsSpent (code_of old) (inputs_of old) fuel o
   turn-out r fuel more = turn-over (code_of old) (inputs_of old) f args o found.before runs.start runs.began gone (call_gone.code ∙ call_begun.code) (call_gone.inputs ∙ call_begun.inputs) r fuel more
@@ -257,5 +257,5 @@ module _ (old begun gone : Repair) (read : ℕ) (call_begun : SameCall old begun
   pub began-gone : TurnBegan (code_of gone) (inputs_of gone) f args o found.before runs.start
   began-gone = rw (call_gone.code ∙ call_begun.code, call_gone.inputs ∙ call_begun.inputs) runs.began
 
-  pub turn-made : (new : Repair) → TurnEnded (code_of gone) (inputs_of gone) f args o runs.start new.running → TurnMade (code_of old) (inputs_of old) f args o found.before new.running
+  pub turn-made : (new : Repair) → TurnEnded (code_of gone) (inputs_of gone) f args o runs.start new.running.now → TurnMade (code_of old) (inputs_of old) f args o found.before new.running.now
   turn-made new e = record { start = runs.start; began = runs.began; ended = rw (call_gone.code ∙ call_begun.code, call_gone.inputs ∙ call_begun.inputs) at e }

@@ -394,16 +394,16 @@ module _ (code : Code) (inputs : List Block) (f : ℕ) (args : List Word) (o : S
   -- ---- in code
 
   pub turn-runs : (new : RepairInCode) → code_of new ≡ code → inputs_of new ≡ inputs
-      → new.running.tables.trace.nodes ≡ with_steps read 0 run.tables.trace.nodes → new.running.tables.mods ≡ run.tables.mods → new.running.tables.stale ≡ run.tables.stale → Kept new.running.tables
-      → new.running.heap ≡ run.heap → new.running.spent ≡ run.spent → new.cursor.0 ≡ read → new.frames.items ≡ []
+      → new.running.now.tables.trace.nodes ≡ with_steps read 0 run.tables.trace.nodes → new.running.now.tables.mods ≡ run.tables.mods → new.running.now.tables.stale ≡ run.tables.stale → Kept new.running.now.tables
+      → new.running.now.heap ≡ run.heap → new.running.now.spent ≡ run.spent → new.cursor.0 ≡ read → new.frames.now.items ≡ []
       → IfSome new.limit (λ end. end_in read run.tables.trace.nodes ≡ Some end.0) → IfNone new.limit (end_in read run.tables.trace.nodes ≡ None)
-      → ((p : Place) (v : Word) (u : UnitId) (x : ℕ) (ws : List Word) → node_at read run.tables.trace.nodes ≡ Some (Read p v u x ws) → stack_in new.stack ≡ resumed code u x ws v)
+      → ((p : Place) (v : Word) (u : UnitId) (x : ℕ) (ws : List Word) → node_at read run.tables.trace.nodes ≡ Some (Read p v u x ws) → stack_in new.stack.now ≡ resumed code u x ws v)
       → TurnRuns code inputs f args o found.before new
   turn-runs new same_code same_inputs nodes mods queue kept heap spent cursor frames some none resumes = record {
     start = start;
     began = began;
-    runs = runs-as code inputs start (resumed code unit var words (store at-place)) (view-then new.running.tables nodes mods queue kept) new (now-begun new.running.tables nodes mods queue kept)
+    runs = runs-as code inputs start (resumed code unit var words (store at-place)) (view-then new.running.now.tables nodes mods queue kept) new (now-begun new.running.now.tables nodes mods queue kept)
         same_code same_inputs (resumes at-place (store at-place) unit var words node-now)
-        (view-is new.running.tables new.running.heap run.heap heap new.running.spent run.spent spent new.cursor.0 read cursor
-        new.limit (Some (stamped spot.end)) (end-is new.limit (end_in read run.tables.trace.nodes) spot.end some none end-run) new.frames.items frames);
+        (view-is new.running.now.tables new.running.now.heap run.heap heap new.running.now.spent run.spent spent new.cursor.0 read cursor
+        new.limit (Some (stamped spot.end)) (end-is new.limit (end_in read run.tables.trace.nodes) spot.end some none end-run) new.frames.now.items frames);
   }

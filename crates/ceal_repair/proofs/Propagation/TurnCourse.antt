@@ -93,5 +93,5 @@ module _ (code : Code) (inputs : List Block) (f : ℕ) (args : List Word) (o : S
 pub turn-over : (code : Code) (inputs : List Block) (f : ℕ) (args : List Word) (o : Since) (before : Running) (start : Start) → TurnBegan code inputs f args o before start
     → (r : RepairInCode) → code_of r ≡ code → inputs_of r ≡ inputs → Runs start r → (fuel : ℕ) → fuel < (view r).spent → IsSpent code inputs fuel o
 turn-over code inputs f args o before start b r same_code same_inputs runs fuel more =
-    is-spent code inputs f args o before start b (stack_in r.stack) (view r)
-    (subst (λ s. RunningNow code inputs s (stack_in r.stack) (view r)) b.is (rw (same_code, same_inputs) at runs)) fuel more
+    is-spent code inputs f args o before start b (stack_in r.stack.now) (view r)
+    (subst (λ s. RunningNow code inputs s (stack_in r.stack.now) (view r)) b.is (rw (same_code, same_inputs) at runs)) fuel more

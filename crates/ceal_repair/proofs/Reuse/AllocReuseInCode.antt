@@ -44,21 +44,21 @@ CutsThere cursor until old new = (front : List Entry) (left : Grove) (tail : Lis
     → (rest : Grove) × CutTo until left rest × Lies cursor front rest tail new
 
 module _ (old new : Repair) (h : IsStepped old new) (start : Start) (st : Stack) (now : RunsAt start st old) where
-  pub has-stepped : HasBlocks (code_of old) (inputs_of old) new.running.heap new.running.tables
-  has-stepped = subst (λ z. HasBlocks (code_of old) (inputs_of old) z new.running.tables) (sym h.heap) (blocks-more (code_of old) (inputs_of old) old.running.heap old.running.tables new.running.tables now.blocks old.cursor.0 h.more)
+  pub has-stepped : HasBlocks (code_of old) (inputs_of old) new.running.now.heap new.running.now.tables
+  has-stepped = subst (λ z. HasBlocks (code_of old) (inputs_of old) z new.running.now.tables) (sym h.heap) (blocks-more (code_of old) (inputs_of old) old.running.now.heap old.running.now.tables new.running.now.tables now.blocks old.cursor.0 h.more)
 
-  lies-stepped : Lies old.cursor.0 (through now.placed.done (more now.placed.last)) now.left now.tail new.running.tables
+  lies-stepped : Lies old.cursor.0 (through now.placed.done (more now.placed.last)) now.left now.tail new.running.now.tables
   lies-stepped = record {
     done = now.placed.done;
     last = more now.placed.last;
     ends = refl;
     is_at = now.placed.cursor;
-    nodes = step-nodes start (view old) now.reads (entries now.left ++ now.tail) now.placed new.running.tables h.more;
-    late = step-late start (view old) now.reads (entries now.left ++ now.tail) now.placed new.running.tables h.more;
+    nodes = step-nodes start (view old) now.reads (entries now.left ++ now.tail) now.placed new.running.now.tables h.more;
+    late = step-late start (view old) now.reads (entries now.left ++ now.tail) now.placed new.running.now.tables h.more;
   }
 
-  pub lies-code : Lies new.cursor.0 (through now.placed.done (more now.placed.last)) now.left now.tail new.running.tables
-  lies-code = subst (λ k. Lies k (through now.placed.done (more now.placed.last)) now.left now.tail new.running.tables) (sym (cursor-kept old new h)) lies-stepped
+  pub lies-code : Lies new.cursor.0 (through now.placed.done (more now.placed.last)) now.left now.tail new.running.now.tables
+  lies-code = subst (λ k. Lies k (through now.placed.done (more now.placed.last)) now.left now.tail new.running.now.tables) (sym (cursor-kept old new h)) lies-stepped
 
   module _ (key : Key) (found : Stamp) (matches : head_of (stamps_where (allocates key) (left_nodes old)) ≡ Some found.0) where
     pub matches-left : head_of (stamps_where (allocates key) (entries now.left)) ≡ Some found.0
@@ -67,23 +67,23 @@ module _ (old new : Repair) (h : IsStepped old new) (start : Start) (st : Stack)
     pub until-code : IsUntil found.0 now.left now.tail
     until-code = inl (match-starts key now.left found.0 matches-left)
 
-    module _ (t2 : Tables) (kept : Kept t2) (there : CutsThere new.cursor.0 found.0 new.running.tables t2) where
+    module _ (t2 : Tables) (kept : Kept t2) (there : CutsThere new.cursor.0 found.0 new.running.now.tables t2) where
       pub cut-result : (rest : Grove) × CutTo found.0 now.left rest × Lies old.cursor.0 (through now.placed.done (more now.placed.last)) rest now.tail t2
-      cut-result = (subst (λ k. CutsThere k found.0 new.running.tables t2) (cursor-kept old new h) there) (through now.placed.done (more now.placed.last)) now.left now.tail lies-stepped (match-starts key now.left found.0 matches-left)
+      cut-result = (subst (λ k. CutsThere k found.0 new.running.now.tables t2) (cursor-kept old new h) there) (through now.placed.done (more now.placed.last)) now.left now.tail lies-stepped (match-starts key now.left found.0 matches-left)
 
       pub found-there : has_node found.0 t2.trace.nodes ≡ true
       found-there = has-first old.cursor.0 found.0 (through now.placed.done (more now.placed.last)) cut-result.0 now.tail t2 kept cut-result.2 (cut-first cut-result.1)
 
-      pub cut-more-code : (heap : Contents) (t : Tables) → ((p : Place) → base_in t2.mods p ≡ base_in new.running.tables.mods p) → ((b : BlockId) → block_of heap b ≡ block_of new.running.heap b)
-          → ((code : Code) (inputs : List Block) → HasBlocks code inputs new.running.heap new.running.tables → HasBlocks code inputs heap t2)
+      pub cut-more-code : (heap : Contents) (t : Tables) → ((p : Place) → base_in t2.mods p ≡ base_in new.running.now.tables.mods p) → ((b : BlockId) → block_of heap b ≡ block_of new.running.now.heap b)
+          → ((code : Code) (inputs : List Block) → HasBlocks code inputs new.running.now.heap new.running.now.tables → HasBlocks code inputs heap t2)
           → t.trace.nodes ≡ with_steps found.0 0 t2.trace.nodes → t.mods ≡ t2.mods → t.stale ≡ t2.stale → Kept t
-          → CutMore (code_of old) (inputs_of old) old.cursor.0 found.0 (through now.placed.done (more now.placed.last)) now.left cut-result.0 now.tail old.running.heap heap new.running.tables t2 t
+          → CutMore (code_of old) (inputs_of old) old.cursor.0 found.0 (through now.placed.done (more now.placed.last)) now.left cut-result.0 now.tail old.running.now.heap heap new.running.now.tables t2 t
       cut-more-code heap t bases blocks has nodes mods queue now_kept = record {
         cuts = cut-result.1;
         lies = cut-result.2;
         bases = bases;
         blocks = λ b. blocks b ∙ ap (λ z. block_of z b) h.heap;
-        has = λ k. has (code_of old) (inputs_of old) (subst (λ z. HasBlocks (code_of old) (inputs_of old) z new.running.tables) (sym h.heap) k);
+        has = λ k. has (code_of old) (inputs_of old) (subst (λ z. HasBlocks (code_of old) (inputs_of old) z new.running.now.tables) (sym h.heap) k);
         kept_mid = kept;
         nodes = nodes;
         mods = mods;

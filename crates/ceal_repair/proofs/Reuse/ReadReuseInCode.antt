@@ -43,14 +43,14 @@ use Rattle.ceal_trace.specs.Items.{forest_of}
 
 module _ (old new : Repair) (h : IsStepped old new) (start : Start) (st : Stack) (now : RunsAt start st old) (p : Place) (u : UnitId) (x : ℕ) (args : List Word) (found : Stamp)
     (matches : head_of (stamps_where (recalls (record { place = p; unit = u; var = x; args = args })) (left_nodes old)) ≡ Some found.0) where
-  lies-stepped : Lies old.cursor.0 (through now.placed.done (more now.placed.last)) now.left now.tail new.running.tables
+  lies-stepped : Lies old.cursor.0 (through now.placed.done (more now.placed.last)) now.left now.tail new.running.now.tables
   lies-stepped = record {
     done = now.placed.done;
     last = more now.placed.last;
     ends = refl;
     is_at = now.placed.cursor;
-    nodes = step-nodes start (view old) now.reads (entries now.left ++ now.tail) now.placed new.running.tables h.more;
-    late = step-late start (view old) now.reads (entries now.left ++ now.tail) now.placed new.running.tables h.more;
+    nodes = step-nodes start (view old) now.reads (entries now.left ++ now.tail) now.placed new.running.now.tables h.more;
+    late = step-late start (view old) now.reads (entries now.left ++ now.tail) now.placed new.running.now.tables h.more;
   }
 
   pub reads-left : head_of (stamps_where (recalls (record { place = p; unit = u; var = x; args = args })) (entries now.left)) ≡ Some found.0
@@ -59,23 +59,23 @@ module _ (old new : Repair) (h : IsStepped old new) (start : Start) (st : Stack)
   pub until-read : IsUntil found.0 now.left now.tail
   until-read = inl (first-starts (recalls (record { place = p; unit = u; var = x; args = args })) (λ r. refl) found.0 now.left reads-left)
 
-  module _ (t2 : Tables) (kept : Kept t2) (there : CutsThere new.cursor.0 found.0 new.running.tables t2) where
+  module _ (t2 : Tables) (kept : Kept t2) (there : CutsThere new.cursor.0 found.0 new.running.now.tables t2) where
     pub cut-read : (rest : Grove) × CutTo found.0 now.left rest × Lies old.cursor.0 (through now.placed.done (more now.placed.last)) rest now.tail t2
-    cut-read = (subst (λ k. CutsThere k found.0 new.running.tables t2) (cursor-kept old new h) there) (through now.placed.done (more now.placed.last)) now.left now.tail lies-stepped
+    cut-read = (subst (λ k. CutsThere k found.0 new.running.now.tables t2) (cursor-kept old new h) there) (through now.placed.done (more now.placed.last)) now.left now.tail lies-stepped
         (first-starts (recalls (record { place = p; unit = u; var = x; args = args })) (λ r. refl) found.0 now.left reads-left)
 
     pub read-first : QueuedFrom found.0 t2
     read-first = queued-from old.cursor.0 found.0 (through now.placed.done (more now.placed.last)) cut-read.0 now.tail t2 kept cut-read.2 (cut-first cut-read.1)
 
-    pub cut-done : (heap : Contents) → ((q : Place) → base_in t2.mods q ≡ base_in new.running.tables.mods q) → ((b : BlockId) → block_of heap b ≡ block_of new.running.heap b)
-        → ((code : Code) (inputs : List Block) → HasBlocks code inputs new.running.heap new.running.tables → HasBlocks code inputs heap t2)
-        → CutDone (code_of old) (inputs_of old) old.cursor.0 found.0 (through now.placed.done (more now.placed.last)) now.left cut-read.0 now.tail old.running.heap heap new.running.tables t2
+    pub cut-done : (heap : Contents) → ((q : Place) → base_in t2.mods q ≡ base_in new.running.now.tables.mods q) → ((b : BlockId) → block_of heap b ≡ block_of new.running.now.heap b)
+        → ((code : Code) (inputs : List Block) → HasBlocks code inputs new.running.now.heap new.running.now.tables → HasBlocks code inputs heap t2)
+        → CutDone (code_of old) (inputs_of old) old.cursor.0 found.0 (through now.placed.done (more now.placed.last)) now.left cut-read.0 now.tail old.running.now.heap heap new.running.now.tables t2
     cut-done heap bases blocks has = record {
       cuts = cut-read.1;
       lies = cut-read.2;
       bases = bases;
       blocks = λ b. blocks b ∙ ap (λ z. block_of z b) h.heap;
-      has = λ k. has (code_of old) (inputs_of old) (subst (λ z. HasBlocks (code_of old) (inputs_of old) z new.running.tables) (sym h.heap) k);
+      has = λ k. has (code_of old) (inputs_of old) (subst (λ z. HasBlocks (code_of old) (inputs_of old) z new.running.now.tables) (sym h.heap) k);
       kept = kept;
     }
 
@@ -94,12 +94,12 @@ none-entered r start st now key h =
 reverse-more : {A : Type 0} (xs : List A) (x : A) → reverse (xs ++ x ∷ []) ≡ x ∷ reverse xs
 reverse-more xs x = reverse-append xs (x ∷ [])
 
-pub entered-view : (old new : Repair) → IsStepped old new → (t : Tables) (heap : Contents) (n s : ℕ) (o o' : Option Stamp) (f : Frame) (fs : List Frame) → n ≡ new.running.spent → o ≡ o' → fs ≡ new.frames.items ++ f ∷ []
+pub entered-view : (old new : Repair) → IsStepped old new → (t : Tables) (heap : Contents) (n s : ℕ) (o o' : Option Stamp) (f : Frame) (fs : List Frame) → n ≡ new.running.now.spent → o ≡ o' → fs ≡ new.frames.now.items ++ f ∷ []
     → ◌≡◌ {A = View} (record { tables = t; heap = heap; spent = n; cursor = s; limit = o; frames = reverse fs })
     (record { tables = t; heap = heap; spent = (view old).spent + 1; cursor = s; limit = o'; frames = f ∷ (view old).frames })
 entered-view old new h t heap n s o o' f fs e k is =
-    ap₂ (λ (l : Option Stamp) (gs : List Frame). record { tables = t; heap = heap; spent = n; cursor = s; limit = l; frames = gs }) k (ap reverse is ∙ reverse-more new.frames.items f)
-    ∙ (ap (λ (m : ℕ). record { tables = t; heap = heap; spent = m; cursor = s; limit = o'; frames = f ∷ reverse new.frames.items }) e
+    ap₂ (λ (l : Option Stamp) (gs : List Frame). record { tables = t; heap = heap; spent = n; cursor = s; limit = l; frames = gs }) k (ap reverse is ∙ reverse-more new.frames.now.items f)
+    ∙ (ap (λ (m : ℕ). record { tables = t; heap = heap; spent = m; cursor = s; limit = o'; frames = f ∷ reverse new.frames.now.items }) e
     ∙ ap (λ (w : View). record { tables = t; heap = heap; spent = w.spent; cursor = s; limit = o'; frames = f ∷ w.frames }) (stepped-view old new h))
 
 pub passes-as : (code : Code) (inputs : List Block) (start : Start) (until : Stamp) (v : View) (r : Repair) → PassingNow code inputs start until v

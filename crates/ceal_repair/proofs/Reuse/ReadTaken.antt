@@ -40,12 +40,12 @@ use Rattle.ceal_trace.specs.declared.node.Node.TheVariants.{Read}
 pub record IsCut (old new : Repair) (closure : Closure) (found : Stamp) (run : Running) (below : Waits) : Type 0 where
   pub stepped : IsStepped old new
   pub matches : head_of (stamps_where (recalls (key_in closure)) (left_nodes old)) ≡ Some found.0
-  pub there : CutsThere new.cursor.0 found.0 new.running.tables run.tables
-  pub bases : (p : Place) → base_in run.tables.mods p ≡ base_in new.running.tables.mods p
-  pub blocks : (b : BlockId) → block_of run.heap b ≡ block_of new.running.heap b
-  pub has : (code : Code) (inputs : List Block) → HasBlocks code inputs new.running.heap new.running.tables → HasBlocks code inputs run.heap run.tables
+  pub there : CutsThere new.cursor.0 found.0 new.running.now.tables run.tables
+  pub bases : (p : Place) → base_in run.tables.mods p ≡ base_in new.running.now.tables.mods p
+  pub blocks : (b : BlockId) → block_of run.heap b ≡ block_of new.running.now.heap b
+  pub has : (code : Code) (inputs : List Block) → HasBlocks code inputs new.running.now.heap new.running.now.tables → HasBlocks code inputs run.heap run.tables
   pub kept : Kept run.tables
-  pub aside : stack_in old.stack ≡ waits_in below
+  pub aside : stack_in old.stack.now ≡ waits_in below
 
 -- then it had another value, has the one of its moment, and its steps are dropped
 pub record IsRenewed (found : ℕ) (before seen after : Tables) : Type 0 where
@@ -70,10 +70,10 @@ module _ (old new : Repair) (closure : Closure) (found : Stamp) (run : Running) 
   abbrev pub lies : (rest : Grove) × CutTo found.0 a.now.left rest × Lies old.cursor.0 (through a.now.placed.done (more a.now.placed.last)) rest a.now.tail run.tables
   lies = cut-read old new cut.stepped start a.stack a.now closure.place closure.unit closure.var closure.args found cut.matches run.tables cut.kept cut.there
 
-  pub done : CutDone (code_of old) (inputs_of old) old.cursor.0 found.0 (through a.now.placed.done (more a.now.placed.last)) a.now.left lies.0 a.now.tail old.running.heap run.heap new.running.tables run.tables
+  pub done : CutDone (code_of old) (inputs_of old) old.cursor.0 found.0 (through a.now.placed.done (more a.now.placed.last)) a.now.left lies.0 a.now.tail old.running.now.heap run.heap new.running.now.tables run.tables
   done = cut-done old new cut.stepped start a.stack a.now closure.place closure.unit closure.var closure.args found cut.matches run.tables cut.kept cut.there run.heap cut.bases cut.blocks cut.has
 
-  pub reads : next (code_of old) (words_of (code_of old) (inputs_of old) old.running.heap) a.stack ≡ Reads closure.place closure.unit closure.var closure.args (waits_in below)
+  pub reads : next (code_of old) (words_of (code_of old) (inputs_of old) old.running.now.heap) a.stack ≡ Reads closure.place closure.unit closure.var closure.args (waits_in below)
   reads = a.does ∙ ap (λ (s : Stack). Reads closure.place closure.unit closure.var closure.args s) cut.aside
 
   pub left : head_of (stamps_where (recalls (key_in closure)) (entries a.now.left)) ≡ Some found.0
@@ -81,10 +81,10 @@ module _ (old new : Repair) (closure : Closure) (found : Stamp) (run : Running) 
 
   -- the read, as it was found
   abbrev pub taken : MatchRead closure.place closure.unit closure.var closure.args found.0 a.now.left lies.0
-  taken = the-match (code_of old) (inputs_of old) start a.stack (view old) a.now closure.place closure.unit closure.var closure.args below found run.heap new.running.tables run.tables lies.0 reads cut.stepped.more done left
+  taken = the-match (code_of old) (inputs_of old) start a.stack (view old) a.now closure.place closure.unit closure.var closure.args below found run.heap new.running.now.tables run.tables lies.0 reads cut.stepped.more done left
 
   pub is-there : node_at found.0 run.tables.trace.nodes ≡ Some (Read closure.place taken.value closure.unit closure.var closure.args)
-  is-there = node-there (code_of old) (inputs_of old) start a.stack (view old) a.now closure.place closure.unit closure.var closure.args below found run.heap new.running.tables run.tables lies.0 reads cut.stepped.more done left
+  is-there = node-there (code_of old) (inputs_of old) start a.stack (view old) a.now closure.place closure.unit closure.var closure.args below found run.heap new.running.now.tables run.tables lies.0 reads cut.stepped.more done left
 
   pub comes-first : QueuedFrom found.0 run.tables
   comes-first = read-first old new cut.stepped start a.stack a.now closure.place closure.unit closure.var closure.args found cut.matches run.tables cut.kept cut.there
@@ -106,17 +106,17 @@ module _ (old new : Repair) (closure : Closure) (found : Stamp) (run : Running) 
         s.differs (value ∙ (e ∙ ap (λ o. contents_at found.0 run.tables o) (sym place)))
 
     pub records-now : node_at found.0 t.trace.nodes ≡ Some (Read closure.place word closure.unit closure.var closure.args)
-    records-now = node-then (code_of old) (inputs_of old) start a.stack (view old) a.now closure.place closure.unit closure.var closure.args below found run.heap new.running.tables run.tables lies.0 reads cut.stepped.more done left
+    records-now = node-then (code_of old) (inputs_of old) start a.stack (view old) a.now closure.place closure.unit closure.var closure.args below found run.heap new.running.now.tables run.tables lies.0 reads cut.stepped.more done left
         word seen t valued refl differs (bases-cells seen.mods run.tables.mods renewed.cells) renewed.late renewed.nodes renewed.mods renewed.queue renewed.kept
 
     pub end-renewed : end_in found.0 t.trace.nodes ≡ Some taken.end
-    end-renewed = end-then (code_of old) (inputs_of old) start a.stack (view old) a.now closure.place closure.unit closure.var closure.args below found run.heap new.running.tables run.tables lies.0 reads cut.stepped.more done left
+    end-renewed = end-then (code_of old) (inputs_of old) start a.stack (view old) a.now closure.place closure.unit closure.var closure.args below found run.heap new.running.now.tables run.tables lies.0 reads cut.stepped.more done left
         word seen t valued refl differs (bases-cells seen.mods run.tables.mods renewed.cells) renewed.late renewed.nodes renewed.mods renewed.queue renewed.kept
 
     pub retakes : (until : Stamp) → old.limit ≡ Some until
         → RunningNow (code_of old) (inputs_of old) start (resumed (code_of old) closure.unit closure.var closure.args word)
         (record { tables = t; heap = run.heap; spent = (view old).spent + 1; cursor = found.0; limit = Some (stamped taken.end); frames = Taken below until ∷ (view old).frames })
-    retakes = now-retake (code_of old) (inputs_of old) start a.stack (view old) a.now closure.place closure.unit closure.var closure.args below found run.heap new.running.tables run.tables lies.0 reads cut.stepped.more done left
+    retakes = now-retake (code_of old) (inputs_of old) start a.stack (view old) a.now closure.place closure.unit closure.var closure.args below found run.heap new.running.now.tables run.tables lies.0 reads cut.stepped.more done left
         word seen t valued refl differs (bases-cells seen.mods run.tables.mods renewed.cells) renewed.late renewed.nodes renewed.mods renewed.queue renewed.kept
 
   module _ (seen : Tables) (h : IsHonestHere found.0 run.tables seen) where
@@ -124,11 +124,11 @@ module _ (old new : Repair) (closure : Closure) (found : Stamp) (run : Running) 
     right = h.honest closure.place taken.value (record { unit = closure.unit; var = closure.var; args = closure.args; is = is-there })
 
     pub end-honest : end_in found.0 seen.trace.nodes ≡ Some taken.end
-    end-honest = end-same (code_of old) (inputs_of old) start a.stack (view old) a.now closure.place closure.unit closure.var closure.args below found run.heap new.running.tables run.tables lies.0 reads cut.stepped.more done left
+    end-honest = end-same (code_of old) (inputs_of old) start a.stack (view old) a.now closure.place closure.unit closure.var closure.args below found run.heap new.running.now.tables run.tables lies.0 reads cut.stepped.more done left
         seen h.same right (bases-cells seen.mods run.tables.mods h.cells) h.late h.kept
 
     pub enters : (until : Stamp) → old.limit ≡ Some until
         → PassingNow (code_of old) (inputs_of old) start (stamped taken.end)
         (record { tables = seen; heap = run.heap; spent = (view old).spent + 1; cursor = found.0; limit = Some (stamped taken.end); frames = Taken below until ∷ (view old).frames })
-    enters = now-enter (code_of old) (inputs_of old) start a.stack (view old) a.now closure.place closure.unit closure.var closure.args below found run.heap new.running.tables run.tables lies.0 reads cut.stepped.more done left
+    enters = now-enter (code_of old) (inputs_of old) start a.stack (view old) a.now closure.place closure.unit closure.var closure.args below found run.heap new.running.now.tables run.tables lies.0 reads cut.stepped.more done left
         seen h.same right (bases-cells seen.mods run.tables.mods h.cells) h.late h.kept

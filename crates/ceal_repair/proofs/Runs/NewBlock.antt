@@ -531,12 +531,12 @@ module _ (code : Code) (inputs : List Block) (start : Start) (st : Stack) (v : V
 -- ---- the same, in code
 
 pub block-as : (old new : Repair) → IsStepped old new → (c : BlockId) (b : ℕ) → c ≡ Core b → (key : Key) (heap : Contents) (t1 t2 : Tables)
-    → MadeBlock (code_of new) (inputs_of new) c key new.running.heap heap t1 t2 → MadeMore (code_of old) (inputs_of old) b key old.running.heap heap t1 t2
+    → MadeBlock (code_of new) (inputs_of new) c key new.running.now.heap heap t1 t2 → MadeMore (code_of old) (inputs_of old) b key old.running.now.heap heap t1 t2
 block-as old new h c b e key heap t1 t2 k =
-    subst (λ d. MadeBlock (code_of old) (inputs_of old) d key old.running.heap heap t1 t2) e
+    subst (λ d. MadeBlock (code_of old) (inputs_of old) d key old.running.now.heap heap t1 t2) e
     (subst (λ z. MadeBlock (code_of old) (inputs_of old) c key z heap t1 t2) h.heap
-    (subst (λ z. MadeBlock (code_of old) z c key new.running.heap heap t1 t2) (ap inputs_of h.rest)
-    (subst (λ z. MadeBlock z (inputs_of new) c key new.running.heap heap t1 t2) (ap code_of h.rest) k)))
+    (subst (λ z. MadeBlock (code_of old) z c key new.running.now.heap heap t1 t2) (ap inputs_of h.rest)
+    (subst (λ z. MadeBlock z (inputs_of new) c key new.running.now.heap heap t1 t2) (ap code_of h.rest) k)))
 
 pub alloc-behind : (old new : Repair) → IsStepped old new → (c : BlockId) (b : ℕ) → c ≡ Core b → (key : Key) (s : ℕ) (t2 t : Tables)
     → NodeMore new.cursor.0 s (Alloc c key) t2 t → NodeMore old.cursor.0 s (Alloc (Core b) key) t2 t

@@ -10,12 +10,12 @@ use Rattle.ceal_repair.specs.declared.repair.Repair.{Repair}
 
 -- what a unit does next, where its step was taken from its stack, and then what the step is for
 pub acts-over : (old mid new : Repair) (s t : CodeStep) (b : Act) (below : Stack) → mid ≡ record old { stack = mid.stack }
-    → next_in old (stack_in old.stack) ≡ step_of mid s → s ≡ t → new ≡ record mid { stack = new.stack; args = new.args } → step_of mid t ≡ act_in b below
+    → next_in old (stack_in old.stack.now) ≡ step_of mid s → s ≡ t → new ≡ record mid { stack = new.stack; args = new.args } → step_of mid t ≡ act_in b below
     → (start : Start) → Runs start old → ActsOver start b below new
 acts-over old mid new s t b below rest does is last taken start runs =
     let all : new ≡ record old { stack = new.stack; args = new.args } = last ∙ ap (λ (r : Repair). record r { stack = new.stack; args = new.args }) rest in
     record {
-      stack = stack_in old.stack;
-      now = subst (λ r. RunsAt start (stack_in old.stack) r) (sym all) runs;
-      does = subst (λ r. next_in r (stack_in old.stack) ≡ act_in b below) (sym all) (does ∙ (ap (λ u. step_of mid u) is ∙ taken));
+      stack = stack_in old.stack.now;
+      now = subst (λ r. RunsAt start (stack_in old.stack.now) r) (sym all) runs;
+      does = subst (λ r. next_in r (stack_in old.stack.now) ≡ act_in b below) (sym all) (does ∙ (ap (λ u. step_of mid u) is ∙ taken));
     }

@@ -21,43 +21,47 @@ use Rattle.ceal_trace.specs.declared.node.Node.{Node}
 
 -- a repair whose run keeps this, with these units and frames
 abbrev pub with_parts : Repair → Running → CodeStack → Vec Frame → Repair
-with_parts r running stack frames = record r { running = running; stack = stack; frames = frames }
+with_parts r running stack frames = record r {
+  running = record r.running { now = running };
+  stack = record r.stack { now = stack };
+  frames = record r.frames { now = frames };
+}
 
 -- where a unit runs the cursor is at a node
 pub running-here : (start : Start) (st : Stack) (r : Repair) → RunsAt start st r → has_node (view r).cursor (view r).tables.trace.nodes ≡ true
 running-here start st r now = cursor-here start (view r) now.reads (entries now.left ++ now.tail) now.placed
 
 pub runs-as : (code : Code) (inputs : List Block) (start : Start) (st : Stack) (v : View) (r : Repair) → RunningNow code inputs start st v
-    → code_of r ≡ code → inputs_of r ≡ inputs → stack_in r.stack ≡ st → view r ≡ v → RunsAt start (stack_in r.stack) r
+    → code_of r ≡ code → inputs_of r ≡ inputs → stack_in r.stack.now ≡ st → view r ≡ v → RunsAt start (stack_in r.stack.now) r
 runs-as code inputs start st v r now c i s w =
-    subst (λ code. RunningNow code (inputs_of r) start (stack_in r.stack) (view r)) (sym c)
-    (subst (λ inputs. RunningNow code inputs start (stack_in r.stack) (view r)) (sym i)
+    subst (λ code. RunningNow code (inputs_of r) start (stack_in r.stack.now) (view r)) (sym c)
+    (subst (λ inputs. RunningNow code inputs start (stack_in r.stack.now) (view r)) (sym i)
     (subst (λ st. RunningNow code inputs start st (view r)) (sym s)
     (subst (λ v. RunningNow code inputs start st v) (sym w) now)))
 
 -- one step more was run anew
 pub record IsStepped (old new : Repair) : Type 0 where
   pub rest : new ≡ record old { running = new.running }
-  pub heap : new.running.heap ≡ old.running.heap
-  pub spent : new.running.spent ≡ old.running.spent + 1
-  pub more : StepMore old.cursor.0 old.running.tables new.running.tables
+  pub heap : new.running.now.heap ≡ old.running.now.heap
+  pub spent : new.running.now.spent ≡ old.running.now.spent + 1
+  pub more : StepMore old.cursor.0 old.running.now.tables new.running.now.tables
 
 pub stepped-view : (old new : Repair) → IsStepped old new
-    → view new ≡ record { tables = new.running.tables; heap = (view old).heap; spent = (view old).spent + 1; cursor = (view old).cursor; limit = (view old).limit; frames = (view old).frames }
+    → view new ≡ record { tables = new.running.now.tables; heap = (view old).heap; spent = (view old).spent + 1; cursor = (view old).cursor; limit = (view old).limit; frames = (view old).frames }
 stepped-view old new h = ap view h.rest
-    ∙ ap₂ (λ (heap : Contents) (n : ℕ). record { tables = new.running.tables; heap = heap; spent = n; cursor = (view old).cursor; limit = (view old).limit; frames = (view old).frames }) h.heap h.spent
+    ∙ ap₂ (λ (heap : Contents) (n : ℕ). record { tables = new.running.now.tables; heap = heap; spent = n; cursor = (view old).cursor; limit = (view old).limit; frames = (view old).frames }) h.heap h.spent
 
 pub cursor-kept : (old new : Repair) → IsStepped old new → new.cursor.0 ≡ old.cursor.0
 cursor-kept old new h = ap (λ (r : Repair). r.cursor.0) h.rest
 
-pub stepped-here : (start : Start) (st : Stack) (old new : Repair) → RunsAt start st old → IsStepped old new → has_node new.cursor.0 new.running.tables.trace.nodes ≡ true
+pub stepped-here : (start : Start) (st : Stack) (old new : Repair) → RunsAt start st old → IsStepped old new → has_node new.cursor.0 new.running.now.tables.trace.nodes ≡ true
 stepped-here start st old new now h =
-    subst (λ s. has_node s new.running.tables.trace.nodes ≡ true) (sym (cursor-kept old new h))
-    (here-next (code_of old) (inputs_of old) start st (view old) now new.running.tables h.more)
+    subst (λ s. has_node s new.running.now.tables.trace.nodes ≡ true) (sym (cursor-kept old new h))
+    (here-next (code_of old) (inputs_of old) start st (view old) now new.running.now.tables h.more)
 
 -- a node that was put in behind the cursor
-pub node-behind : (old new : Repair) → IsStepped old new → (s : ℕ) (node : Node) (t : Tables) → NodeMore new.cursor.0 s node new.running.tables t → NodeMore old.cursor.0 s node new.running.tables t
-node-behind old new h s node t k = subst (λ c. NodeMore c s node new.running.tables t) (cursor-kept old new h) k
+pub node-behind : (old new : Repair) → IsStepped old new → (s : ℕ) (node : Node) (t : Tables) → NodeMore new.cursor.0 s node new.running.now.tables t → NodeMore old.cursor.0 s node new.running.now.tables t
+node-behind old new h s node t k = subst (λ c. NodeMore c s node new.running.now.tables t) (cursor-kept old new h) k
 
 pub put-view : (old new : Repair) → IsStepped old new → (t : Tables) (s : ℕ)
     → ◌≡◌ {A = View} (record { tables = t; heap = (view new).heap; spent = (view new).spent; cursor = s; limit = (view new).limit; frames = (view new).frames })
@@ -68,14 +72,14 @@ reverse-more : {A : Type 0} (xs : List A) (x : A) → reverse (xs ++ x ∷ []) �
 reverse-more xs x = reverse-append xs (x ∷ [])
 
 -- a frame that was put on the others
-pub begun-view : (old new : Repair) → IsStepped old new → (t : Tables) (s : ℕ) (f : Frame) (fs : List Frame) → fs ≡ new.frames.items ++ f ∷ []
+pub begun-view : (old new : Repair) → IsStepped old new → (t : Tables) (s : ℕ) (f : Frame) (fs : List Frame) → fs ≡ new.frames.now.items ++ f ∷ []
     → ◌≡◌ {A = View} (record { tables = t; heap = (view new).heap; spent = (view new).spent; cursor = s; limit = (view new).limit; frames = reverse fs })
     (record { tables = t; heap = (view old).heap; spent = (view old).spent + 1; cursor = s; limit = (view old).limit; frames = f ∷ (view old).frames })
 begun-view old new h t s f fs e =
-    ap (λ (gs : List Frame). record { tables = t; heap = (view new).heap; spent = (view new).spent; cursor = s; limit = (view new).limit; frames = gs }) (ap reverse e ∙ reverse-more new.frames.items f)
+    ap (λ (gs : List Frame). record { tables = t; heap = (view new).heap; spent = (view new).spent; cursor = s; limit = (view new).limit; frames = gs }) (ap reverse e ∙ reverse-more new.frames.now.items f)
     ∙ ap (λ (w : View). record { tables = t; heap = w.heap; spent = w.spent; cursor = s; limit = w.limit; frames = f ∷ w.frames }) (stepped-view old new h)
 
-pub made-view : (old new : Repair) → IsStepped old new → (t : Tables) (heap : Contents) (n s : ℕ) → n ≡ new.running.spent
+pub made-view : (old new : Repair) → IsStepped old new → (t : Tables) (heap : Contents) (n s : ℕ) → n ≡ new.running.now.spent
     → ◌≡◌ {A = View} (record { tables = t; heap = heap; spent = n; cursor = s; limit = (view new).limit; frames = (view new).frames })
     (record { tables = t; heap = heap; spent = (view old).spent + 1; cursor = s; limit = (view old).limit; frames = (view old).frames })
 made-view old new h t heap n s e =

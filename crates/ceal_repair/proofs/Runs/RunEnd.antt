@@ -110,10 +110,10 @@ module _ (code : Code) (inputs : List Block) (f : ℕ) (args : List Word) (fits 
 
 -- a repair that is over, whose revoked blocks were taken away
 module _ (code : Code) (inputs : List Block) (f : ℕ) (args : List Word) (fits : Fits code inputs f args) (laws : ChosenLaws code) (r : Repair) (same_code : code_of r ≡ code) (same_inputs : inputs_of r ≡ inputs) (fuel : ℕ) where
-  pub first-done : IsOver (first_start code inputs f args) r → (view r).spent ≤ fuel → (run : Running) → run.tables ≡ r.running.tables → run.spent ≡ r.running.spent → ReleasesRevoked r.running.heap run.heap
+  pub first-done : IsOver (first_start code inputs f args) r → (view r).spent ≤ fuel → (run : Running) → run.tables ≡ r.running.now.tables → run.spent ≡ r.running.now.spent → ReleasesRevoked r.running.now.heap run.heap
       → HasSlots run.heap → IsFirstRun code inputs f args fuel run
   first-done over few run tables spent rel slots =
       first-run code inputs f args fits laws over.stack (view r) (rw (same_code, same_inputs) at over.now) (rw (same_code, same_inputs) at over.over) (ap (λ fs. reverse fs) over.last) run tables spent rel slots fuel few
 
   pub first-out : Runs (first_start code inputs f args) r → fuel < (view r).spent → fresh code f args inputs fuel ≡ None
-  first-out runs more = first-over code inputs f args fits laws (stack_in r.stack) (view r) (rw (same_code, same_inputs) at runs) fuel more
+  first-out runs more = first-over code inputs f args fits laws (stack_in r.stack.now) (view r) (rw (same_code, same_inputs) at runs) fuel more

@@ -133,7 +133,7 @@ module _ (code : Code) (inputs : List Block) (f : ℕ) (args : List Word) (fits 
     (nodes : run.tables.trace.nodes ≡ new_entry 0 Root ∷ []) (queue : run.tables.stale.stamps ≡ []) (kept : Kept run.tables) (empty : IsNew run.heap) (has : HasBases code.structs inputs run.heap run.tables.mods)
     (spent : run.spent ≡ 0) where
   pub begun : (r : Repair) → code_of r ≡ code → inputs_of r ≡ inputs → (view r).tables ≡ run.tables → (view r).heap ≡ run.heap → (view r).spent ≡ run.spent → (view r).frames ≡ [] → (view r).limit ≡ None
-      → stack_in r.stack ≡ started code f args → head_of (stamps_in run.tables.trace.nodes) ≡ Some (view r).cursor → Runs (first_start code inputs f args) r
+      → stack_in r.stack.now ≡ started code f args → head_of (stamps_in run.tables.trace.nodes) ≡ Some (view r).cursor → Runs (first_start code inputs f args) r
   begun r same_code same_inputs tables heap work frames limit stack cursor =
       rw (same_code, same_inputs, stack)
       (starts code inputs f args fits chosen knowing (view r) (rw tables nodes) (rw tables queue) (rw tables kept) (rw heap empty) (rw (tables, heap) has) (rw work spent) (cursor-first run.tables.trace.nodes (view r).cursor nodes cursor)

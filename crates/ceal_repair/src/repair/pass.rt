@@ -67,7 +67,8 @@ impl<'a> Repair<'a> {
             None => unreachable!(),
         };
         self.running.tables.set_steps(read, 0);
-        unit_at(&mut self.stack, self.code, &self.running.tables.trace, read)?;
+        let trace = &self.running.tables.trace;
+        unit_at(self.stack, self.code, trace, read)?;
         self.limit = self.running.tables.trace.end_of(read);
         self.cursor = read;
         self.frames.push(Frame::Kept { until })?;

@@ -98,10 +98,8 @@ impl<'a> Repair<'a> {
             var,
             args,
         };
-        let begun = self
-            .running
-            .tables
-            .begin_read(self.alloc, self.cursor, &key)?;
+        let running = &mut *self.running;
+        let begun = running.tables.begin_read(self.alloc, self.cursor, &key)?;
         self.cursor = begun.read;
         let below = self.stack.set_aside()?;
         let next = Continuation { unit, var, args };

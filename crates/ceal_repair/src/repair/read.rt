@@ -64,6 +64,7 @@ impl<'a> Repair<'a> {
         match self.limit {
             None => None,
             Some(limit) => {
+                let tables = &self.running.tables;
                 let args = self.args.as_slice();
                 let key = ReadKey {
                     place: reading.place,
@@ -71,7 +72,6 @@ impl<'a> Repair<'a> {
                     var: reading.var,
                     args,
                 };
-                let tables = &self.running.tables;
                 tables.find_read(&key, self.cursor, limit)
             }
         }

@@ -56,7 +56,8 @@ impl<'a> Repair<'a> {
         listed_law();
         ready_law();
         turn_known_law();
-        unit_at(&mut self.stack, self.code, &self.running.tables.trace, read)?;
+        let trace = &self.running.tables.trace;
+        unit_at(self.stack, self.code, trace, read)?;
         self.limit = self.running.tables.trace.end_of(read);
         self.running.tables.set_steps(read, 0);
         self.cursor = read;

@@ -1,4 +1,4 @@
-use Rattle.std.proofs.Common.{ap, ◌∙◌}
+use Rattle.std.proofs.Common.{◌≡◌, ap, ◌∙◌, rules}
 use Rattle.ceal_repair.proofs.Runs.RunEnd.{first-done, first-out}
 use Rattle.ceal_repair.proofs.Runs.RunStart.{begun}
 use Rattle.ceal_repair.proofs.first.first.Goals as goal
@@ -7,33 +7,34 @@ use Rattle.ceal_repair.specs.declared.running.Running.{Running}
 
 pub complete-requires : goal.complete-requires
 complete-requires c =
-    let r = c.first-repair.ensures in
+    let r = c.at_root-repair.ensures in
     let e = c.in_ok-running.ensures in
     let runs = begun c.args.code.now c.args.inputs.now c.args.function c.args.args.now c.requires.fits (c.chosen_law.ensures.law c.args.code.now) (c.known_law.ensures.law c.args.code.now) c.in_ok-running.running e.nodes e.queue
-    e.kept e.heap e.bases e.spent c.first-repair.result r.code r.inputs r.view r.heap r.spent r.frames r.limit (r.stack ∙ c.in_ok-stack.ensures.started) r.cursor in
+    e.kept e.heap e.bases e.spent c.at_root-repair.result r.code r.inputs r.view r.heap r.spent r.frames r.limit (r.stack ∙ c.in_ok-room.ensures.started) r.cursor in
     record { runs = (first_start c.args.code.now c.args.inputs.now c.args.function c.args.args.now, runs) }
 
 pub returns-in-Ok-true : goal.returns-in-Ok-true
 returns-in-Ok-true c =
-    let r = c.first-repair.ensures in
+    let r = c.at_root-repair.ensures in
     let e = c.in_ok-running.ensures in
     let runs = begun c.args.code.now c.args.inputs.now c.args.function c.args.args.now c.requires.fits (c.chosen_law.ensures.law c.args.code.now) (c.known_law.ensures.law c.args.code.now) c.in_ok-running.running e.nodes e.queue
-    e.kept e.heap e.bases e.spent c.first-repair.result r.code r.inputs r.view r.heap r.spent r.frames r.limit (r.stack ∙ c.in_ok-stack.ensures.started) r.cursor in
+    e.kept e.heap e.bases e.spent c.at_root-repair.result r.code r.inputs r.view r.heap r.spent r.frames r.limit (r.stack ∙ c.in_ok-room.ensures.started) r.cursor in
+    let back : c.running-3-1.given.0 ≡ c.complete.new.repair.running.now = search (rules, r.place, c.in-Ok-true.ensures.call.place) in
     let done = rw c.in-Ok-true.field-0-test at (c.in-Ok-true.ensures.done (first_start c.args.code.now c.args.inputs.now c.args.function c.args.args.now) runs) in
     let same = c.in-Ok-true.ensures.call in
     record {
       first =
           first-done c.args.code.now c.args.inputs.now c.args.function c.args.args.now c.requires.fits (c.chosen_law.ensures.law c.args.code.now) c.complete.new.repair (same.code ∙ r.code) (same.inputs ∙ r.inputs) c.args.fuel
-          done.0 done.1 (record { tables = c.into_running-running.result.tables; heap = c.release_revoked.new.self; spent = c.into_running-running.result.spent }) (ap (λ (run : Running). run.tables) c.into_running-running.ensures)
-          (ap (λ (run : Running). run.spent) c.into_running-running.ensures) (rw c.into_running-running.ensures at c.release_revoked.ensures.released) c.release_revoked.ensures.slots;
+          done.0 done.1 (record { tables = c.running-3-1.given.0.tables; heap = c.release_revoked.new.self; spent = c.running-3-1.given.0.spent }) (ap (λ (run : Running). run.tables) back)
+          (ap (λ (run : Running). run.spent) back) (rw back at c.release_revoked.ensures.released) c.release_revoked.ensures.slots;
     }
 
 pub returns-in-Ok-false : goal.returns-in-Ok-false
 returns-in-Ok-false c =
-    let r = c.first-repair.ensures in
+    let r = c.at_root-repair.ensures in
     let e = c.in_ok-running.ensures in
     let runs = begun c.args.code.now c.args.inputs.now c.args.function c.args.args.now c.requires.fits (c.chosen_law.ensures.law c.args.code.now) (c.known_law.ensures.law c.args.code.now) c.in_ok-running.running e.nodes e.queue
-    e.kept e.heap e.bases e.spent c.first-repair.result r.code r.inputs r.view r.heap r.spent r.frames r.limit (r.stack ∙ c.in_ok-stack.ensures.started) r.cursor in
+    e.kept e.heap e.bases e.spent c.at_root-repair.result r.code r.inputs r.view r.heap r.spent r.frames r.limit (r.stack ∙ c.in_ok-room.ensures.started) r.cursor in
     let done = rw c.in-Ok-false.field-0-test at (c.in-Ok-false.ensures.done (first_start c.args.code.now c.args.inputs.now c.args.function c.args.args.now) runs) in
     let same = c.in-Ok-false.ensures.call in
     record {

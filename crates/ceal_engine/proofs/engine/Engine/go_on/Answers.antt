@@ -1,91 +1,133 @@
-use Rattle.std.proofs.Common.{◌≡◌, ◌∙◌, true, None, sym, subst}
+use Rattle.std.proofs.Common.{◌≡◌, ◌∙◌, true, None, Some, refl, sym, subst}
 use Rattle.std.proofs.lemmas.Result.{err_from_is_err_and}
-use Rattle.ceal_engine.proofs.Carrying.{some-open, open-run, keeps-more, keeps-done, goes-on, ends, some-reads, keeps-words, no-slice, is-out, fresh-out, anew-comes}
+use Rattle.ceal_engine.proofs.Carrying.{some-open, open-run, open-part, slice-for, keeps-more, keeps-done, goes-on, ends, some-reads, keeps-words, no-slice, is-out, fresh-out, anew-comes}
+use Rattle.ceal_engine.proofs.Keeping.{sound-kept, sound-part, sound-dropped}
+use Rattle.ceal_engine.proofs.Present.{sound-present}
+use Rattle.ceal_engine.specs.Completed.{finished, under_way}
 use Rattle.ceal_engine.specs.Engine.{has_run}
 use Rattle.ceal_engine.specs.Partial.{CarriesFrom, GoesOn, Ends, IsOut, KeepsWords}
+use Rattle.ceal_engine.specs.declared.phase.Phase.TheVariants.{Finished}
 use Rattle.ceal_theory.specs.Repair.{own}
-use Rattle.ceal_theory.specs.Slices.{sliced}
+use Rattle.ceal_theory.specs.Slices.{sliced as sliced_repair}
 use Rattle.ceal_engine.proofs.engine.Engine.go_on.Goals as goal
 
 pub unreachable-requires : goal.unreachable-requires
 unreachable-requires c =
     let v = c.self.inside in
-    some-open v.code v.fuel v.inputs v.phase v.call.call v.running c.self.invariant.keeps (subst (λ e. has_run e.phase ≡ true) (sym c.self.view_is) c.requires.run)
-    (sym c.reopen.ensures ∙ (sym c.take.ensures.value ∙ c.in-None.is))
+    some-open v.code v.fuel v.inputs v.phase v.call.call v.running c.self.invariant.keeps (subst (λ e. has_run e.phase ≡ true) (sym c.self.view_is) c.requires.run) (sym c.reopen.ensures ∙ c.in-None.is)
 
-pub sliced-requires : goal.sliced-requires
-sliced-requires c =
+pub slice-requires-clause-part : goal.slice-requires-clause-part
+slice-requires-clause-part c =
     let v = c.self.inside in
-    let is = sym c.reopen.ensures ∙ (sym c.take.ensures.value ∙ c.in-Some.is) in
-    record { ready = open-run v.code v.fuel v.inputs v.phase v.call.call v.running c.self.invariant.keeps c.in-Some.old is; some = c.requires.some }
+    let is = sym c.reopen.ensures ∙ c.in-Some.is in
+    open-part v.code v.fuel v.inputs v.call.call c.in-Some.run' (open-run v.code v.fuel v.inputs v.phase v.call.call v.running c.self.invariant.keeps c.in-Some.run' is)
 
-pub keep_part-requires : goal.keep_part-requires
-keep_part-requires c =
+pub invariant_of-self : goal.invariant_of-self
+invariant_of-self c =
     let v = c.self.inside in
-    let is = sym c.reopen.ensures ∙ (sym c.take.ensures.value ∙ c.in-Some.is) in
-    record { kept = keeps-more v.code v.fuel v.inputs v.phase v.call.call v.running c.self.invariant.keeps c.in-Some.old is c.args.reads c.in_ok-sliced-in-Some.sliced c.in_ok-sliced-in-Some.ensures.ok c.in-More.run' c.in-More.is }
+    let is = sym c.reopen.ensures ∙ c.in-Some.is in
+    let run = c.slice.new.running in
+    let sliced = slice-for v.code v.fuel v.inputs v.call.call c.args.reads c.in-Some.run' run c.in-Ok-More.field-0 c.in-Ok-More.ensures.sliced in
+    sound-part v.code v.fuel v.inputs v.call v.phase v.running run c.self.invariant (keeps-more v.code v.fuel v.inputs v.phase v.call.call v.running c.self.invariant.keeps c.in-Some.run' is c.args.reads run c.in-Ok-More.field-0 sliced c.in-Ok-More.field-0-is)
 
-pub keep-requires : goal.keep-requires
-keep-requires c =
+pub invariant_of-self-in-Ok-Done : goal.invariant_of-self-in-Ok-Done
+invariant_of-self-in-Ok-Done c =
     let v = c.self.inside in
-    let is = sym c.reopen.ensures ∙ (sym c.take.ensures.value ∙ c.in-Some.is) in
-    record { kept = keeps-done v.code v.fuel v.inputs v.phase v.call.call v.running c.self.invariant.keeps c.in-Some.old is c.args.reads c.in_ok-sliced-in-Some.sliced c.in_ok-sliced-in-Some.ensures.ok c.in-Done.run' c.in-Done.is }
+    let is = sym c.reopen.ensures ∙ c.in-Some.is in
+    let run = c.slice.new.running in
+    let sliced = slice-for v.code v.fuel v.inputs v.call.call c.args.reads c.in-Some.run' run c.in-Ok-Done.field-0 c.in-Ok-Done.ensures.sliced in
+    sound-kept v.code v.fuel v.inputs v.call v.phase v.running run c.self.invariant (keeps-done v.code v.fuel v.inputs v.phase v.call.call v.running c.self.invariant.keeps c.in-Some.run' is c.args.reads run c.in-Ok-Done.field-0 sliced c.in-Ok-Done.field-0-is)
 
-pub returns-in-More-clause-comes : goal.returns-in-More-clause-comes
-returns-in-More-clause-comes c = λ next r carries.
+pub invariant_of-self-in-Ok-Spent : goal.invariant_of-self-in-Ok-Spent
+invariant_of-self-in-Ok-Spent c =
     let v = c.self.inside in
-    let is = sym c.reopen.ensures ∙ (sym c.take.ensures.value ∙ c.in-Some.is) in
-    subst (λ n. GoesOn c.args.self.now n c.args.reads next r) (sym c.keep_part.ensures.state)
-    (subst (λ e. (CarriesFrom e next r → GoesOn e (Rattle.ceal_engine.specs.Completed.under_way v.code v.fuel v.inputs v.call.call c.in-More.run') c.args.reads next r)) c.self.view_is
-    (goes-on v.code v.fuel v.inputs v.phase v.call.call v.running c.self.invariant.keeps c.in-Some.old is c.args.reads c.in_ok-sliced-in-Some.sliced c.in_ok-sliced-in-Some.ensures.ok c.in-More.run' c.in-More.is next r) carries)
+    rw c.give_up.ensures (sound-dropped v.code v.fuel v.inputs v.call v.phase v.running (subst (λ e. has_run e.phase ≡ true) (sym c.self.view_is) c.requires.run) c.self.invariant)
 
-pub returns-in-More-clause-more : goal.returns-in-More-clause-more
-returns-in-More-clause-more c = λ e.
+pub invariant_of-self-in-Ok-OutOfFuel : goal.invariant_of-self-in-Ok-OutOfFuel
+invariant_of-self-in-Ok-OutOfFuel c =
     let v = c.self.inside in
-    let is = sym c.reopen.ensures ∙ (sym c.take.ensures.value ∙ c.in-Some.is) in
-    some-reads v.code v.fuel v.inputs v.phase v.call.call v.running c.self.invariant.keeps c.in-Some.old is c.args.reads c.in_ok-sliced-in-Some.sliced c.in_ok-sliced-in-Some.ensures.ok c.in-More.run' c.in-More.is
+    rw c.give_up-in-Ok-OutOfFuel.ensures (sound-dropped v.code v.fuel v.inputs v.call v.phase v.running (subst (λ e. has_run e.phase ≡ true) (sym c.self.view_is) c.requires.run) c.self.invariant)
 
-pub returns-in-More-clause-revoked_stay : goal.returns-in-More-clause-revoked_stay
-returns-in-More-clause-revoked_stay c = λ e.
+pub invariant_of-self-in-Err : goal.invariant_of-self-in-Err
+invariant_of-self-in-Err c =
     let v = c.self.inside in
-    let is = sym c.reopen.ensures ∙ (sym c.take.ensures.value ∙ c.in-Some.is) in
-    subst (λ n. KeepsWords c.args.self.now.heap n.heap) (sym c.keep_part.ensures.state)
-    (subst (λ e. KeepsWords e.heap (Rattle.std.specs.Prelude.Some c.in-More.run'.heap)) c.self.view_is (keeps-words v.code v.fuel v.inputs v.phase v.call.call v.running c.self.invariant.keeps c.in-Some.old is c.args.reads c.in_ok-sliced-in-Some.sliced c.in_ok-sliced-in-Some.ensures.ok c.in-More.run' c.in-More.is))
+    rw c.give_up-in-Err.ensures (sound-dropped v.code v.fuel v.inputs v.call v.phase v.running (subst (λ e. has_run e.phase ≡ true) (sym c.self.view_is) c.requires.run) c.self.invariant)
 
-pub returns-in-Done-clause-comes : goal.returns-in-Done-clause-comes
-returns-in-Done-clause-comes c = λ next r carries.
+pub returns-in-Ok-More-clause-comes : goal.returns-in-Ok-More-clause-comes
+returns-in-Ok-More-clause-comes c = λ next r carries.
     let v = c.self.inside in
-    let is = sym c.reopen.ensures ∙ (sym c.take.ensures.value ∙ c.in-Some.is) in
-    subst (λ n. Ends c.args.self.now n c.args.reads next r) (sym c.keep.ensures.state)
-    (subst (λ e. (CarriesFrom e next r → Ends e (Rattle.ceal_engine.specs.Completed.finished v.code v.fuel v.inputs v.call.call c.in-Done.run') c.args.reads next r)) c.self.view_is
-    (ends v.code v.fuel v.inputs v.phase v.call.call v.running c.self.invariant.keeps c.in-Some.old is c.args.reads c.in_ok-sliced-in-Some.sliced c.in_ok-sliced-in-Some.ensures.ok c.in-Done.run' c.in-Done.is next r) carries)
+    let is = sym c.reopen.ensures ∙ c.in-Some.is in
+    let run = c.slice.new.running in
+    let sliced = slice-for v.code v.fuel v.inputs v.call.call c.args.reads c.in-Some.run' run c.in-Ok-More.field-0 c.in-Ok-More.ensures.sliced in
+    subst (λ e. (CarriesFrom e next r → GoesOn e (under_way v.code v.fuel v.inputs v.call.call run) c.args.reads next r)) c.self.view_is
+    (goes-on v.code v.fuel v.inputs v.phase v.call.call v.running c.self.invariant.keeps c.in-Some.run' is c.args.reads run c.in-Ok-More.field-0 sliced c.in-Ok-More.field-0-is next r) carries
 
-pub returns-in_ok-run_anew-in-Spent-clause-comes : goal.returns-in_ok-run_anew-in-Spent-clause-comes
-returns-in_ok-run_anew-in-Spent-clause-comes c = λ next r carries.
+pub returns-in-Ok-More-clause-more : goal.returns-in-Ok-More-clause-more
+returns-in-Ok-More-clause-more c = λ e.
     let v = c.self.inside in
-    let is = sym c.reopen.ensures ∙ (sym c.take.ensures.value ∙ c.in-Some.is) in
+    let is = sym c.reopen.ensures ∙ c.in-Some.is in
+    let run = c.slice.new.running in
+    let sliced = slice-for v.code v.fuel v.inputs v.call.call c.args.reads c.in-Some.run' run c.in-Ok-More.field-0 c.in-Ok-More.ensures.sliced in
+    some-reads v.code v.fuel v.inputs v.phase v.call.call v.running c.self.invariant.keeps c.in-Some.run' is c.args.reads run c.in-Ok-More.field-0 sliced c.in-Ok-More.field-0-is
+
+pub returns-in-Ok-More-clause-revoked_stay : goal.returns-in-Ok-More-clause-revoked_stay
+returns-in-Ok-More-clause-revoked_stay c = λ e.
+    let v = c.self.inside in
+    let is = sym c.reopen.ensures ∙ c.in-Some.is in
+    let run = c.slice.new.running in
+    let sliced = slice-for v.code v.fuel v.inputs v.call.call c.args.reads c.in-Some.run' run c.in-Ok-More.field-0 c.in-Ok-More.ensures.sliced in
+    subst (λ e. KeepsWords e.heap (Some run.heap)) c.self.view_is (keeps-words v.code v.fuel v.inputs v.phase v.call.call v.running c.self.invariant.keeps c.in-Some.run' is c.args.reads run c.in-Ok-More.field-0 sliced c.in-Ok-More.field-0-is)
+
+pub returns-in-Ok-Done-clause-comes : goal.returns-in-Ok-Done-clause-comes
+returns-in-Ok-Done-clause-comes c = λ next r carries.
+    let v = c.self.inside in
+    let is = sym c.reopen.ensures ∙ c.in-Some.is in
+    let run = c.slice.new.running in
+    let sliced = slice-for v.code v.fuel v.inputs v.call.call c.args.reads c.in-Some.run' run c.in-Ok-Done.field-0 c.in-Ok-Done.ensures.sliced in
+    subst (λ e. (CarriesFrom e next r → Ends e (finished v.code v.fuel v.inputs v.call.call run) c.args.reads next r)) c.self.view_is
+    (ends v.code v.fuel v.inputs v.phase v.call.call v.running c.self.invariant.keeps c.in-Some.run' is c.args.reads run c.in-Ok-Done.field-0 sliced c.in-Ok-Done.field-0-is next r) carries
+
+pub returns-in-Ok-Done-clause-present : goal.returns-in-Ok-Done-clause-present
+returns-in-Ok-Done-clause-present c = λ e.
+    let v = c.self.inside in
+    let is = sym c.reopen.ensures ∙ c.in-Some.is in
+    let run = c.slice.new.running in
+    let sliced = slice-for v.code v.fuel v.inputs v.call.call c.args.reads c.in-Some.run' run c.in-Ok-Done.field-0 c.in-Ok-Done.ensures.sliced in
+    sound-present v.code v.fuel v.inputs v.call Finished (Some run) (sound-kept v.code v.fuel v.inputs v.call v.phase v.running run c.self.invariant (keeps-done v.code v.fuel v.inputs v.phase v.call.call v.running c.self.invariant.keeps c.in-Some.run' is c.args.reads run c.in-Ok-Done.field-0 sliced c.in-Ok-Done.field-0-is)) refl
+
+pub returns-in_ok-run_anew-in-Ok-Spent-clause-comes : goal.returns-in_ok-run_anew-in-Ok-Spent-clause-comes
+returns-in_ok-run_anew-in-Ok-Spent-clause-comes c = λ next r carries.
+    let v = c.self.inside in
+    let is = sym c.reopen.ensures ∙ c.in-Some.is in
+    let run = c.slice.new.running in
+    let sliced = slice-for v.code v.fuel v.inputs v.call.call c.args.reads c.in-Some.run' run c.in-Ok-Spent.field-0 c.in-Ok-Spent.ensures.sliced in
     record {
-      none = subst (λ e. (CarriesFrom e next r → sliced e.code own e.inputs c.args.reads e.fuel r ≡ None)) c.self.view_is (no-slice v.code v.fuel v.inputs v.phase v.call.call v.running c.self.invariant.keeps c.in-Some.old is c.args.reads c.in_ok-sliced-in-Some.sliced c.in_ok-sliced-in-Some.ensures.ok c.in-Spent.is next r) carries;
-      first = c.in_ok-run_anew-in-Spent.ensures.first;
+      none = subst (λ e. (CarriesFrom e next r → sliced_repair e.code own e.inputs c.args.reads e.fuel r ≡ None)) c.self.view_is (no-slice v.code v.fuel v.inputs v.phase v.call.call v.running c.self.invariant.keeps c.in-Some.run' is c.args.reads run c.in-Ok-Spent.field-0 sliced c.in-Ok-Spent.field-0-is next r) carries;
+      first = c.in_ok-run_anew-in-Ok-Spent.ensures.first;
     }
 
-pub returns-in_err-run_anew-in-Spent-clause-comes : goal.returns-in_err-run_anew-in-Spent-clause-comes
-returns-in_err-run_anew-in-Spent-clause-comes c = λ next r carries.
+pub returns-in_err-run_anew-in-Ok-Spent-clause-comes : goal.returns-in_err-run_anew-in-Ok-Spent-clause-comes
+returns-in_err-run_anew-in-Ok-Spent-clause-comes c = λ next r carries.
     let v = c.self.inside in
-    let is = sym c.reopen.ensures ∙ (sym c.take.ensures.value ∙ c.in-Some.is) in
-    let error = err_from_is_err_and c.from_residual-in_err-run_anew-in-Spent.result c.from_residual-in_err-run_anew-in-Spent.ensures.1 in
+    let is = sym c.reopen.ensures ∙ c.in-Some.is in
+    let run = c.slice.new.running in
+    let sliced = slice-for v.code v.fuel v.inputs v.call.call c.args.reads c.in-Some.run' run c.in-Ok-Spent.field-0 c.in-Ok-Spent.ensures.sliced in
+    let error = err_from_is_err_and c.from_residual.result c.from_residual.ensures.1 in
     rw error.1
-    (anew-comes c.args.self.now c.run_anew.new.self c.args.reads next r
-    (subst (λ e. (CarriesFrom e next r → sliced e.code own e.inputs c.args.reads e.fuel r ≡ None)) c.self.view_is (no-slice v.code v.fuel v.inputs v.phase v.call.call v.running c.self.invariant.keeps c.in-Some.old is c.args.reads c.in_ok-sliced-in-Some.sliced c.in_ok-sliced-in-Some.ensures.ok c.in-Spent.is next r) carries) error.0)
+    (anew-comes c.args.self.now c.run_anew.new.self c.args.reads next r (subst (λ e. (CarriesFrom e next r → sliced_repair e.code own e.inputs c.args.reads e.fuel r ≡ None)) c.self.view_is (no-slice v.code v.fuel v.inputs v.phase v.call.call v.running c.self.invariant.keeps c.in-Some.run' is c.args.reads run c.in-Ok-Spent.field-0 sliced c.in-Ok-Spent.field-0-is next r) carries) error.0)
 
-pub returns-in-OutOfFuel-clause-comes : goal.returns-in-OutOfFuel-clause-comes
-returns-in-OutOfFuel-clause-comes c = λ next r carries.
+pub returns-in-Ok-OutOfFuel-clause-comes : goal.returns-in-Ok-OutOfFuel-clause-comes
+returns-in-Ok-OutOfFuel-clause-comes c = λ next r carries.
     let v = c.self.inside in
-    let is = sym c.reopen.ensures ∙ (sym c.take.ensures.value ∙ c.in-Some.is) in
-    subst (λ e. (CarriesFrom e next r → IsOut e c.args.reads r)) c.self.view_is (is-out v.code v.fuel v.inputs v.phase v.call.call v.running c.self.invariant.keeps c.in-Some.old is c.args.reads c.in_ok-sliced-in-Some.sliced c.in_ok-sliced-in-Some.ensures.ok c.in-OutOfFuel.is next r) carries
+    let is = sym c.reopen.ensures ∙ c.in-Some.is in
+    let run = c.slice.new.running in
+    let sliced = slice-for v.code v.fuel v.inputs v.call.call c.args.reads c.in-Some.run' run c.in-Ok-OutOfFuel.field-0 c.in-Ok-OutOfFuel.ensures.sliced in
+    subst (λ e. (CarriesFrom e next r → IsOut e c.args.reads r)) c.self.view_is (is-out v.code v.fuel v.inputs v.phase v.call.call v.running c.self.invariant.keeps c.in-Some.run' is c.args.reads run c.in-Ok-OutOfFuel.field-0 sliced c.in-Ok-OutOfFuel.field-0-is next r) carries
 
-pub returns-in-OutOfFuel-clause-out_of_fuel : goal.returns-in-OutOfFuel-clause-out_of_fuel
-returns-in-OutOfFuel-clause-out_of_fuel c =
+pub returns-in-Ok-OutOfFuel-clause-out_of_fuel : goal.returns-in-Ok-OutOfFuel-clause-out_of_fuel
+returns-in-Ok-OutOfFuel-clause-out_of_fuel c =
     let v = c.self.inside in
-    let is = sym c.reopen.ensures ∙ (sym c.take.ensures.value ∙ c.in-Some.is) in
-    fresh-out v.code v.fuel v.inputs v.phase v.call.call v.running c.self.invariant.keeps c.in-Some.old is c.args.reads c.in_ok-sliced-in-Some.sliced c.in_ok-sliced-in-Some.ensures.ok c.in-OutOfFuel.is
+    let is = sym c.reopen.ensures ∙ c.in-Some.is in
+    let run = c.slice.new.running in
+    let sliced = slice-for v.code v.fuel v.inputs v.call.call c.args.reads c.in-Some.run' run c.in-Ok-OutOfFuel.field-0 c.in-Ok-OutOfFuel.ensures.sliced in
+    fresh-out v.code v.fuel v.inputs v.phase v.call.call v.running c.self.invariant.keeps c.in-Some.run' is c.args.reads run c.in-Ok-OutOfFuel.field-0 sliced c.in-Ok-OutOfFuel.field-0-is

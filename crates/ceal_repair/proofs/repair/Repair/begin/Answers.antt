@@ -35,20 +35,20 @@ returns-clause-runs c = λ start a.
     let f = c.in_ok-begun.ensures in
     let p = c.args.reading.place in
     let word = c.in_ok-begun.begun.value in
-    let node : Node = Read p word c.args.reading.unit c.args.reading.var c.args.self.now.args.items in
+    let node : Node = Read p word c.args.reading.unit c.args.reading.var c.args.self.now.args.now.items in
     let words = c.as_slice-args.result.now in
-    let args-kept : words ≡ old.args.items = c.as_slice-args.ensures.value ∙ ap arguments_of h.rest in
-    let put : NodeMore new.cursor.0 read.0 (Read p word c.args.reading.unit c.args.reading.var words) new.running.tables c.begin_read.new.self = record { nodes = f.nodes; inserted = f.inserted; bases = f.bases; behind = f.behind; kept = f.kept } in
-    let k : NodeMore new.cursor.0 read.0 node new.running.tables c.begin_read.new.self =
-    subst (λ ws. NodeMore new.cursor.0 read.0 (Read p word c.args.reading.unit c.args.reading.var ws) new.running.tables c.begin_read.new.self) args-kept put in
+    let args-kept : words ≡ old.args.now.items = c.as_slice-args.ensures.value ∙ ap arguments_of h.rest in
+    let put : NodeMore new.cursor.0 read.0 (Read p word c.args.reading.unit c.args.reading.var words) new.running.now.tables c.begin_read.new.self = record { nodes = f.nodes; inserted = f.inserted; bases = f.bases; behind = f.behind; kept = f.kept } in
+    let k : NodeMore new.cursor.0 read.0 node new.running.now.tables c.begin_read.new.self =
+    subst (λ ws. NodeMore new.cursor.0 read.0 (Read p word c.args.reading.unit c.args.reading.var ws) new.running.now.tables c.begin_read.new.self) args-kept put in
     let below : Waits = c.in_ok-below.below in
-    let stack : stack_in old.stack ≡ waits_in below = sym (c.in_ok-below.ensures.aside ∙ ap (λ (r : Repair). stack_in r.stack) h.rest) in
+    let stack : stack_in old.stack.now ≡ waits_in below = sym (c.in_ok-below.ensures.aside ∙ ap (λ (r : Repair). stack_in r.stack.now) h.rest) in
     let code : new.code.now ≡ old.code.now = ap code_of h.rest in
-    runs-as (code_of old) (inputs_of old) start (resumed (code_of old) c.args.reading.unit c.args.reading.var c.args.self.now.args.items word) _
-    (record (with_parts new (record new.running { tables = c.begin_read.new.self }) c.resume.new.self c.push.new.self) { cursor = read })
-    (now-begin (code_of old) (inputs_of old) start a.stack (view old) a.now p c.args.reading.unit c.args.reading.var c.args.self.now.args.items below word new.running.tables c.begin_read.new.self read
-    (none-entered old start a.stack a.now (key_in (closure_in c.args.reading c.args.self.now.args.items)) c.requires.absent)
-    (a.does ∙ ap (λ (s : Stack). Reads p c.args.reading.unit c.args.reading.var c.args.self.now.args.items s) stack) h.more
+    runs-as (code_of old) (inputs_of old) start (resumed (code_of old) c.args.reading.unit c.args.reading.var c.args.self.now.args.now.items word) _
+    (record (with_parts new (record new.running.now { tables = c.begin_read.new.self }) c.resume.new.self c.push.new.self) { cursor = read })
+    (now-begin (code_of old) (inputs_of old) start a.stack (view old) a.now p c.args.reading.unit c.args.reading.var c.args.self.now.args.now.items below word new.running.now.tables c.begin_read.new.self read
+    (none-entered old start a.stack a.now (key_in (closure_in c.args.reading c.args.self.now.args.now.items)) c.requires.absent)
+    (a.does ∙ ap (λ (s : Stack). Reads p c.args.reading.unit c.args.reading.var c.args.self.now.args.now.items s) stack) h.more
     (rw (cursor-kept old new h) at f.value)
     (node-behind old new h read.0 node c.begin_read.new.self k) f.open)
     (ap code_of h.rest) (ap inputs_of h.rest)

@@ -11,27 +11,27 @@ pub unit_at-requires : goal.unit_at-requires
 unit_at-requires c =
     let old : Repair = c.args.self.now in
     let found = c.requires.found.3 in
-    let held = node-now (code_of old) (inputs_of old) c.requires.found.0 c.requires.found.1 c.requires.found.2 c.args.read.0 old.running c.listed_law.ensures.law c.ready_law.ensures.law c.turn_known_law.ensures.law found in
+    let held = node-now (code_of old) (inputs_of old) c.requires.found.0 c.requires.found.1 c.requires.found.2 c.args.read.0 old.running.now c.listed_law.ensures.law c.ready_law.ensures.law c.turn_known_law.ensures.law found in
     record { read = ap is_read held }
 
 pub end_of-self-requires : goal.end_of-self-requires
 end_of-self-requires c =
     let old : Repair = c.args.self.now in
-    let held = node-now (code_of old) (inputs_of old) c.requires.found.0 c.requires.found.1 c.requires.found.2 c.args.read.0 old.running c.listed_law.ensures.law c.ready_law.ensures.law c.turn_known_law.ensures.law c.requires.found.3 in
+    let held = node-now (code_of old) (inputs_of old) c.requires.found.0 c.requires.found.1 c.requires.found.2 c.args.read.0 old.running.now c.listed_law.ensures.law c.ready_law.ensures.law c.turn_known_law.ensures.law c.requires.found.3 in
     record { read = ap is_read held }
 
 pub set_steps-requires-clause-here : goal.set_steps-requires-clause-here
 set_steps-requires-clause-here c =
     let old : Repair = c.args.self.now in
-    let held = node-now (code_of old) (inputs_of old) c.requires.found.0 c.requires.found.1 c.requires.found.2 c.args.read.0 old.running c.listed_law.ensures.law c.ready_law.ensures.law c.turn_known_law.ensures.law c.requires.found.3 in
-    has-held c.args.read.0 _ old.running.tables.trace.nodes held
+    let held = node-now (code_of old) (inputs_of old) c.requires.found.0 c.requires.found.1 c.requires.found.2 c.args.read.0 old.running.now c.listed_law.ensures.law c.ready_law.ensures.law c.turn_known_law.ensures.law c.requires.found.3 in
+    has-held c.args.read.0 _ old.running.now.tables.trace.nodes held
 
 pub returns-clause-begins : goal.returns-clause-begins
 returns-clause-begins c = λ f args o found.
     let old : Repair = c.args.self.now in
     let s = c.set_steps.ensures in
-    turn-runs (code_of old) (inputs_of old) f args o c.args.read.0 old.running c.listed_law.ensures.law c.ready_law.ensures.law c.turn_known_law.ensures.law found
-    (record (with_parts old (record { tables = c.set_steps.new.self; heap = old.running.heap; spent = old.running.spent }) c.unit_at.new.stack old.frames) {
+    turn-runs (code_of old) (inputs_of old) f args o c.args.read.0 old.running.now c.listed_law.ensures.law c.ready_law.ensures.law c.turn_known_law.ensures.law found
+    (record (with_parts old (record { tables = c.set_steps.new.self; heap = old.running.now.heap; spent = old.running.now.spent }) c.unit_at.new.stack old.frames.now) {
       cursor = c.args.read;
       limit = c.end_of-self.result;
     })

@@ -39,9 +39,9 @@ returns-clause-runs c = λ start a.
     let r : Repair = c.args.self.now in
     let s : ℕ = c.in_ok-self.field-0.0 in
     let f = c.in_ok-self.ensures in
-    let k : NodeMore r.cursor.0 s (End c.args.read) r.running.tables c.finish_read.new.self =
+    let k : NodeMore r.cursor.0 s (End c.args.read) r.running.now.tables c.finish_read.new.self =
     record { nodes = f.nodes; inserted = f.inserted; bases = λ p. rw f.mods refl; behind = f.behind; kept = f.kept } in
     runs-as (code_of r) (inputs_of r) start (waits_in c.args.below) _
-    (record (with_parts r (record r.running { tables = c.finish_read.new.self }) c.bring_back.new.self r.frames) { cursor = c.in_ok-self.field-0 })
+    (record (with_parts r (record r.running.now { tables = c.finish_read.new.self }) c.bring_back.new.self r.frames.now) { cursor = c.in_ok-self.field-0 })
     (now-finish (code_of r) (inputs_of r) start a.stack (view r) c.args.below c.args.read a.now c.finish_read.new.self s a.over k)
     refl refl c.bring_back.ensures.back refl

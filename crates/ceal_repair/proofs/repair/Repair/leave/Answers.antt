@@ -53,9 +53,9 @@ returns-clause-runs c = λ start a.
     (first-is (code_of old) (inputs_of old) start a.stack (view old) c.args.below c.args.until a.now ∙ ap (λ (s : Stamp). Some s.0) same) in
     let nodes : c.set_steps.new.self.trace.nodes ≡ with_steps n.end 0 t1.trace.nodes = g.nodes ∙ ap (λ (s : Stamp). with_steps s.0 0 t1.trace.nodes) (sym same) in
     runs-as (code_of old) (inputs_of old) start (waits_in c.args.below)
-    (record { tables = c.set_steps.new.self; heap = c.cut_until.new.self.heap; spent = old.running.spent; cursor = n.end; limit = Some c.args.until; frames = (view old).frames })
-    (record (with_parts old (record { tables = c.set_steps.new.self; heap = c.cut_until.new.self.heap; spent = c.cut_until.new.self.spent }) c.bring_back.new.self old.frames) { cursor = c.in-Some.end; limit = Some c.args.until })
+    (record { tables = c.set_steps.new.self; heap = c.cut_until.new.self.heap; spent = old.running.now.spent; cursor = n.end; limit = Some c.args.until; frames = (view old).frames })
+    (record (with_parts old (record { tables = c.set_steps.new.self; heap = c.cut_until.new.self.heap; spent = c.cut_until.new.self.spent }) c.bring_back.new.self old.frames.now) { cursor = c.in-Some.end; limit = Some c.args.until })
     (now-leave (code_of old) (inputs_of old) start a.stack (view old) c.args.below c.args.until a.now t1 c.set_steps.new.self c.cut_until.new.self.heap a.over l f.bases f.blocks (f.has (code_of old) (inputs_of old)) f.kept
     nodes g.mods g.queue g.kept) refl refl c.bring_back.ensures.back
     (ap (λ (k : ℕ). record { tables = c.set_steps.new.self; heap = c.cut_until.new.self.heap; spent = k; cursor = c.in-Some.end.0; limit = Some c.args.until; frames = (view old).frames }) f.spent
-    ∙ ap (λ (s : Stamp). record { tables = c.set_steps.new.self; heap = c.cut_until.new.self.heap; spent = old.running.spent; cursor = s.0; limit = Some c.args.until; frames = (view old).frames }) (sym same))
+    ∙ ap (λ (s : Stamp). record { tables = c.set_steps.new.self; heap = c.cut_until.new.self.heap; spent = old.running.now.spent; cursor = s.0; limit = Some c.args.until; frames = (view old).frames }) (sym same))

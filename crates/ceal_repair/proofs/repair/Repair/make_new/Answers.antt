@@ -35,7 +35,7 @@ returns-clause-runs c = λ start a.
     let block : BlockId = c.in_ok-block.block in
     let f = c.in_ok-block.ensures in
     let b : ℕ = f.core.0 in
-    let made : MadeBlock (code_of new) (inputs_of new) block c.args.key new.running.heap c.make.new.self.heap new.running.tables c.make.new.self.tables =
+    let made : MadeBlock (code_of new) (inputs_of new) block c.args.key new.running.now.heap c.make.new.self.heap new.running.now.tables c.make.new.self.tables =
     record { unused = f.new; live = f.live; words = f.words; others = f.others; bases = f.bases; kept_bases = f.kept_bases; trace = f.trace; only = f.only; kept = f.kept } in
     let s : ℕ = c.in_ok-self.field-0.0 in
     let g = c.in_ok-self.ensures in
@@ -47,9 +47,9 @@ returns-clause-runs c = λ start a.
     c.in_ok-set.ensures.set ∙ (ap (λ (r : Repair). Run (top_of (stack_of r)).unit (top_of (stack_of r)).index (set (arguments (top_of (stack_of r)).env.items) c.args.var c.pointer_to-pointer.result) (below_in (stack_of r))) h.rest
     ∙ ap (λ w. Run unit.unit unit.index (set (arguments unit.env.items) c.args.var w) below) (c.pointer_to-pointer.ensures.value ∙ ap (pointer c.args.key) f.core.1)) in
     runs-as (code_of old) (inputs_of old) start (Run unit.unit unit.index (set (arguments unit.env.items) c.args.var (pointer c.args.key (Core b))) below) _
-    (record (with_parts new (record { tables = c.put_alloc.new.self; heap = c.make.new.self.heap; spent = c.make.new.self.spent }) c.set.new.self new.frames) { cursor = c.in_ok-self.field-0 })
-    (now-make (code_of old) (inputs_of old) start a.stack (view old) a.now b c.args.key c.make.new.self.heap new.running.tables c.make.new.self.tables c.put_alloc.new.self s h.more
-    (block-as old new h block b f.core.1 c.args.key c.make.new.self.heap new.running.tables c.make.new.self.tables made)
+    (record (with_parts new (record { tables = c.put_alloc.new.self; heap = c.make.new.self.heap; spent = c.make.new.self.spent }) c.set.new.self new.frames.now) { cursor = c.in_ok-self.field-0 })
+    (now-make (code_of old) (inputs_of old) start a.stack (view old) a.now b c.args.key c.make.new.self.heap new.running.now.tables c.make.new.self.tables c.put_alloc.new.self s h.more
+    (block-as old new h block b f.core.1 c.args.key c.make.new.self.heap new.running.now.tables c.make.new.self.tables made)
     (alloc-behind old new h block b f.core.1 c.args.key s c.make.new.self.tables c.put_alloc.new.self node)
     (none-left old start a.stack a.now c.args.key c.requires.absent) c.args.var unit.unit unit.index (arguments unit.env.items) below a.does)
     (ap code_of h.rest) (ap inputs_of h.rest) stack

@@ -26,7 +26,7 @@ pass_all-requires c =
       none = (
         start,
         record {
-          before = old.running.tables;
+          before = old.running.now.tables;
           until = a.0;
           now = a.1;
           trace = e.none;
@@ -47,7 +47,7 @@ repair_inside-requires c =
       stale = (
         start,
         record {
-          before = old.running.tables;
+          before = old.running.now.tables;
           until = a.0;
           now = a.1;
           stale = e.stale;
@@ -55,7 +55,7 @@ repair_inside-requires c =
           value = e.nodes.1;
           is_read = e.nodes.2;
           nodes = e.nodes.3;
-          limit = subst (λ o. IsBefore (stamps_in old.running.tables.trace.nodes) o c.in-Some.read.0) a.1.limit e.limit;
+          limit = subst (λ o. IsBefore (stamps_in old.running.now.tables.trace.nodes) o c.in-Some.read.0) a.1.limit e.limit;
           queued = e.behind;
           cells = e.cells;
           kept = e.kept;
@@ -68,7 +68,7 @@ returns-in-None-clause-runs c = λ start a.
     let old : Repair = c.args.self.now in
     let e = c.in-None.ensures in
     c.pass_all.ensures.runs start (record {
-      before = old.running.tables;
+      before = old.running.now.tables;
       until = a.0;
       now = a.1;
       trace = e.none;

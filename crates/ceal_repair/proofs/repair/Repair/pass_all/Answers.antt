@@ -21,15 +21,15 @@ set_steps-requires-clause-here c =
     let a : NoneStale start old = c.requires.none.1 in
     let both : Some a.until ≡ Some c.in-Some.end = sym a.now.limit ∙ c.in-Some.is in
     let same : a.until ≡ c.in-Some.end = cc in
-    subst (λ (s : Stamp). has_node s.0 old.running.tables.trace.nodes ≡ true) same
-    (end-there (code_of old) (inputs_of old) start a.until (record (view old) { tables = a.before }) a.now old.running.tables a.trace a.kept)
+    subst (λ (s : Stamp). has_node s.0 old.running.now.tables.trace.nodes ≡ true) same
+    (end-there (code_of old) (inputs_of old) start a.until (record (view old) { tables = a.before }) a.now old.running.now.tables a.trace a.kept)
 
 pub unreachable-requires-in-Some-Begun : goal.unreachable-requires-in-Some-Begun
 unreachable-requires-in-Some-Begun c =
     let old : Repair = c.args.self.now in
     let start = c.requires.none.0 in
     let a : NoneStale start old = c.requires.none.1 in
-    let f = frame-next (code_of old) (inputs_of old) start a.until (record (view old) { tables = a.before }) a.now old.frames.items c.pop.new.self.items c.in-Some-Begun.field-0 refl c.in-Some-Begun.ensures.items in
+    let f = frame-next (code_of old) (inputs_of old) start a.until (record (view old) { tables = a.before }) a.now old.frames.now.items c.pop.new.self.items c.in-Some-Begun.field-0 refl c.in-Some-Begun.ensures.items in
     let no = sym c.in-Some-Begun.field-0-is ∙ f in cc
 
 pub unreachable-requires-in-Some-Kept : goal.unreachable-requires-in-Some-Kept
@@ -37,7 +37,7 @@ unreachable-requires-in-Some-Kept c =
     let old : Repair = c.args.self.now in
     let start = c.requires.none.0 in
     let a : NoneStale start old = c.requires.none.1 in
-    let f = frame-next (code_of old) (inputs_of old) start a.until (record (view old) { tables = a.before }) a.now old.frames.items c.pop.new.self.items c.in-Some-Kept.field-0 refl c.in-Some-Kept.ensures.items in
+    let f = frame-next (code_of old) (inputs_of old) start a.until (record (view old) { tables = a.before }) a.now old.frames.now.items c.pop.new.self.items c.in-Some-Kept.field-0 refl c.in-Some-Kept.ensures.items in
     let no = sym c.in-Some-Kept.field-0-is ∙ f in cc
 
 pub returns-clause-runs : goal.returns-clause-runs
@@ -47,19 +47,19 @@ returns-clause-runs c = λ start a.
     let n = around-it (code_of old) (inputs_of old) start a.until w a.now in
     let both : Some a.until ≡ Some c.in-Some.end = sym a.now.limit ∙ c.in-Some.is in
     let same : a.until ≡ c.in-Some.end = cc in
-    let f = frame-next (code_of old) (inputs_of old) start a.until w a.now old.frames.items c.pop.new.self.items c.in-Some-Taken.field-0 refl c.in-Some-Taken.ensures.items in
-    let fs = frames-next (code_of old) (inputs_of old) start a.until w a.now old.frames.items c.pop.new.self.items c.in-Some-Taken.field-0 refl c.in-Some-Taken.ensures.items in
+    let f = frame-next (code_of old) (inputs_of old) start a.until w a.now old.frames.now.items c.pop.new.self.items c.in-Some-Taken.field-0 refl c.in-Some-Taken.ensures.items in
+    let fs = frames-next (code_of old) (inputs_of old) start a.until w a.now old.frames.now.items c.pop.new.self.items c.in-Some-Taken.field-0 refl c.in-Some-Taken.ensures.items in
     let taken : Taken c.in-Some-Taken.below c.in-Some-Taken.limit ≡ Taken n.below n.next = sym c.in-Some-Taken.field-0-is ∙ f in
     let below : c.in-Some-Taken.below ≡ n.below = cc in
     let next : c.in-Some-Taken.limit ≡ n.next = cc in
     let g = c.set_steps.ensures in
     let t : Tables = c.set_steps.new.self in
-    let nodes : t.trace.nodes ≡ with_steps a.until.0 0 old.running.tables.trace.nodes = g.nodes ∙ ap (λ (s : Stamp). with_steps s.0 0 old.running.tables.trace.nodes) (sym same) in
+    let nodes : t.trace.nodes ≡ with_steps a.until.0 0 old.running.now.tables.trace.nodes = g.nodes ∙ ap (λ (s : Stamp). with_steps s.0 0 old.running.now.tables.trace.nodes) (sym same) in
     runs-as (code_of old) (inputs_of old) start (waits_in n.below)
-    (record { tables = t; heap = old.running.heap; spent = old.running.spent; cursor = a.until.0; limit = Some n.next; frames = n.frames })
-    (record (with_parts old (record old.running { tables = t }) c.bring_back.new.self c.pop.new.self) { cursor = c.in-Some.end; limit = Some c.in-Some-Taken.limit })
-    (now-passed (code_of old) (inputs_of old) start a.until w a.now old.running.tables t a.trace a.left (bases-cells old.running.tables.mods a.before.mods a.cells) a.kept nodes g.mods g.queue g.kept)
+    (record { tables = t; heap = old.running.now.heap; spent = old.running.now.spent; cursor = a.until.0; limit = Some n.next; frames = n.frames })
+    (record (with_parts old (record old.running.now { tables = t }) c.bring_back.new.self c.pop.new.self) { cursor = c.in-Some.end; limit = Some c.in-Some-Taken.limit })
+    (now-passed (code_of old) (inputs_of old) start a.until w a.now old.running.now.tables t a.trace a.left (bases-cells old.running.now.tables.mods a.before.mods a.cells) a.kept nodes g.mods g.queue g.kept)
     refl refl (c.bring_back.ensures.back ∙ ap waits_in below)
-    (ap (λ (s : Stamp). record { tables = t; heap = old.running.heap; spent = old.running.spent; cursor = s.0; limit = Some c.in-Some-Taken.limit; frames = reverse c.pop.new.self.items }) (sym same)
-    ∙ (ap (λ (l : Stamp). record { tables = t; heap = old.running.heap; spent = old.running.spent; cursor = a.until.0; limit = Some l; frames = reverse c.pop.new.self.items }) next
-    ∙ ap (λ (gs : List Frame). record { tables = t; heap = old.running.heap; spent = old.running.spent; cursor = a.until.0; limit = Some n.next; frames = gs }) fs))
+    (ap (λ (s : Stamp). record { tables = t; heap = old.running.now.heap; spent = old.running.now.spent; cursor = s.0; limit = Some c.in-Some-Taken.limit; frames = reverse c.pop.new.self.items }) (sym same)
+    ∙ (ap (λ (l : Stamp). record { tables = t; heap = old.running.now.heap; spent = old.running.now.spent; cursor = a.until.0; limit = Some l; frames = reverse c.pop.new.self.items }) next
+    ∙ ap (λ (gs : List Frame). record { tables = t; heap = old.running.now.heap; spent = old.running.now.spent; cursor = a.until.0; limit = Some n.next; frames = gs }) fs))

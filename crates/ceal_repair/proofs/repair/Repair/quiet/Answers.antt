@@ -15,6 +15,6 @@ returns-clause-runs c = λ start a.
     let new : Repair = c.step.new.self in
     let e = c.in_ok-step.ensures in
     let h : IsStepped old new = record { rest = e.rest; heap = e.heap; spent = e.spent; more = record { nodes = e.nodes; mods = e.mods; queue = e.queue; kept = e.kept } } in
-    runs-as (code_of old) (inputs_of old) start (stack_in old.stack) _ new
-    (now-quiet (code_of old) (inputs_of old) start a.stack (view old) a.now (stack_in old.stack) new.running.tables a.does h.more)
-    (ap code_of h.rest) (ap inputs_of h.rest) (ap (λ (r : Repair). stack_in r.stack) h.rest) (stepped-view old new h)
+    runs-as (code_of old) (inputs_of old) start (stack_in old.stack.now) _ new
+    (now-quiet (code_of old) (inputs_of old) start a.stack (view old) a.now (stack_in old.stack.now) new.running.now.tables a.does h.more)
+    (ap code_of h.rest) (ap inputs_of h.rest) (ap (λ (r : Repair). stack_in r.stack.now) h.rest) (stepped-view old new h)

@@ -18,7 +18,7 @@ use Rattle.ceal_repair.proofs.repair.Repair.repair_inside.Goals as goal
 pub set_steps-requires-clause-here : goal.set_steps-requires-clause-here
 set_steps-requires-clause-here c =
     let old : Repair = c.args.self.now in
-    let t1 : Tables = old.running.tables in
+    let t1 : Tables = old.running.now.tables in
     let start = c.requires.stale.0 in
     let a : StaleInside start c.args.read old = c.requires.stale.1 in
     let seen = seen-as (code_of old) (inputs_of old) start a.until (record (view old) { tables = a.before }) a.now c.args.read.0 a.stale a.limit t1 a.place a.value a.is_read a.nodes in
@@ -27,7 +27,7 @@ set_steps-requires-clause-here c =
 pub unit_at-requires : goal.unit_at-requires
 unit_at-requires c =
     let old : Repair = c.args.self.now in
-    let t1 : Tables = old.running.tables in
+    let t1 : Tables = old.running.now.tables in
     let start = c.requires.stale.0 in
     let a : StaleInside start c.args.read old = c.requires.stale.1 in
     let seen = seen-as (code_of old) (inputs_of old) start a.until (record (view old) { tables = a.before }) a.now c.args.read.0 a.stale a.limit t1 a.place a.value a.is_read a.nodes in
@@ -39,7 +39,7 @@ unit_at-requires c =
 pub end_of-self-requires : goal.end_of-self-requires
 end_of-self-requires c =
     let old : Repair = c.args.self.now in
-    let t1 : Tables = old.running.tables in
+    let t1 : Tables = old.running.now.tables in
     let start = c.requires.stale.0 in
     let a : StaleInside start c.args.read old = c.requires.stale.1 in
     let seen = seen-as (code_of old) (inputs_of old) start a.until (record (view old) { tables = a.before }) a.now c.args.read.0 a.stale a.limit t1 a.place a.value a.is_read a.nodes in
@@ -50,7 +50,7 @@ end_of-self-requires c =
 pub returns-clause-runs : goal.returns-clause-runs
 returns-clause-runs c = λ start a.
     let old : Repair = c.args.self.now in
-    let t1 : Tables = old.running.tables in
+    let t1 : Tables = old.running.now.tables in
     let seen = seen-as (code_of old) (inputs_of old) start a.until (record (view old) { tables = a.before }) a.now c.args.read.0 a.stale a.limit t1 a.place a.value a.is_read a.nodes in
     let g = c.set_steps.ensures in
     let t : Tables = c.set_steps.new.self in
@@ -60,12 +60,12 @@ returns-clause-runs c = λ start a.
     let limit : c.end_of-self.result ≡ Some (stamped r.end) = limit-of c.end_of-self.result r.end _ (end-then (code_of old) (inputs_of old) start a.until (record (view old) { tables = a.before }) a.now c.args.read.0 a.stale a.limit t1 t seen a.queued (bases-cells t1.mods a.before.mods a.cells) a.kept g.nodes g.mods g.queue g.kept) e.finished e.open in
     let both : Some a.until ≡ Some c.in-Some.until = sym a.now.limit ∙ c.in-Some.is in
     let same : c.in-Some.until ≡ a.until = cc in
-    let frames : reverse c.push.new.self.items ≡ Kept a.until ∷ reverse old.frames.items =
-    ap reverse c.in_ok-push.ensures.items ∙ (reverse-append old.frames.items (Kept c.in-Some.until ∷ []) ∙ ap (λ (s : Stamp). Kept s ∷ reverse old.frames.items) same) in
+    let frames : reverse c.push.new.self.items ≡ Kept a.until ∷ reverse old.frames.now.items =
+    ap reverse c.in_ok-push.ensures.items ∙ (reverse-append old.frames.now.items (Kept c.in-Some.until ∷ []) ∙ ap (λ (s : Stamp). Kept s ∷ reverse old.frames.now.items) same) in
     runs-as (code_of old) (inputs_of old) start (resumed (code_of old) r.unit r.var r.args now-word)
-    (record { tables = t; heap = old.running.heap; spent = old.running.spent; cursor = c.args.read.0; limit = Some (stamped r.end); frames = Kept a.until ∷ reverse old.frames.items })
-    (record (with_parts old (record old.running { tables = t }) c.unit_at.new.stack c.push.new.self) { cursor = c.args.read; limit = c.end_of-self.result })
+    (record { tables = t; heap = old.running.now.heap; spent = old.running.now.spent; cursor = c.args.read.0; limit = Some (stamped r.end); frames = Kept a.until ∷ reverse old.frames.now.items })
+    (record (with_parts old (record old.running.now { tables = t }) c.unit_at.new.stack c.push.new.self) { cursor = c.args.read; limit = c.end_of-self.result })
     (now-mend (code_of old) (inputs_of old) start a.until (record (view old) { tables = a.before }) a.now c.args.read.0 a.stale a.limit t1 t seen a.queued (bases-cells t1.mods a.before.mods a.cells) a.kept g.nodes g.mods g.queue g.kept)
     refl refl (c.in_ok-unit_at.ensures.unit r.place now-word r.unit r.var r.args (node-then (code_of old) (inputs_of old) start a.until (record (view old) { tables = a.before }) a.now c.args.read.0 a.stale a.limit t1 t seen a.queued (bases-cells t1.mods a.before.mods a.cells) a.kept g.nodes g.mods g.queue g.kept))
-    (ap (λ (o : Option Stamp). record { tables = t; heap = old.running.heap; spent = old.running.spent; cursor = c.args.read.0; limit = o; frames = reverse c.push.new.self.items }) limit
-    ∙ ap (λ (gs : List Frame). record { tables = t; heap = old.running.heap; spent = old.running.spent; cursor = c.args.read.0; limit = Some (stamped r.end); frames = gs }) frames)
+    (ap (λ (o : Option Stamp). record { tables = t; heap = old.running.now.heap; spent = old.running.now.spent; cursor = c.args.read.0; limit = o; frames = reverse c.push.new.self.items }) limit
+    ∙ ap (λ (gs : List Frame). record { tables = t; heap = old.running.now.heap; spent = old.running.now.spent; cursor = c.args.read.0; limit = Some (stamped r.end); frames = gs }) frames)

@@ -57,7 +57,7 @@ look-requires-clause-here c =
     let f = c.in_ok-cut_until.ensures in
     let h : IsStepped c.args.self.now c.step.new.self = record { rest = e.rest; heap = e.heap; spent = e.spent; more = record { nodes = e.nodes; mods = e.mods; queue = e.queue; kept = e.kept } } in
     let reading : Closure = record { place = c.args.reading.place; unit = c.args.reading.unit; var = c.args.reading.var; args = arguments_of c.args.self.now } in
-    let cut : IsCut c.args.self.now c.step.new.self reading c.args.found c.cut_until.new.self c.in_ok-below.below = record { stepped = h; matches = c.requires.found; there = f.there; bases = f.bases; blocks = f.blocks; has = f.has; kept = f.kept; aside = sym (c.in_ok-below.ensures.aside ∙ ap (λ (r : Repair). stack_in r.stack) h.rest) } in
+    let cut : IsCut c.args.self.now c.step.new.self reading c.args.found c.cut_until.new.self c.in_ok-below.below = record { stepped = h; matches = c.requires.found; there = f.there; bases = f.bases; blocks = f.blocks; has = f.has; kept = f.kept; aside = sym (c.in_ok-below.ensures.aside ∙ ap (λ (r : Repair). stack_in r.stack.now) h.rest) } in
     ap is_read (is-there c.args.self.now c.step.new.self reading c.args.found c.cut_until.new.self c.in_ok-below.below cut c.requires.acts.0 c.requires.acts.1)
 
 pub look-requires-clause-first : goal.look-requires-clause-first
@@ -66,7 +66,7 @@ look-requires-clause-first c =
     let f = c.in_ok-cut_until.ensures in
     let h : IsStepped c.args.self.now c.step.new.self = record { rest = e.rest; heap = e.heap; spent = e.spent; more = record { nodes = e.nodes; mods = e.mods; queue = e.queue; kept = e.kept } } in
     let reading : Closure = record { place = c.args.reading.place; unit = c.args.reading.unit; var = c.args.reading.var; args = arguments_of c.args.self.now } in
-    let cut : IsCut c.args.self.now c.step.new.self reading c.args.found c.cut_until.new.self c.in_ok-below.below = record { stepped = h; matches = c.requires.found; there = f.there; bases = f.bases; blocks = f.blocks; has = f.has; kept = f.kept; aside = sym (c.in_ok-below.ensures.aside ∙ ap (λ (r : Repair). stack_in r.stack) h.rest) } in
+    let cut : IsCut c.args.self.now c.step.new.self reading c.args.found c.cut_until.new.self c.in_ok-below.below = record { stepped = h; matches = c.requires.found; there = f.there; bases = f.bases; blocks = f.blocks; has = f.has; kept = f.kept; aside = sym (c.in_ok-below.ensures.aside ∙ ap (λ (r : Repair). stack_in r.stack.now) h.rest) } in
     comes-first c.args.self.now c.step.new.self reading c.args.found c.cut_until.new.self c.in_ok-below.below cut c.requires.acts.0 c.requires.acts.1
 
 pub set_steps-requires-clause-here : goal.set_steps-requires-clause-here
@@ -75,7 +75,7 @@ set_steps-requires-clause-here c =
     let f = c.in_ok-cut_until.ensures in
     let h : IsStepped c.args.self.now c.step.new.self = record { rest = e.rest; heap = e.heap; spent = e.spent; more = record { nodes = e.nodes; mods = e.mods; queue = e.queue; kept = e.kept } } in
     let reading : Closure = record { place = c.args.reading.place; unit = c.args.reading.unit; var = c.args.reading.var; args = arguments_of c.args.self.now } in
-    let cut : IsCut c.args.self.now c.step.new.self reading c.args.found c.cut_until.new.self c.in_ok-below.below = record { stepped = h; matches = c.requires.found; there = f.there; bases = f.bases; blocks = f.blocks; has = f.has; kept = f.kept; aside = sym (c.in_ok-below.ensures.aside ∙ ap (λ (r : Repair). stack_in r.stack) h.rest) } in
+    let cut : IsCut c.args.self.now c.step.new.self reading c.args.found c.cut_until.new.self c.in_ok-below.below = record { stepped = h; matches = c.requires.found; there = f.there; bases = f.bases; blocks = f.blocks; has = f.has; kept = f.kept; aside = sym (c.in_ok-below.ensures.aside ∙ ap (λ (r : Repair). stack_in r.stack.now) h.rest) } in
     let before : Tables = c.cut_until.new.self.tables in
     let seen = c.look.ensures.nodes c.if-look.true in
     subst (λ ss. is_in c.args.found.0 ss ≡ true) (sym (ap stamps_in seen.3 ∙ stamps-changed c.args.found.0 (value_set (contents_at c.args.found.0 before seen.0)) (λ e. refl) before.trace.nodes))
@@ -87,7 +87,7 @@ value_at-value-requires c =
     let f = c.in_ok-cut_until.ensures in
     let h : IsStepped c.args.self.now c.step.new.self = record { rest = e.rest; heap = e.heap; spent = e.spent; more = record { nodes = e.nodes; mods = e.mods; queue = e.queue; kept = e.kept } } in
     let reading : Closure = record { place = c.args.reading.place; unit = c.args.reading.unit; var = c.args.reading.var; args = arguments_of c.args.self.now } in
-    let cut : IsCut c.args.self.now c.step.new.self reading c.args.found c.cut_until.new.self c.in_ok-below.below = record { stepped = h; matches = c.requires.found; there = f.there; bases = f.bases; blocks = f.blocks; has = f.has; kept = f.kept; aside = sym (c.in_ok-below.ensures.aside ∙ ap (λ (r : Repair). stack_in r.stack) h.rest) } in
+    let cut : IsCut c.args.self.now c.step.new.self reading c.args.found c.cut_until.new.self c.in_ok-below.below = record { stepped = h; matches = c.requires.found; there = f.there; bases = f.bases; blocks = f.blocks; has = f.has; kept = f.kept; aside = sym (c.in_ok-below.ensures.aside ∙ ap (λ (r : Repair). stack_in r.stack.now) h.rest) } in
     let k = c.look.ensures in
     let g = c.set_steps.ensures in
     let t : Tables = c.set_steps.new.self in
@@ -100,7 +100,7 @@ returns-in_ok-resume-clause-runs c = λ start a.
     let f = c.in_ok-cut_until.ensures in
     let h : IsStepped c.args.self.now c.step.new.self = record { rest = e.rest; heap = e.heap; spent = e.spent; more = record { nodes = e.nodes; mods = e.mods; queue = e.queue; kept = e.kept } } in
     let reading : Closure = record { place = c.args.reading.place; unit = c.args.reading.unit; var = c.args.reading.var; args = arguments_of c.args.self.now } in
-    let cut : IsCut c.args.self.now c.step.new.self reading c.args.found c.cut_until.new.self c.in_ok-below.below = record { stepped = h; matches = c.requires.found; there = f.there; bases = f.bases; blocks = f.blocks; has = f.has; kept = f.kept; aside = sym (c.in_ok-below.ensures.aside ∙ ap (λ (r : Repair). stack_in r.stack) h.rest) } in
+    let cut : IsCut c.args.self.now c.step.new.self reading c.args.found c.cut_until.new.self c.in_ok-below.below = record { stepped = h; matches = c.requires.found; there = f.there; bases = f.bases; blocks = f.blocks; has = f.has; kept = f.kept; aside = sym (c.in_ok-below.ensures.aside ∙ ap (λ (r : Repair). stack_in r.stack.now) h.rest) } in
     let k = c.look.ensures in
     let g = c.set_steps.ensures in
     let t : Tables = c.set_steps.new.self in
@@ -122,10 +122,10 @@ returns-in_ok-resume-clause-runs c = λ start a.
     (with_parts gone (running_of gone) c.resume.new.self gone.frames)
     (retakes c.args.self.now c.step.new.self reading c.args.found c.cut_until.new.self c.in_ok-below.below cut start a c.look.new.self t renewed until limit)
     code-kept (ap inputs_of i.rest ∙ ap inputs_of h.rest)
-    (resumed-as (code_of gone) (code_of old) code-kept reading.unit reading.var c.as_slice-args.result.now read (stack_in c.resume.new.self) (stack_in (stack_of gone)) (ap (λ (r : Repair). stack_in r.stack) i.rest ∙ c.in_ok-below.ensures.empty) c.in_ok-resume.ensures.resumed
+    (resumed-as (code_of gone) (code_of old) code-kept reading.unit reading.var c.as_slice-args.result.now read (stack_in c.resume.new.self) (stack_in (stack_of gone)) (ap (λ (r : Repair). stack_in r.stack.now) i.rest ∙ c.in_ok-below.ensures.empty) c.in_ok-resume.ensures.resumed
     ∙ (ap (λ ws. resumed (code_of old) reading.unit reading.var ws read) args-kept
     ∙ ap (λ (w : Word). resumed (code_of old) reading.unit reading.var reading.args w) is-word))
-    (ap view i.rest ∙ entered-view old c.step.new.self h t c.cut_until.new.self.heap c.cut_until.new.self.spent c.args.found.0 gone.limit (Some (stamped m.end)) (Taken c.in_ok-below.below until) gone.frames.items f.spent ends i.frames)
+    (ap view i.rest ∙ entered-view old c.step.new.self h t c.cut_until.new.self.heap c.cut_until.new.self.spent c.args.found.0 gone.limit (Some (stamped m.end)) (Taken c.in_ok-below.below until) gone.frames.now.items f.spent ends i.frames)
 
 pub go_inside-requires-else-look : goal.go_inside-requires-else-look
 go_inside-requires-else-look c =
@@ -133,7 +133,7 @@ go_inside-requires-else-look c =
     let f = c.in_ok-cut_until.ensures in
     let h : IsStepped c.args.self.now c.step.new.self = record { rest = e.rest; heap = e.heap; spent = e.spent; more = record { nodes = e.nodes; mods = e.mods; queue = e.queue; kept = e.kept } } in
     let reading : Closure = record { place = c.args.reading.place; unit = c.args.reading.unit; var = c.args.reading.var; args = arguments_of c.args.self.now } in
-    let cut : IsCut c.args.self.now c.step.new.self reading c.args.found c.cut_until.new.self c.in_ok-below.below = record { stepped = h; matches = c.requires.found; there = f.there; bases = f.bases; blocks = f.blocks; has = f.has; kept = f.kept; aside = sym (c.in_ok-below.ensures.aside ∙ ap (λ (r : Repair). stack_in r.stack) h.rest) } in
+    let cut : IsCut c.args.self.now c.step.new.self reading c.args.found c.cut_until.new.self c.in_ok-below.below = record { stepped = h; matches = c.requires.found; there = f.there; bases = f.bases; blocks = f.blocks; has = f.has; kept = f.kept; aside = sym (c.in_ok-below.ensures.aside ∙ ap (λ (r : Repair). stack_in r.stack.now) h.rest) } in
     record { read = subst (λ (l : Timeline). is_read (node_at c.args.found.0 l.nodes) ≡ true) (sym (c.look.ensures.same c.if-look.false)) (ap is_read (is-there c.args.self.now c.step.new.self reading c.args.found c.cut_until.new.self c.in_ok-below.below cut c.requires.acts.0 c.requires.acts.1)) }
 
 pub returns-in_ok-go_inside-2-clause-runs : goal.returns-in_ok-go_inside-2-clause-runs
@@ -142,7 +142,7 @@ returns-in_ok-go_inside-2-clause-runs c = λ start a.
     let f = c.in_ok-cut_until.ensures in
     let h : IsStepped c.args.self.now c.step.new.self = record { rest = e.rest; heap = e.heap; spent = e.spent; more = record { nodes = e.nodes; mods = e.mods; queue = e.queue; kept = e.kept } } in
     let reading : Closure = record { place = c.args.reading.place; unit = c.args.reading.unit; var = c.args.reading.var; args = arguments_of c.args.self.now } in
-    let cut : IsCut c.args.self.now c.step.new.self reading c.args.found c.cut_until.new.self c.in_ok-below.below = record { stepped = h; matches = c.requires.found; there = f.there; bases = f.bases; blocks = f.blocks; has = f.has; kept = f.kept; aside = sym (c.in_ok-below.ensures.aside ∙ ap (λ (r : Repair). stack_in r.stack) h.rest) } in
+    let cut : IsCut c.args.self.now c.step.new.self reading c.args.found c.cut_until.new.self c.in_ok-below.below = record { stepped = h; matches = c.requires.found; there = f.there; bases = f.bases; blocks = f.blocks; has = f.has; kept = f.kept; aside = sym (c.in_ok-below.ensures.aside ∙ ap (λ (r : Repair). stack_in r.stack.now) h.rest) } in
     let old : Repair = c.args.self.now in
     let gone : Repair = c.go_inside-else-look.new.self in
     let k = c.look.ensures in
@@ -155,5 +155,5 @@ returns-in_ok-go_inside-2-clause-runs c = λ start a.
       stamped m.end,
       passes-as (code_of old) (inputs_of old) start (stamped m.end) _ gone (enters c.args.self.now c.step.new.self reading c.args.found c.cut_until.new.self c.in_ok-below.below cut start a c.look.new.self honest until limit)
           (ap code_of i.rest ∙ ap code_of h.rest) (ap inputs_of i.rest ∙ ap inputs_of h.rest)
-          (ap view i.rest ∙ entered-view old c.step.new.self h c.look.new.self c.cut_until.new.self.heap c.cut_until.new.self.spent c.args.found.0 gone.limit (Some (stamped m.end)) (Taken c.in_ok-below.below until) gone.frames.items f.spent ends i.frames),
+          (ap view i.rest ∙ entered-view old c.step.new.self h c.look.new.self c.cut_until.new.self.heap c.cut_until.new.self.spent c.args.found.0 gone.limit (Some (stamped m.end)) (Taken c.in_ok-below.below until) gone.frames.now.items f.spent ends i.frames),
     )

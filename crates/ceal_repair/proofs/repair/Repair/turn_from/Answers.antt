@@ -44,5 +44,5 @@ returns-clause-within c = λ told.
     let q = c.requires.found in
     let runs = c.in_ok-begin_turn.ensures.begins q.0 q.1 q.2 q.3 in
     let done = rw c.if-not-branch.false at (c.in_ok-complete.ensures.done runs.start runs.runs) in
-    let few : c.complete.new.repair.running.spent ≤ c.args.fuel = done.1 in
+    let few : c.complete.new.repair.running.now.spent ≤ c.args.fuel = done.1 in
     omega (arith, few, c.in_ok-end_turn.ensures.spent)

@@ -36,7 +36,7 @@ loop-turn-preserved c =
     let e = c.in-Some.ensures in
     let g = c.in_ok-turn_from-in-Some.ensures in
     record {
-      turning = turn-more c.args.self.now c.loop-turn.self c.loop-turn.turn c.loop-turn.invariant.turning c.first_stale.new.self e.kept e.cells c.in-Some.read.0 e.stale e.nodes e.behind c.turn_from.new.self g.call.code g.call.inputs
+      turning = turn-more c.args.self.now c.loop-turn.self c.loop-turn.turn c.loop-turn.invariant.turning c.first_stale.new.self e.kept e.cells c.in-Some.read.0 e.stale e.nodes e.behind c.turn_from.new.self (record { code = g.call.code; inputs = g.call.inputs; place = g.call.place })
           (g.idle c.if-not-branch.false)
           (λ f args o before h.
           rw c.if-not-branch.false at (g.turn f args (later c.loop-turn.turn o)

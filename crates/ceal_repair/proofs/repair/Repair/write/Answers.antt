@@ -24,9 +24,9 @@ returns-clause-runs c = λ start a.
     let h : IsStepped old new = record { rest = e.rest; heap = e.heap; spent = e.spent; more = record { nodes = e.nodes; mods = e.mods; queue = e.queue; kept = e.kept } } in
     let s : ℕ = c.in_ok-self.field-0.0 in
     let f = c.in_ok-self.ensures in
-    let k : NodeMore new.cursor.0 s (Write c.args.place c.args.value) new.running.tables c.put_write.new.self = record { nodes = f.nodes; inserted = f.inserted; bases = f.bases; behind = f.behind; kept = f.kept } in
-    runs-as (code_of old) (inputs_of old) start (stack_in old.stack) _
-    (record new { running = (record new.running { tables = c.put_write.new.self }); cursor = c.in_ok-self.field-0 })
-    (now-write (code_of old) (inputs_of old) start a.stack (view old) a.now (stack_in old.stack) c.args.place c.args.value new.running.tables c.put_write.new.self s a.does h.more
+    let k : NodeMore new.cursor.0 s (Write c.args.place c.args.value) new.running.now.tables c.put_write.new.self = record { nodes = f.nodes; inserted = f.inserted; bases = f.bases; behind = f.behind; kept = f.kept } in
+    runs-as (code_of old) (inputs_of old) start (stack_in old.stack.now) _
+    (record new { running = record new.running { now = record new.running.now { tables = c.put_write.new.self } }; cursor = c.in_ok-self.field-0 })
+    (now-write (code_of old) (inputs_of old) start a.stack (view old) a.now (stack_in old.stack.now) c.args.place c.args.value new.running.now.tables c.put_write.new.self s a.does h.more
     (node-behind old new h s (Write c.args.place c.args.value) c.put_write.new.self k))
-    (ap code_of h.rest) (ap inputs_of h.rest) (ap (λ (r : Repair). stack_in r.stack) h.rest) (put-view old new h c.put_write.new.self s)
+    (ap code_of h.rest) (ap inputs_of h.rest) (ap (λ (r : Repair). stack_in r.stack.now) h.rest) (put-view old new h c.put_write.new.self s)

@@ -4,14 +4,14 @@ use Rattle.ceal_repair.proofs.running.Running.conclude.Goals as goal
 
 pub returns-then-steps-from : goal.returns-then-steps-from
 returns-then-steps-from c = record {
-  answers = λ code inputs f args o before done. too-many code inputs f args o before c.args.self done c.args.fuel (omega (arith, c.if-steps-from.true, c.steps.ensures.items, c.from.ensures));
+  answers = λ code inputs f args o before done. too-many code inputs f args o before c.args.self.now done c.args.fuel (omega (arith, c.if-steps-from.true, c.steps.ensures.items, c.from.ensures));
 }
 
 pub returns-else-steps-from : goal.returns-else-steps-from
 returns-else-steps-from c = record {
   answers = λ code inputs f args o before done. (
-    concluded-run code inputs f args o before c.args.self done c.args.fuel (omega (arith, c.if-steps-from.false, c.steps.ensures.items, c.from.ensures))
-        (record { tables = c.args.self.tables; heap = c.release_revoked.new.self; spent = c.args.self.spent }) refl c.release_revoked.ensures.released c.release_revoked.ensures.slots,
+    concluded-run code inputs f args o before c.args.self.now done c.args.fuel (omega (arith, c.if-steps-from.false, c.steps.ensures.items, c.from.ensures))
+        (record { tables = c.args.self.now.tables; heap = c.release_revoked.new.self; spent = c.args.self.now.spent }) refl c.release_revoked.ensures.released c.release_revoked.ensures.slots,
     refl,
   );
 }
