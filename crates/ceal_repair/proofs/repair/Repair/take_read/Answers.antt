@@ -119,7 +119,7 @@ returns-in_ok-resume-clause-runs c = λ start a.
     let args-kept : c.as_slice-args.result.now ≡ arguments_of old = c.as_slice-args.ensures.value ∙ (ap arguments_of i.rest ∙ ap arguments_of h.rest) in
     let code-kept : code_of gone ≡ code_of old = ap code_of i.rest ∙ ap code_of h.rest in
     runs-as (code_of old) (inputs_of old) start (resumed (code_of old) reading.unit reading.var reading.args word) _
-    (with_parts gone (running_of gone) c.resume.new.self gone.frames)
+    (with_parts gone (running_of gone) c.resume.new.self gone.frames.now)
     (retakes c.args.self.now c.step.new.self reading c.args.found c.cut_until.new.self c.in_ok-below.below cut start a c.look.new.self t renewed until limit)
     code-kept (ap inputs_of i.rest ∙ ap inputs_of h.rest)
     (resumed-as (code_of gone) (code_of old) code-kept reading.unit reading.var c.as_slice-args.result.now read (stack_in c.resume.new.self) (stack_in (stack_of gone)) (ap (λ (r : Repair). stack_in r.stack.now) i.rest ∙ c.in_ok-below.ensures.empty) c.in_ok-resume.ensures.resumed
