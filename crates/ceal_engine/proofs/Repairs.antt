@@ -26,7 +26,7 @@ use Rattle.ceal_heap.specs.Heap.{next}
 use Rattle.ceal_repair.specs.Answers as kept
 use Rattle.ceal_repair.specs.Answers.{IsKeptRun, IsRunOf, IsFirstRun, IsRepairedRun}
 use Rattle.ceal_repair.specs.declared.running.Running.{Running}
-use Rattle.ceal_theory.proofs.Repair.DistinctBlocks.{uses, times, times-append, named}
+use Rattle.ceal_theory.proofs.Repair.DistinctBlocks.{uses, times, times-append}
 use Rattle.ceal_theory.proofs.Repair.EndAsFromScratch.{first-law}
 use Rattle.ceal_theory.proofs.Repair.RepairLaws.{unchanged-law}
 use Rattle.ceal_theory.proofs.Renaming.GivenNumbers.{trace-by, selves, self-tied, tied-same, selves-one, trace-self, named-law}
@@ -34,7 +34,6 @@ use Rattle.ceal_theory.specs.Adjust.{Above}
 use Rattle.ceal_theory.specs.Computed.{Repaired, first_of}
 use Rattle.ceal_theory.specs.Laws.{Edited, FirstOutcome}
 use Rattle.ceal_theory.specs.Named.{naming, trace_by}
-use Rattle.ceal_theory.specs.Repair.{own}
 
 -- what is tied to itself is known
 self-in : (b c : ℕ) (bs : List ℕ) → Tied b c (selves bs) → In b bs

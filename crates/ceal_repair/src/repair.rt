@@ -36,7 +36,7 @@ pub mod turns;
 /// A repair that is under way, or a run from nothing. A unit runs; the nodes up to the cursor are final, and those behind it, up to
 /// the limit, are left over to the unit. The cursor only moves on. The arguments are those of the read that is made.
 ///
-/// It holds nothing itself: what the run keeps is changed where it stands, and the units, the frames and the arguments are in the
+/// It holds nothing itself: what the run keeps is changed in place, and the units, the frames and the arguments are in the
 /// room of its caller.
 #[derive(Drop)]
 pub struct Repair<'a> {

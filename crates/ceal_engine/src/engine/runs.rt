@@ -28,7 +28,7 @@ use ceal_repair::running::{Outcome, Running};
 use ceal_repair::slice::{Sliced, slice};
 use std::mem;
 
-/// Repairs a run of the call on these inputs, where it stands. After an error it is of no further use.
+/// Repairs a run of the call on these inputs, in place. After an error it is of no further use.
 fn repaired(
     room: &mut Room,
     code: &Code,
@@ -243,7 +243,14 @@ impl Engine {
         match &mut self.running {
             None => unreachable!(),
             Some(run) => {
-                match slice(&mut self.room, &self.code, &self.inputs, reads, self.fuel, run) {
+                match slice(
+                    &mut self.room,
+                    &self.code,
+                    &self.inputs,
+                    reads,
+                    self.fuel,
+                    run,
+                ) {
                     Ok(Sliced::More) => {
                         self.phase = Phase::Partial;
                         Ok(Came::More)

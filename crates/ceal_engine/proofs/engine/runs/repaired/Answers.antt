@@ -1,4 +1,3 @@
-use Rattle.std.proofs.Common.{◌≡◌, None}
 use Rattle.ceal_engine.proofs.Keeping.{old-kept, repaired-out, repaired-done, honest-in, still-honest}
 use Rattle.ceal_engine.proofs.engine.runs.repaired.Goals as goal
 
