@@ -96,5 +96,6 @@ pub record IsRepairedRun (code : Code) (inputs : List Block) (f : ℕ) (args : L
 
 -- what a propagation makes of a run, by what it comes to
 abbrev pub IsRepaired : Code → List Block → ℕ → List Word → ℕ → Trace → Running → Running → Propagation → Type 0
-IsRepaired code inputs f args fuel old before run propagation.Done = IsRepairedRun code inputs f args fuel old before run
+IsRepaired code inputs f args fuel old before run propagation.Done =
+    IsRepairedRun code inputs f args fuel old before run
 IsRepaired code inputs f args fuel old before run propagation.OutOfFuel = fresh code f args inputs fuel ≡ None
