@@ -14,9 +14,8 @@ use ceal_base::no_memory::NoMemory;
 use ceal_base::word::Word;
 use ceal_samples::inputs::{add, at, input, list, numbers};
 use ceal_samples::programs::{BOX, CONDITIONAL, INC, MAP, MAP_NUMBERS, compiled};
-use ceal_samples::told::told;
+use ceal_samples::told::told_with_work;
 use std::alloc::{AllocError, Global};
-use std::fmt::Write;
 use std::process::Abort;
 use std::test::Fail;
 
@@ -30,11 +29,7 @@ struct Texts {
 /// The items and the work, or that it is out of fuel.
 fn answer(alloc: Global, answer: &Adjusted) -> Result<String, AllocError> {
     match answer {
-        Adjusted::Done { forest, work } => {
-            let mut text = told(alloc, forest.items())?;
-            writeln!(text, "work {work}")?;
-            Ok(text)
-        }
+        Adjusted::Done { forest, work } => told_with_work(alloc, forest.items(), *work),
         Adjusted::OutOfFuel => String::from_str(alloc, "out of fuel\n"),
     }
 }

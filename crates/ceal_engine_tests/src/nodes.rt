@@ -4,6 +4,7 @@ ghost use Rattle.std.specs.Prelude.{◌≡◌, true};
 ghost use Rattle.ceal_code.specs.Valid.{valid};
 
 use crate::asserts::{equal, holds};
+use crate::wanted::MAPPED;
 use ceal_base::forest::Item;
 use ceal_base::memory::Inputs;
 use ceal_base::no_memory::NoMemory;
@@ -13,7 +14,7 @@ use ceal_repair::running::{Outcome, Running};
 use ceal_samples::calls::fits;
 use ceal_samples::inputs::{at, list};
 use ceal_samples::programs::{MAP, compiled};
-use ceal_samples::told::told;
+use ceal_samples::told::told_with_work;
 use ceal_trace::node::Seen;
 use ceal_trace::trace::Trace;
 use std::alloc::Global;
@@ -95,28 +96,11 @@ fn mapped(alloc: Global, fuel: u32) -> Result<Outcome, Fail> {
     outcome
 }
 
-const MAPPED: &str = ".v2 = read(in0.0) u1(&in1.0): in2
-..#0 = init 0(in2)
-.in1.0 := #0
-..v2 = read(in2.1) u1(&#0.1): in3
-..#1 = init 0(in3)
-.#0.1 := #1
-..v2 = read(in3.1) u1(&#1.1): in4
-..#2 = init 0(in4)
-.#1.1 := #2
-..v2 = read(in4.1) u1(&#2.1): null
-..#2.1 := null
-end
-end
-end
-end
-";
-
 /// The nodes, the work and the number of blocks of the run.
 fn is_mapped<R: Abort>(rt: &R, alloc: Global, run: &Running) -> Result<(), Fail> {
-    equal(rt, (run.spent, run.heap.live_count()), (18, 3));
+    equal(rt, run.heap.live_count(), 3);
     let items = items_of(alloc, &run.tables.trace)?;
-    let text = told(alloc, items.as_slice());
+    let text = told_with_work(alloc, items.as_slice(), run.spent);
     drop(items);
     let text = text?;
     equal(rt, text.as_str(), MAPPED);

@@ -79,11 +79,6 @@ plain_of heap b = option_map plain_block (block_of heap b)
 abbrev pub word_at : List Word → ℕ → Word
 word_at words index = slice_index_or words index (Num (pos 0))
 
--- the inputs and the blocks of the heap as one map
-abbrev pub blocks_of : Contents → List Block → BlockId → Option Block
-blocks_of heap inputs (Input n) = slice_get inputs n
-blocks_of heap inputs (Core n) = plain_of heap (Core n)
-
 -- how many blocks are live
 abbrev pub live_count : Contents → ℕ
 live_count heap = tally is_live heap.numbers

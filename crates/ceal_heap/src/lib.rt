@@ -4,15 +4,13 @@
 //! Contracts see how each number stands, with shape, words and slot of the blocks that are live or revoked, and
 //! the region of raw words, whose slots are exactly those of these blocks.
 //!
-//! `heap` has the calls, and `plain_words` reads blocks of a heap and of inputs alike, as the stepper of trace code does.
-//! `table` keeps how each number stands (`number`), those that were revoked, and those that
-//! are free (`stack`); `pieces` keeps the words of blocks in slots, two cells a word (`cells`).
+//! `heap` has the calls. `table` keeps how each number stands (`number`), those that were revoked, and those that are
+//! free (`stack`); `pieces` keeps the words of blocks in slots, two cells a word (`cells`).
 #![tactic(auto)]
 
 mod cells;
 pub mod heap;
 mod number;
 mod pieces;
-pub mod plain_words;
 mod stack;
 mod table;

@@ -111,3 +111,10 @@ pub fn told(alloc: Global, items: &[Item]) -> Result<String, AllocError> {
     }
     Ok(text)
 }
+
+/// The same with the work below.
+pub fn told_with_work(alloc: Global, items: &[Item], work: u32) -> Result<String, AllocError> {
+    let mut text = told(alloc, items)?;
+    writeln!(text, "work {work}")?;
+    Ok(text)
+}
