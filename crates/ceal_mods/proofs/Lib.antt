@@ -1,6 +1,4 @@
--- what crates above cite
 pub mod StampLemmas
--- the rest
 pub mod ModsLemmas
 pub mod WritesLemmas
 pub mod IndexLemmas
