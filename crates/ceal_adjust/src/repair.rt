@@ -12,6 +12,7 @@ ghost use Rattle.ceal_adjust.specs.Machines.{code_of, state_in, frames_in, ahead
 
 use crate::frame::{Frame, Mode, Turn};
 use crate::old::Old;
+use ceal_base::count::one_more;
 use ceal_base::forest::Item;
 use ceal_base::no_memory::NoMemory;
 use ceal_base::word::Word;
@@ -51,16 +52,6 @@ fn wrote(stepped: bool, item: Item) -> Turn
     Turn::Went {
         stepped,
         item: Some(item),
-    }
-}
-
-/// The next number. An overflow of 32 bits is told as `NoMemory`: that many steps or blocks cannot be in memory.
-fn one_more(n: u32) -> Result<u32, NoMemory>
-    ensures { IfOk result (λ m. m ≡ n + 1) }
-{
-    match n.checked_add(1) {
-        None => Err(NoMemory),
-        Some(m) => Ok(m),
     }
 }
 

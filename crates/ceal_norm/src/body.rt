@@ -10,8 +10,9 @@ ghost use Rattle.ceal_code.specs.declared.command.Cmd.TheVariants as Cmd;
 use crate::commands::{command_of, tail};
 use crate::entries::ends_unit;
 use crate::expressions::expr_of;
-use crate::number::{next_number, number};
+use crate::number::number;
 use crate::plan::Plan;
+use ceal_base::count::one_more;
 use ceal_base::no_memory::NoMemory;
 use ceal_base::typed::{TypedExpr, TypedStmt};
 use ceal_code::command::Cmd;
@@ -110,7 +111,7 @@ fn put_test(
 {
     let test = expr_of(out.alloc, test)?;
     let at = number(out.body.len())?;
-    let yes = next_number(at)?;
+    let yes = one_more(at)?;
     out.body.push(Cmd::If { test, yes, no: 0 })?;
     put_parts(&mut out.pending, at, first, second)?;
     Ok(())

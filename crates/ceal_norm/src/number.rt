@@ -2,6 +2,7 @@
 
 ghost use Rattle.std.specs.Prelude.{◌≡◌, ◌+◌, if◌then◌else◌, IfOk};
 
+use ceal_base::count;
 use ceal_base::no_memory::NoMemory;
 
 pub fn number(n: usize) -> Result<u32, NoMemory>
@@ -13,18 +14,9 @@ pub fn number(n: usize) -> Result<u32, NoMemory>
     }
 }
 
-pub fn next_number(n: u32) -> Result<u32, NoMemory>
-    ensures { IfOk result (λ m. m ≡ n + 1) }
-{
-    match n.checked_add(1) {
-        None => Err(NoMemory),
-        Some(m) => Ok(m),
-    }
-}
-
 /// One more, or not.
 pub fn one_more(n: u32, more: bool) -> Result<u32, NoMemory>
     ensures { IfOk result (λ m. m ≡ (if more then n + 1 else n)) }
 {
-    if more { next_number(n) } else { Ok(n) }
+    if more { count::one_more(n) } else { Ok(n) }
 }

@@ -11,6 +11,7 @@ ghost use Rattle.ceal_code.specs.Tables.{memory_in};
 ghost use Rattle.ceal_record.specs.Recorded.{left_by};
 ghost use Rattle.ceal_traceck.specs.Items.{allocated, AreMade};
 
+use ceal_base::count::one_more;
 use ceal_base::forest::Item;
 use ceal_base::kind::Shape;
 use ceal_base::memory::{BlockWords, Inputs, Memory};
@@ -20,16 +21,6 @@ use ceal_code::code::Code;
 use ceal_code::plain_words::PlainWords;
 use ceal_code::trace_memory::TraceMemory;
 use std::alloc::Global;
-
-/// The next number; where it has no room in 32 bits, there is no memory for so many inputs.
-fn one_more(n: u32) -> Result<u32, NoMemory>
-    ensures { IfOk result (λ m. m ≡ n + 1) }
-{
-    match n.checked_add(1) {
-        None => Err(NoMemory),
-        Some(m) => Ok(m),
-    }
-}
 
 /// The words of a block, each modifiable with its content. No block has 2^32 - 1 fields.
 fn words_after(alloc: Global, memory: &TraceMemory<'_>, id: BlockId) -> Result<Vec<Word>, NoMemory>

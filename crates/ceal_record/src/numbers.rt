@@ -7,6 +7,7 @@ ghost use Rattle.ceal_theory.specs.Named.{id_by, key_by, place_by, word_by, word
 ghost use Rattle.ceal_theory.specs.Segments.{item_by, items_by};
 ghost use Rattle.ceal_traceck.specs.Items.{allocated};
 
+use ceal_base::count::one_more;
 use ceal_base::forest::{Forest, Item, Key};
 use ceal_base::no_memory::NoMemory;
 use ceal_base::word::{BlockId, Place, Word};
@@ -20,16 +21,6 @@ pub struct Numbers {
     pub alloc: Global,
     pub given: BTreeMap<BlockId, u32>,
     pub count: u32,
-}
-
-/// The next number; where it has no room in 32 bits, there is no memory for so many blocks.
-fn one_more(n: u32) -> Result<u32, NoMemory>
-    ensures { IfOk result (λ m. m ≡ n + 1) }
-{
-    match n.checked_add(1) {
-        None => Err(NoMemory),
-        Some(m) => Ok(m),
-    }
 }
 
 impl Numbers {

@@ -15,6 +15,7 @@ use crate::frame::Frame;
 use crate::room::Room;
 use crate::running::Running;
 use crate::words::RunWords;
+use ceal_base::count::one_more;
 use ceal_base::forest::Key;
 use ceal_base::memory::Inputs;
 use ceal_base::no_memory::NoMemory;
@@ -224,15 +225,5 @@ impl<'a> Repair<'a> {
                 Ok(true)
             }
         }
-    }
-}
-
-/// The next number; where it has no room in 32 bits, there is no memory for so many steps.
-fn one_more(n: u32) -> Result<u32, NoMemory>
-    ensures { IfOk result (λ m. m ≡ n + 1) }
-{
-    match n.checked_add(1) {
-        None => Err(NoMemory),
-        Some(m) => Ok(m),
     }
 }

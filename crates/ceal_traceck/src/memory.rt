@@ -8,6 +8,7 @@ ghost use Rattle.ceal_code.specs.PlainWords.{block_shape, block_word};
 ghost use Rattle.ceal_code.specs.Tables.{plain_in, memory_in};
 ghost use Rattle.ceal_traceck.specs.Items.{AreMade};
 
+use ceal_base::count::one_more;
 use ceal_base::forest::Item;
 use ceal_base::kind::Shape;
 use ceal_base::memory::{BlockWords, Memory};
@@ -15,16 +16,6 @@ use ceal_base::no_memory::NoMemory;
 use ceal_base::word::{BlockId, Word};
 use ceal_code::plain_words::PlainWords;
 use ceal_code::trace_memory::TraceMemory;
-
-/// The next number; An overflow of 32 bits is told as `NoMemory`: that many fields or blocks cannot be in memory.
-fn one_more(n: u32) -> Result<u32, NoMemory>
-    ensures { IfOk result (λ m. m ≡ n + 1) }
-{
-    match n.checked_add(1) {
-        None => Err(NoMemory),
-        Some(m) => Ok(m),
-    }
-}
 
 fn is_word(found: Option<Word>, word: Word) -> bool
     ensures { IsTrue result ↔ (found ≡ Some word) }

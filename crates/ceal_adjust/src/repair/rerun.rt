@@ -12,7 +12,7 @@ ghost use Rattle.ceal_theory.specs.Turns.{making, reading, acting};
 ghost use Rattle.ceal_adjust.specs.Closures.{find_closure};
 ghost use Rattle.ceal_adjust.specs.Machines.{code_of, state_in, after, left_over, machine_in, turn_in};
 
-use super::{Repair, is_same, one_more, read_item, wrote};
+use super::{Repair, is_same, read_item, wrote};
 use crate::frame::{Frame, Mode, Turn};
 use crate::search::{find_block, find_value};
 use ceal_base::forest::{Item, Key};
