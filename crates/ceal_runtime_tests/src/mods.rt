@@ -3,6 +3,7 @@
 ghost use Rattle.std.specs.Prelude.{◌≡◌, ◌<◌, ◌≤◌, ◌+◌, ℕ, List, IsTrue};
 ghost use Rattle.ceal_order.specs.Stamps.{is_in};
 ghost use Rattle.ceal_mods.specs.Mods.{cell_of, Follows, IsUntouched};
+ghost use Rattle.ceal_mods.specs.Writes.{stamps_of};
 
 use crate::asserts::{equal, holds};
 use crate::orders::order_with_room;
@@ -27,51 +28,75 @@ fn a_base_holds_from_the_start(rt: HostRuntime) {
     drop(mods);
 }
 
+fn writes_at_the_start<R: Abort>(rt: &R, order: &mut Order, mods: &mut Mods)
+    requires room { 1 ≤ order.old.spare }
+    requires untouched { IsUntouched mods.old }
+    requires follows { (stamps : List ℕ) → Follows stamps mods.old }
+{
+    let first = order.first();
+    let second = order.insert_after(first);
+    mods.add_write(order, COUNTER, first, Word::Num(2))
+        .expect(rt, "memory");
+    equal(rt, mods.value_at(order, COUNTER, first), Word::Num(0));
+    equal(rt, mods.value_at(order, COUNTER, second), Word::Num(2));
+    equal(rt, mods.looked(), 2);
+}
+
 #[test]
 fn a_write_holds_behind_its_stamp(rt: HostRuntime) {
     let mut order = order_with_room(&rt, rt.alloc(), 1);
     let mut mods = Mods::new(rt.alloc()).expect(&rt, "memory");
-    let first = order.first();
-    let second = order.insert_after(first);
-    mods.add_write(&order, COUNTER, first, Word::Num(2))
-        .expect(&rt, "memory");
-    equal(&rt, mods.value_at(&order, COUNTER, first), Word::Num(0));
-    equal(&rt, mods.value_at(&order, COUNTER, second), Word::Num(2));
-    equal(&rt, mods.looked(), 2);
+    writes_at_the_start(&rt, &mut order, &mut mods);
     drop(mods);
     drop(order);
+}
+
+fn writes_over_a_base<R: Abort>(rt: &R, order: &mut Order, mods: &mut Mods)
+    requires room { 1 ≤ order.old.spare }
+    requires untouched { IsUntouched mods.old }
+    requires follows { (stamps : List ℕ) → Follows stamps mods.old }
+{
+    let first = order.first();
+    let second = order.insert_after(first);
+    holds(rt, mods.set_base(COUNTER, Word::Num(1)).is_ok());
+    mods.add_write(order, COUNTER, first, Word::Num(2))
+        .expect(rt, "memory");
+    mods.remove_write(order, COUNTER, first);
+    equal(rt, mods.value_at(order, COUNTER, second), Word::Num(1));
 }
 
 #[test]
 fn a_removed_write_uncovers_the_base(rt: HostRuntime) {
     let mut order = order_with_room(&rt, rt.alloc(), 1);
     let mut mods = Mods::new(rt.alloc()).expect(&rt, "memory");
-    let first = order.first();
-    let second = order.insert_after(first);
-    holds(&rt, mods.set_base(COUNTER, Word::Num(1)).is_ok());
-    mods.add_write(&order, COUNTER, first, Word::Num(2))
-        .expect(&rt, "memory");
-    mods.remove_write(&order, COUNTER, first);
-    equal(&rt, mods.value_at(&order, COUNTER, second), Word::Num(1));
+    writes_over_a_base(&rt, &mut order, &mut mods);
     drop(mods);
     drop(order);
+}
+
+fn reads_behind_a_write<R: Abort>(rt: &R, order: &mut Order, mods: &mut Mods)
+    requires room { 2 ≤ order.old.spare }
+    requires untouched { IsUntouched mods.old }
+    requires follows { (stamps : List ℕ) → Follows stamps mods.old }
+{
+    let first = order.first();
+    let third = order.insert_after(first);
+    let second = order.insert_after(first);
+    mods.add_read(order, COUNTER, third).expect(rt, "memory");
+    equal(rt, mods.affected(order, COUNTER, first), Some(third));
+    mods.add_write(order, COUNTER, second, Word::Num(2))
+        .expect(rt, "memory");
+    equal(rt, mods.affected(order, COUNTER, first), None);
+    equal(rt, mods.affected(order, COUNTER, second), Some(third));
+    mods.remove_read(order, COUNTER, third);
+    equal(rt, mods.affected(order, COUNTER, second), None);
 }
 
 #[test]
 fn a_write_parts_a_read_from_what_stands_before(rt: HostRuntime) {
     let mut order = order_with_room(&rt, rt.alloc(), 2);
     let mut mods = Mods::new(rt.alloc()).expect(&rt, "memory");
-    let first = order.first();
-    let third = order.insert_after(first);
-    let second = order.insert_after(first);
-    mods.add_read(&order, COUNTER, third).expect(&rt, "memory");
-    equal(&rt, mods.affected(&order, COUNTER, first), Some(third));
-    mods.add_write(&order, COUNTER, second, Word::Num(2))
-        .expect(&rt, "memory");
-    equal(&rt, mods.affected(&order, COUNTER, first), None);
-    equal(&rt, mods.affected(&order, COUNTER, second), Some(third));
-    mods.remove_read(&order, COUNTER, third);
-    equal(&rt, mods.affected(&order, COUNTER, second), None);
+    reads_behind_a_write(&rt, &mut order, &mut mods);
     drop(mods);
     drop(order);
 }
@@ -100,19 +125,41 @@ fn read_behind<R: Abort>(
     stamp
 }
 
+// Puts in a write of 2 to a place at a new stamp, directly behind another one.
+fn write_behind<R: Abort>(
+    rt: &R,
+    order: &mut Order,
+    mods: &mut Mods,
+    place: Place,
+    after: Stamp,
+) -> Stamp
+    requires here { IsTrue (is_in after.0 order.old.stamps) }
+    requires room { 0 < order.old.spare }
+    requires follows { Follows order.old.stamps mods.old }
+    ensures here { IsTrue (is_in result.0 order.new.stamps) }
+    ensures others { (s : ℕ) → IsTrue (is_in s order.old.stamps)
+        → IsTrue (is_in s order.new.stamps) }
+    ensures room { order.new.spare + 1 ≡ order.old.spare }
+    ensures follows { Follows order.new.stamps mods.new }
+    ensures written { IsTrue (is_in result.0 (stamps_of (cell_of mods.new place).writes)) }
+{
+    let stamp = order.insert_after(after);
+    follows_still();
+    mods.add_write(order, place, stamp, Word::Num(2))
+        .expect(rt, "memory");
+    stamp
+}
+
 // A place with a base, a read, a write behind it, and two reads behind that.
 fn writes_between_reads<R: Abort>(rt: &R, order: &mut Order, mods: &mut Mods)
     requires room { 4 ≤ order.old.spare }
-    requires untouched { IsUntouched mods.old }
     requires follows { (stamps : List ℕ) → Follows stamps mods.old }
 {
     holds(rt, mods.set_base(COUNTER, Word::Num(1)).is_ok());
     let start = order.first();
-    let second = order.insert_after(start);
-    mods.add_write(order, COUNTER, second, Word::Num(2))
-        .expect(rt, "memory");
-    let fourth = read_behind(rt, order, mods, COUNTER, second);
-    let third = read_behind(rt, order, mods, COUNTER, second);
+    let fourth = read_behind(rt, order, mods, COUNTER, start);
+    let third = read_behind(rt, order, mods, COUNTER, start);
+    let second = write_behind(rt, order, mods, COUNTER, start);
     let first = read_behind(rt, order, mods, COUNTER, start);
     equal(rt, mods.value_at(order, COUNTER, first), Word::Num(1));
     equal(rt, mods.value_at(order, COUNTER, fourth), Word::Num(2));
