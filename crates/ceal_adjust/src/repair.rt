@@ -12,7 +12,6 @@ ghost use Rattle.ceal_adjust.specs.Machines.{code_of, state_in, frames_in, ahead
 
 use crate::frame::{Frame, Mode, Turn};
 use crate::old::Old;
-use ceal_base::count::one_more;
 use ceal_base::forest::Item;
 use ceal_base::no_memory::NoMemory;
 use ceal_base::word::Word;

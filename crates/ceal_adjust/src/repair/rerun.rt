@@ -15,6 +15,7 @@ ghost use Rattle.ceal_adjust.specs.Machines.{code_of, state_in, after, left_over
 use super::{Repair, is_same, read_item, wrote};
 use crate::frame::{Frame, Mode, Turn};
 use crate::search::{find_block, find_value};
+use ceal_base::count::one_more;
 use ceal_base::forest::{Item, Key};
 use ceal_base::no_memory::NoMemory;
 use ceal_base::word::{BlockId, Word};
