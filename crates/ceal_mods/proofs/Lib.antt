@@ -1,4 +1,6 @@
+-- what crates above cite
 pub mod StampLemmas
+-- the rest
 pub mod ModsLemmas
 pub mod WritesLemmas
 pub mod IndexLemmas

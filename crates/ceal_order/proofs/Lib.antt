@@ -3,8 +3,8 @@ pub mod Places
 pub mod RisingLemmas
 pub mod Editing
 pub mod StampLists
--- the rest
 pub mod Members
+-- the rest
 pub mod Samples
 pub mod Chains
 pub mod Inserting
