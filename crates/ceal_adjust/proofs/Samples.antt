@@ -25,7 +25,7 @@ use Rattle.ceal_theory.specs.Computed.{anew, adjusted}
 use Rattle.ceal_theory.specs.Levels.{find_read}
 use Rattle.ceal_theory.specs.Slices.{beginning, sliced, is_done, with_inputs, starting}
 
--- the trace of a run on 4 is repaired where a is 9: one step runs anew
+-- the trace of a run on 4 is repaired where a is 9: one step is re-executed
 repaired : IsAnswer (adjusted inc (inputs 9 0) 0 2 (items 4 5)) (fresh inc 0 args (inputs 9 0) 2) (IsDone (flat (items 9 10)) 1)
 unfolding adjusted anew fresh run next settled chosen bound woven set unset expr_value values bases input_plain plain_of stored hidden-the_row-CodeExpr-0 shape-the_row-CodeExpr-0 denote.Hole.Carrier.hidden
 repaired = record {
@@ -36,7 +36,7 @@ repaired = record {
   ends = refl;
 }
 
--- nothing has changed: nothing runs anew
+-- nothing has changed: nothing is re-executed
 unchanged : IsAnswer (adjusted inc (inputs 4 7) 0 2 (items 4 5)) (fresh inc 0 args (inputs 4 7) 2) (IsDone (flat (items 4 5)) 0)
 unfolding adjusted anew fresh run next settled chosen bound woven set unset expr_value values bases input_plain plain_of stored hidden-the_row-CodeExpr-0 shape-the_row-CodeExpr-0 denote.Hole.Carrier.hidden
 unchanged = record {
@@ -67,7 +67,7 @@ no_slice : Comes inc (inputs 9 0) (Some 1) 0 (beginning inc (inputs 9 0) (items 
 unfolding sliced with_inputs starting anew next settled chosen bound woven set unset expr_value values bases input_plain plain_of stored hidden-the_row-CodeExpr-0 shape-the_row-CodeExpr-0 denote.Hole.Carrier.hidden
 no_slice = refl
 
--- the read is found by its closure, and behind it one level is left over around the items inside
+-- the read is found by its closure, and after it one level is left over around the items inside
 abbrev closure : Closure
 closure = record { place = place 0; unit = record { 0 = 1 }; var = 2; args = At (place 1) ∷ [] }
 

@@ -54,7 +54,7 @@ skipped-flat n (Wrote p value rest) is = skipped-flat n rest is
 skipped-flat n (WasRead p value u v args inside rest) is =
     ap (skipped (suc (suc n))) (append_assoc (flat inside) (End ∷ flat rest) is) ∙ (skipped-flat (suc n) inside (End ∷ (flat rest ++ is)) ∙ skipped-flat n rest is)
 
--- the items behind the end of a read
+-- the items after the end of a read
 pub skipped-inside : (inside : Trace) (back : List Item) → skipped 1 (flat inside ++ End ∷ back) ≡ back
 unfolding skipped
 skipped-inside inside back = skipped-flat 0 inside (End ∷ back)
@@ -152,7 +152,7 @@ module _ (code : Code) (inputs : List Block) (f : ℕ) (args : List Word) (fits 
         turn-course-law code own inputs r x.front.now x.closure.place there.stale.value x.closure.unit x.closure.var x.closure.args first_read.inside first_read.back split there.stale.agrees there.stale.stale
         machine out (rw begins at leads)
 
-    -- more steps were run anew than the fuel allows
+    -- more steps were re-executed than the fuel allows
     pub is-over : IsBeyond code (Work fuel) (alone code (state_of m q) x) → IsTurn code inputs fuel r Over
     is-over b = (course b.machine b.out b.leads).over fuel b.beyond
 
@@ -191,14 +191,14 @@ module _ (code : Code) (inputs : List Block) (f : ℕ) (args : List Word) (fits 
           rw e (omega (arith, h.work, h.ended.within)),
         )
 
--- so many turns have brought a repair to this one
+-- that many turns have brought a repair to this one
 pub record Reached (code : Code) (inputs : List Block) (f : ℕ) (args : List Word) (n : ℕ) (r : Repair) (q : RepairInCode) : Type 0 where
   pub repair : Repair
   pub stands : StandsFor q repair
   pub sound : Sound code own inputs f args repair
   pub turns : Turns code own inputs n r repair
 
--- so many are no more than there may be
+-- that many are no more than there may be
 abbrev pub Within : Option ℕ → ℕ → Type 0
 Within None n = ⊤
 Within (Some k) n = n ≤ k
@@ -288,7 +288,7 @@ module _ (code : Code) (inputs : List Block) (f : ℕ) (args : List Word) (fits 
         of (inr (inl l)) = l
         of (inr (inr g)) = absurd (omega (arith, g, within))
 
-    -- as many reads were run anew as there may be
+    -- as many reads were re-executed as there may be
     at-limit : q.spent ≤ fuel → (done : Bool) → ((z : Repair) → z.items ≡ reached.repair.items → is_done code inputs z ≡ done) → IsSliceOf code inputs (Some n) fuel done r q
     at-limit few done d = of n refl
       where
@@ -314,7 +314,7 @@ module _ (code : Code) (inputs : List Block) (f : ℕ) (args : List Word) (fits 
     is-concluded few reads e (Done p) h = rw (e, h.0) (at-limit few true (λ z k. done-if z k h.1))
     is-concluded few reads e Spent h = absurd h
 
-    -- more steps were run anew than the fuel allows
+    -- more steps were re-executed than the fuel allows
     pub is-spent : IsTurn code inputs fuel reached.repair Over → (reads : Option ℕ) → Within reads n → ¬ (reads ≡ Some n) → Comes code inputs reads fuel r Spent
     is-spent over None within less = (turns-over-law code own inputs f args fits r sound n reached.repair reached.turns).whole fuel over.0
     is-spent over (Some k) within less = of (cases_order n k)

@@ -12,7 +12,7 @@ use Rattle.ceal_adjust.specs.declared.adjust.Adjusted.TheVariants.{Done, OutOfFu
 use Rattle.ceal_adjust.specs.declared.complete.Limit.{Limit}
 use Rattle.ceal_adjust.specs.declared.complete.Limit.TheVariants.{Written, Work}
 
--- more steps than the limit allows were written, or run anew
+-- more steps than the limit allows were written, or re-executed
 abbrev pub Exceeds : Limit → ℕ → ℕ → Type 0
 Exceeds (Written n) steps work = n < steps
 Exceeds (Work n) steps work = n < work
@@ -64,7 +64,7 @@ pub record IsRepair (forest : List Item) (work : ℕ) (defined : Option Repaired
   pub finished : Finished
   pub ends : run ≡ Some finished
 
--- the answer is that of the definition, and it is out of fuel exactly where the run from scratch is
+-- the answer is that of the definition, and it is out of fuel exactly when the run from scratch is
 abbrev pub IsAnswer : Option Repaired → Option Finished → Adjusted → Type 0
 IsAnswer defined run (Done forest work) = IsRepair forest work defined run
 IsAnswer defined run OutOfFuel = run ≡ None

@@ -43,13 +43,13 @@ pub record IsSliceOf (code : Code) (inputs : List Block) (reads : Option ℕ) (f
   pub stands : StandsFor q repair
   pub ends : is_done code inputs repair ≡ done
 
--- what so many reads come to, or all, by the definition
+-- what that many reads come to, or all, by the definition
 abbrev pub Comes : Code → List Block → Option ℕ → ℕ → Repair → Sliced → Type 0
 Comes code inputs reads fuel r (More q) = IsSliceOf code inputs reads fuel false r q
 Comes code inputs reads fuel r (Done q) = IsSliceOf code inputs reads fuel true r q
 Comes code inputs reads fuel r Spent = sliced code own inputs reads fuel r ≡ None
 
--- what is left of a repair when no more reads are to be run anew: it is done or not
+-- what is left of a repair when no more reads are to be re-executed: it is done or not
 abbrev pub IsConcluded : Code → List Block → Repair → RepairInCode → Sliced → Type 0
 IsConcluded code inputs r q (More p) = (p ≡ q) × ¬ IsHonest code inputs r.items
 IsConcluded code inputs r q (Done p) = (p ≡ q) × IsHonest code inputs r.items

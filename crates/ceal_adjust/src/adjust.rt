@@ -27,14 +27,14 @@ use std::alloc::Global;
 /// What a repair comes to.
 #[derive(Drop)]
 pub enum Adjusted {
-    /// the flat items of the trace, and how many steps were run anew
+    /// the flat items of the trace, and how many steps were re-executed
     Done { forest: Forest, work: u32 },
     /// a run from scratch needs more steps than the fuel allows
     OutOfFuel,
 }
 
-/// The first trace of a call of a core function: it is run anew with nothing left over, and its blocks have the numbers
-/// from 0 on. It is out of fuel exactly where the run from scratch needs more steps than the fuel allows.
+/// The first trace of a call of a core function: it is run with nothing left over, and its blocks have the numbers
+/// from 0 on. It is out of fuel exactly when the run from scratch needs more steps than the fuel allows.
 pub fn first_forest(
     alloc: Global,
     code: &Code,
@@ -61,7 +61,7 @@ pub fn first_forest(
 /// makes the tables by which what is taken is found, and one learns the plain words; a look-up by a table is a binary
 /// search among the old items with that key. The forest is the flat form of a trace of a call of this code, on inputs
 /// that the given ones extend with any bases; new blocks have the numbers from `next` on. It is out of fuel exactly
-/// where a run from scratch on the given inputs needs more steps than the fuel allows, although only a part is run anew.
+/// where a run from scratch on the given inputs needs more steps than the fuel allows, although only a part is re-executed.
 pub fn adjust(
     alloc: Global,
     code: &Code,

@@ -24,7 +24,7 @@ mod propagate;
 mod rerun;
 
 /// A repair that is under way. It walks the old items once, with a cursor that only moves on. The stack runs in the mode
-/// Running alone, with a number of levels of old items left over to it.
+/// Running by itself, with a number of levels of old items left over to it.
 #[derive(Drop)]
 pub struct Repair<'a> {
     alloc: Global,
@@ -108,7 +108,7 @@ impl<'a> Repair<'a> {
         }
     }
 
-    /// The unit of a read by itself, after so many steps, with what is inside the read left over: the items up to the End
+    /// The unit of a read by itself, after that many steps, with what is inside the read left over: the items up to the End
     /// that closes it.
     #[tactic(auto, using(crate::proofs::MachineSteps::frame_steps), unfolding(crate::specs::Machines::machine_of))]
     pub fn alone(
@@ -156,7 +156,7 @@ impl<'a> Repair<'a> {
         self.number
     }
 
-    /// How many steps were run anew.
+    /// How many steps were re-executed.
     pub fn work(&self) -> u32
         ensures value { result ≡ (state_in self.now).work }
     {
@@ -214,7 +214,7 @@ impl<'a> Repair<'a> {
         Ok(())
     }
 
-    /// One turn: it writes a step, moves on in the old items, or ends a read. After want of memory the repair is of no
+    /// One turn: it writes a step, moves on in the old items, or ends a read. After running out of memory the repair is of no
     /// further use.
     #[tactic(auto, unfolding(crate::specs::Machines::machine_of, ceal_theory::specs::Turns::turn))]
     pub fn turn(&mut self) -> Result<Turn, NoMemory>

@@ -22,7 +22,7 @@ use ceal_code::trace_memory::TraceMemory;
 use std::alloc::Global;
 
 /// A repair that goes on: the flat items as they are, the core blocks that were known since it began, the number of the
-/// next new block, and how many steps were run anew.
+/// next new block, and how many steps were re-executed.
 #[derive(Drop)]
 pub struct Repair {
     pub forest: Forest,
@@ -38,7 +38,7 @@ pub enum Sliced {
     More(Repair),
     /// no read is stale
     Done(Repair),
-    /// more steps were run anew than the fuel allows
+    /// more steps were re-executed than the fuel allows
     Spent,
 }
 
@@ -84,7 +84,7 @@ fn is_honest(alloc: Global, code: &Code, repair: &Repair, inputs: &Inputs) -> Re
     }
 }
 
-/// What is left when no more reads are to be run anew.
+/// What is left when no more reads are to be re-executed.
 fn concluded(
     alloc: Global,
     code: &Code,
@@ -102,7 +102,7 @@ fn concluded(
     }
 }
 
-/// Whether so many reads are all that may be run anew.
+/// Whether that many reads are all that may be re-executed.
 fn is_last(reads: Option<u32>, turns: u64) -> bool
     ensures { IsTrue result ↔ (reads ≡ Some turns) }
 {
@@ -112,7 +112,7 @@ fn is_last(reads: Option<u32>, turns: u64) -> bool
     }
 }
 
-/// A slice: so many reads at most are run anew outside each other, each with all that is stale inside it, or all where no
+/// A slice: at most that many reads are re-executed outside each other, each with all that is stale inside it, or all where no
 /// number is given. Each turn walks the trace from its beginning, so it is for small traces and for comparison.
 pub fn slice_repair(
     alloc: Global,

@@ -1,4 +1,4 @@
-// One turn of a repair that goes on: the unit of the first stale read runs anew by itself.
+// One turn of a repair that goes on: the unit of the first stale read is re-executed by itself.
 
 ghost use Rattle.std.specs.Prelude.{◌≡◌, ◌≤◌, ◌∷◌, ◌++◌, ℕ, List, MatchOption, IfOk, OnOk};
 ghost use Rattle.ceal_base.specs.Block.{Block};
@@ -34,9 +34,9 @@ use std::alloc::Global;
 pub enum Turned {
     /// no read is stale
     Honest,
-    /// the first stale read was run anew
+    /// the first stale read was re-executed
     Went(Repair),
-    /// more steps were run anew than the fuel allows
+    /// more steps were re-executed than the fuel allows
     Over,
 }
 
@@ -58,7 +58,7 @@ pub fn memory_of<'a>(
     Ok(memory)
 }
 
-/// Copies items behind others.
+/// Copies items after others.
 fn add_items(out: &mut Vec<Item>, items: &[Item]) -> Result<(), NoMemory>
     ensures { OnOk result (out.new.items ≡ out.old.items ++ items.now) }
 {
@@ -89,7 +89,7 @@ fn spliced(
     Ok(Forest::new(out))
 }
 
-/// The items behind the End that closes the read before these.
+/// The items after the End that closes the read before these.
 fn behind_end(items: &[Item]) -> Result<&[Item], NoMemory>
     ensures { IfOk result (λ back. back.now ≡ skipped 1 items.now) }
 {
@@ -114,7 +114,7 @@ struct Ran {
     spent: u32,
 }
 
-/// The unit of a stale read runs by itself, with what was inside the read left over. None where more steps are run anew
+/// The unit of a stale read runs by itself, with what was inside the read left over. None where more steps are re-executed
 /// than the fuel allows.
 fn run_alone(
     alloc: Global,
@@ -207,7 +207,7 @@ fn run_stale(
     }
 }
 
-/// One turn: the unit of the first stale read runs anew, and all else stays.
+/// One turn: the unit of the first stale read is re-executed, and all else stays.
 pub fn turn(
     alloc: Global,
     code: &Code,

@@ -262,7 +262,7 @@ module _ (code : Code) (fuel : ℕ) (inputs : List Block) (phase : Phase) (call 
       sym (s.3.stands.known b)
       ∙ still-known code inputs call.function call.args fuel k.repair run k.of reads s.0 s.1 b block (k.of.stands.known b ∙ (ap (λ h. plain_of h (Core b)) same.heap ∙ w))
 
--- where all was run anew there was no slice
+-- where all was run again there was no slice
 pub anew-comes : (e n : EngineState) (k : Option ℕ) (next' : ℕ) (r : Repair) → sliced e.code own e.inputs k e.fuel r ≡ None → (error : RunError) → Comes e n k next' r (Err error)
 anew-comes e n k next' r none Memory = tt
 anew-comes e n k next' r none RanOut = inl none
@@ -277,7 +277,7 @@ ended-so before after next' r came.More c more = absurd (false≢true (more refl
 ended-so before after next' r came.Done c more = inl c
 ended-so before after next' r came.Anew c more = inr c
 
--- the same, where it is not told whether the call was run anew
+-- the same, where it is not told whether the call was run again
 pub comes-so : (e n : EngineState) (k : Option ℕ) (next' : ℕ) (r : Repair) (far : Came) → Comes e n k next' r (Ok far) → (p : Progress) → p ≡ progress_of far → ComesSo e n k next' r (Ok p)
 comes-so before after k next' r came.More c p is = subst (λ q. ComesSo before after k next' r (Ok q)) (sym is) c
 comes-so before after k next' r came.Done c p is = subst (λ q. ComesSo before after k next' r (Ok q)) (sym is) (inl c)

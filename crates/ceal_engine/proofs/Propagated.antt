@@ -80,7 +80,7 @@ finished-clause code fuel inputs (Some call) (Some run) h phase after f w l e =
     (subst (λ l. IsRepaired (state_of code fuel inputs (Some call) phase after) l l) (some-same k.trace l (sym (trace-kept code fuel inputs call run k.trace k.of) ∙ e))
     (still-repaired code fuel inputs call k.of.fits k.trace run k.of phase after w (k.present refl)))
 
--- ---- a run of which nothing was run anew
+-- ---- a run of which nothing was re-executed
 
 module _ (code : Code) (fuel : ℕ) (inputs : List Block) (phase : Phase) (whole : IsWhole phase) where
   idle-run : (f : ℕ) (args : List Word) (l : Trace) (run : Running) → IsKeptRun code inputs f args fuel l run → IsKeptRun code inputs f args fuel l (idle run)

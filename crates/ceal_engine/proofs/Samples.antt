@@ -92,7 +92,7 @@ with_nine = refl
 is_pending : edited IsFinished ≡ Pending
 is_pending = refl
 
--- the trace after a propagation: one step runs anew
+-- the trace after a propagation: one step is re-executed
 repaired : adjusted inc (engine Pending 9).inputs 0 2 (items 4 5) ≡ Some (record { items = items 9 10; work = 1 })
 unfolding adjusted anew next settled chosen bound woven set unset expr_value values bases input_plain plain_of stored hidden-the_row-CodeExpr-0 shape-the_row-CodeExpr-0 denote.Hole.Carrier.hidden
 repaired = refl

@@ -67,7 +67,7 @@ IsRepairOf code fuel inputs (Some call) old run =
     (l : Trace) → IsKeptRun code inputs call.function call.args fuel l old
     → IsRepairedOf code fuel inputs (Some call) l old run
 
--- a run of which nothing was run anew
+-- a run of which nothing was re-executed
 abbrev pub idle : Running → Running
 idle run = record run { spent = 0 }
 
@@ -84,7 +84,7 @@ abbrev pub IsOpenRun : Code → ℕ → List Block → Option Call → Running �
 IsOpenRun code fuel inputs None run = ⊥
 IsOpenRun code fuel inputs (Some call) run = IsPartKept code fuel inputs call run
 
--- what so many reads more make of it
+-- what that many reads more make of it
 abbrev pub IsSliceOf : Code → ℕ → List Block → Option Call → Option ℕ → Running → Running → Sliced → Type 0
 IsSliceOf code fuel inputs None reads old run s = ⊤
 IsSliceOf code fuel inputs (Some call) reads old run s =

@@ -61,8 +61,8 @@ stored_at m (Core n) = core m n
 
 -- `inputs` are the input blocks with their present bases, `forest` has the flat items of the last run's
 -- trace, `timeline` its nodes and `heap` its core blocks, in Finished and Pending, and `work` is the number
--- of steps that were run anew for it. In Partial they are those of the repair that goes on, and `work` is
--- what was spent on it so far. `memory`, `steps` and `live` say something in Finished alone, and `work` in
+-- of steps that were re-executed for it. In Partial they are those of the repair that goes on, and `work` is
+-- what was spent on it so far. `memory`, `steps` and `live` say something only in Finished, and `work` in
 -- Finished and Partial
 pub record EngineState : Type 0 where
   pub code : Code
@@ -226,7 +226,7 @@ abbrev pub is_plain : Option FieldKind → Bool
 is_plain (Some (Plain kind)) = true
 is_plain _ = false
 
--- the block may be looked at: core blocks in Finished alone
+-- the block may be looked at: core blocks only in Finished
 abbrev pub Shows : EngineState → BlockId → Type 0
 Shows e (Input n) = ⊤
 Shows e (Core n) = e.phase ≡ IsFinished

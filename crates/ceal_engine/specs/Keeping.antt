@@ -58,7 +58,7 @@ argument_count (Some (InitFunction name s params body)) = 0
 abbrev pub contents : Mods → CellContents
 contents mods = λ p. latest_value (cell_of mods p)
 
--- so many core blocks of a heap from a number on, each modifiable with its content
+-- that many core blocks of a heap from a number on, each modifiable with its content
 abbrev pub cores_from : Code → CellContents → Contents → ℕ → ℕ → List (Option Block)
 cores_from code s heap n zero = []
 cores_from code s heap n (suc k) = block_after code (plain_of heap) s (Core n) ∷ cores_from code s heap (n + 1) k
@@ -96,7 +96,7 @@ abbrev pub live_kept : Option Running → ℕ
 live_kept None = 0
 live_kept (Some run) = live_count run.heap
 
--- how many of its steps were run anew
+-- how many of its steps were re-executed
 abbrev pub work_kept : Option Running → ℕ
 work_kept None = 0
 work_kept (Some run) = run.spent

@@ -34,7 +34,7 @@ phase_behind came.More = Partial
 phase_behind came.Done = Finished
 phase_behind came.Anew = Finished
 
--- a run that was made anew is up to date, too
+-- a run that was made again is up to date, too
 abbrev pub progress_of : Came → Progress
 progress_of came.More = More
 progress_of came.Done = Done
@@ -95,7 +95,7 @@ pub record Ends (e n : EngineState) (k : Option ℕ) (next : ℕ) (r : Repair) :
   pub items : IsSomeAnd (trace n) (RenamedFrom next repair.items)
   pub work : n.work ≡ repair.spent
 
--- No slice is there within the fuel; the call was run anew.
+-- No slice is there within the fuel; the call was run again.
 pub record IsAnew (e n : EngineState) (k : Option ℕ) (r : Repair) : Type 0 where
   pub none : sliced e.code own e.inputs k e.fuel r ≡ None
   pub first : IsSomeAnd (trace n) (IsFirst n)
@@ -106,7 +106,7 @@ IsOut e k r =
     (sliced e.code own e.inputs k e.fuel r ≡ None)
     ⊎ ((r' : Repair) × (sliced e.code own e.inputs k e.fuel r ≡ Some r') × (is_done e.code e.inputs r' ≡ true))
 
--- What so many reads, or all, make of the engine's repair, by the answer.
+-- What that many reads, or all, make of the engine's repair, by the answer.
 abbrev pub Comes : EngineState → EngineState → Option ℕ → ℕ → Repair → Result Came RunError → Type 0
 Comes e n k next r (Ok came.More) = GoesOn e n k next r
 Comes e n k next r (Ok came.Done) = Ends e n k next r
@@ -114,7 +114,7 @@ Comes e n k next r (Ok came.Anew) = IsAnew e n k r
 Comes e n k next r (Err OutOfFuel) = IsOut e k r
 Comes e n k next r (Err Memory) = ⊤
 
--- the same, where it is not told whether the call was run anew
+-- the same, where it is not told whether the call was run again
 abbrev pub ComesSo : EngineState → EngineState → Option ℕ → ℕ → Repair → Result Progress RunError → Type 0
 ComesSo e n k next r (Ok More) = GoesOn e n k next r
 ComesSo e n k next r (Ok Done) = Ends e n k next r ⊎ IsAnew e n k r
@@ -146,7 +146,7 @@ BeginsLaw =
     (e : EngineState) → IsEngine e → IsWhole e.phase → (l : Trace) → trace e ≡ Some l → (next : ℕ) → Above next l
     → CarriesFrom e next (beginning e.code e.inputs l next)
 
--- behind an edit, and with one input more, it carries the repair that it carried
+-- after an edit, and with one input more, it carries the repair that it carried
 abbrev pub KeptLaw : Type 0
 KeptLaw =
     (e n : EngineState) → IsEngine e → IsEngine n → SameRepair e n → (next : ℕ) (r : Repair)

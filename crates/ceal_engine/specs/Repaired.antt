@@ -59,7 +59,7 @@ pub record IsRepaired (e : EngineState) (old new : Trace) : Type 0 where
   pub apart : Apart names old
   pub from : (next : ℕ) → Above next old → IsRepairFrom e names old new next
 
--- nothing of the trace has changed, and no step was run anew
+-- nothing of the trace has changed, and no step was re-executed
 pub record IsUnchanged (e : EngineState) (old : Trace) : Type 0 where
   pub same : trace e ≡ Some old
   pub work : e.work ≡ 0

@@ -7,7 +7,7 @@ pub fn begins_law()
     ensures law { BeginsLaw }
 {}
 
-/// Behind an edit, and with one input more, an engine carries the repair that it carried.
+/// After an edit, and with one input more, an engine carries the repair that it carried.
 pub fn kept_law()
     ensures law { KeptLaw }
 {}

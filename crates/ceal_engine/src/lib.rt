@@ -5,7 +5,7 @@
 //! the run from scratch on its present inputs up to the numbers of its core blocks. `specs/Repaired` says what becomes of the
 //! trace: after a first run it is the first trace, after a propagation its repair. The body keeps what `ceal_repair` keeps of
 //! a run: the nodes, the lists of the modifiables, the queue of stale reads, the memo, and the heap. So the time of a
-//! propagation goes with what is run anew, and not with the trace. A repair may be done in slices, with edits between them:
+//! propagation goes with what is re-executed, and not with the trace. A repair may be done in slices, with edits between them:
 //! `specs/Partial` says what becomes of it. `asking` tests what calls
 //! require, `running` has what edits and new inputs do to a run, `reading` reads words and
 //! contents, and `items` lists the flat items of nodes.

@@ -34,7 +34,7 @@ pub enum Came {
     More,
     /// no read is stale
     Done,
-    /// more steps were spent than the fuel allows, so the call was run anew
+    /// more steps were spent than the fuel allows, so the call was run again
     Anew,
 }
 

@@ -67,7 +67,7 @@ pub fn add(run: &mut Option<Running>, code: &Code, input: u32, shape: Shape, wor
     }
 }
 
-/// From now on nothing was run anew for the run.
+/// From now on nothing was re-executed for the run.
 pub fn rest(run: &mut Option<Running>)
     ensures { run.new ≡ option_map idle run.old }
 {
@@ -77,7 +77,7 @@ pub fn rest(run: &mut Option<Running>)
     }
 }
 
-/// A run with which a repair goes on. Where a new repair begins nothing was run anew.
+/// A run with which a repair goes on. Where a new repair begins nothing was re-executed.
 pub fn reopen(run: &mut Option<Running>, phase: Phase)
     ensures { run.new ≡ opened phase run.old }
 {
@@ -97,7 +97,7 @@ pub fn give_up(run: &mut Option<Running>)
     drop(mem::replace(run, None));
 }
 
-/// From now on so much work is told of the run.
+/// From now on this much work is told of the run.
 pub fn tell(run: &mut Option<Running>, work: u32)
     ensures { run.new ≡ option_map (told work) run.old }
 {

@@ -166,7 +166,7 @@ fn a_cell_in_the_middle_is_left_out(rt: HostRuntime) -> Result<(), Fail> {
     Ok(())
 }
 
-/// The list with another cell before it, and one behind it.
+/// The list with another cell before it, and one after it.
 fn with_a_last_cell(alloc: Global) -> Result<Inputs, NoMemory> {
     let mut after = with_a_first_cell(alloc)?;
     let words = [Word::Num(4), Word::Null];
@@ -195,7 +195,7 @@ fn of_numbers(alloc: Global) -> Result<Option<Texts>, Fail> {
     story
 }
 
-// The first block with the number is taken, so the second cell's tail is read anew, with another argument.
+// The first block with the number is taken, so the second cell's tail is read again, with another argument.
 #[test]
 fn the_first_of_two_equal_keys_is_taken(rt: HostRuntime) -> Result<(), Fail> {
     let story = of_numbers(rt.alloc())?;

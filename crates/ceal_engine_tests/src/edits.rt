@@ -71,7 +71,7 @@ fn are_words_edited(structs: &[StructInfo], shape: Shape, old: &[Word], new: &[W
     }
 }
 
-/// Whether the block differs in contents of modifiables alone.
+/// Whether the block differs only in contents of modifiables.
 fn is_edited(structs: &[StructInfo], old: &BlockWords, new: &BlockWords) -> bool
     ensures { IsTrue result → plain_block structs.now new.now ≡ plain_block structs.now old.now }
 {

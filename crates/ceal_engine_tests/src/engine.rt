@@ -134,7 +134,7 @@ fn fill_long(engine: &mut Engine, count: u32) -> Result<(), Fail>
     add(engine, Shape::ModPtr(0), &[Word::Null])
 }
 
-/// Propagation has run so many steps anew, and has looked at some contents, but not at more than 100 since `before`.
+/// Propagation has re-executed that many steps, and has looked at some contents, but not at more than 100 since `before`.
 fn looked_at_few<R: Abort>(rt: &R, engine: &Engine, work: u32, before: u64) {
     holds(rt, engine.phase() == Phase::Finished);
     equal(rt, engine.work(), work);
@@ -143,7 +143,7 @@ fn looked_at_few<R: Abort>(rt: &R, engine: &Engine, work: u32, before: u64) {
     holds(rt, looked - before <= 100);
 }
 
-/// The run is finished, with so many steps.
+/// The run is finished, with that many steps.
 fn has_steps<R: Abort>(rt: &R, engine: &Engine, steps: u32) {
     holds(rt, engine.phase() == Phase::Finished);
     equal(rt, engine.steps(), steps);
@@ -155,7 +155,7 @@ fn looked<R: Abort>(rt: &R, engine: &Engine) -> u64 {
     engine.mods().looked()
 }
 
-/// A cell is put behind the last one of the list, and then one before the first one.
+/// A cell is put after the last one of the list, and then one before the first one.
 fn extends<R: Abort>(rt: &R, engine: &mut Engine) -> Result<(), Fail> {
     fill_long(engine, 40_000)?;
     run(engine, 1, &[at(40_000), at(40_001)])?;

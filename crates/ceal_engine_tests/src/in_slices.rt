@@ -181,7 +181,7 @@ fn start(engine: &mut Engine) -> Result<(), Fail> {
     run(engine, 1, &[at(0), at(1), at(2), at(3)])
 }
 
-/// One number is edited again between the slices. Each increment of another number is one step anew.
+/// One number is edited again between the slices. Each increment of another number is one re-executed step.
 fn is_repaired_in_slices<R: Abort>(rt: &R, engine: &mut Engine) -> Result<(), Fail> {
     start(engine)?;
     is_at(rt, engine, 6, (2, 6));

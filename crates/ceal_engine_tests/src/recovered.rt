@@ -47,7 +47,7 @@ fn edit<R: Abort>(rt: &R, engine: &mut Engine, place: Place, word: Word) {
     }
 }
 
-/// After want of memory the run is dropped, and `propagate` runs the call anew.
+/// After running out of memory the run is dropped, and `propagate` runs the call again.
 fn recovers<R: Abort>(rt: &R, engine: &mut Engine, answer: Result<(), RunError>) {
     match answer {
         Ok(()) => {}
@@ -59,7 +59,7 @@ fn recovers<R: Abort>(rt: &R, engine: &mut Engine, answer: Result<(), RunError>)
     }
 }
 
-/// The run has so many steps and core blocks.
+/// The run has that many steps and core blocks.
 fn has<R: Abort>(rt: &R, engine: &Engine, steps: u32, blocks: u32) {
     holds(rt, engine.phase() == Phase::Finished);
     equal(rt, (engine.steps(), engine.live_blocks()), (steps, blocks));

@@ -37,7 +37,7 @@ fn reply(session: &mut Session, line: &str, wanted: &str) -> Result<Text, NoMemo
     }
 }
 
-/// Lines with their replies: each kind of line but `work`, which tells of a run anew where memory was refused.
+/// Lines with their replies: each kind of line but `work`, which tells that all was run again where memory was refused.
 const LINES: [(&str, &str); 19] = [
     ("// a list and its image", ""),
     ("new c3 cell 3 null", "ok\n"),

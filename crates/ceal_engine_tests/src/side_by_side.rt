@@ -1,4 +1,4 @@
-// An engine beside the plain program of the definitions: both run as many steps anew.
+// An engine beside the plain program of the definitions: both re-execute as many steps.
 
 ghost use Rattle.std.specs.Prelude.{◌<◌};
 
@@ -34,7 +34,7 @@ fn engine(alloc: Global, source: &[u8], fuel: u32) -> Result<Engine, Fail> {
     Ok(Engine::new(alloc, program.code, fuel)?)
 }
 
-/// The work of an engine for this edit of its inputs behind a run.
+/// The work of an engine for this edit of its inputs after a run.
 fn edited_work(
     engine: &mut Engine,
     function: u32,
@@ -113,7 +113,7 @@ impl Edit {
     }
 }
 
-/// The cell of this number, from 1 on, or none behind the last one.
+/// The cell of this number, from 1 on, or none after the last one.
 fn cell(number: u32) -> Word
     requires { number < 100 }
 {
@@ -124,7 +124,7 @@ fn cell(number: u32) -> Word
     }
 }
 
-/// Another pointer in one of the inputs: the list begins at another cell, or a cell has another one behind it as its tail, or there is
+/// Another pointer in one of the inputs: the list begins at another cell, or a cell has another one after it as its tail, or there is
 /// none.
 fn drawn(draws: &mut Draws) -> Edit {
     let from = draws.below(CELLS);
@@ -201,7 +201,7 @@ fn goes_on(
     told
 }
 
-/// So many edits, one after another.
+/// That many edits, one after another.
 fn edits_follow<R: Abort>(
     rt: &R,
     alloc: Global,

@@ -35,7 +35,7 @@ struct Call<'a> {
     args: &'a [Word],
 }
 
-/// Other words for fields of inputs, and then a slice of so many reads.
+/// Other words for fields of inputs, and then a slice of that many reads.
 #[derive(Clone, Copy)]
 pub struct Step<'a> {
     pub edits: &'a [(u32, u32, Word)],
@@ -269,7 +269,7 @@ pub fn engine(alloc: Global, source: &[u8]) -> Result<Engine, Fail> {
     Ok(Engine::new(alloc, program.code, 1000)?)
 }
 
-/// The steps by both, behind a run of the engine.
+/// The steps by both, after a run of the engine.
 fn from_run(
     call: Call<'_>,
     inputs: &mut Inputs,

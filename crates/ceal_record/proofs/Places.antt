@@ -17,7 +17,7 @@ use Rattle.ceal_record.specs.Numbers.{place_in, number_of, Counts}
 use Rattle.ceal_record.specs.declared.numbers.Numbers.{Numbers}
 use Rattle.ceal_traceck.specs.Items.{allocated}
 
--- where a number stands with one more behind
+-- where a number stands with one more after
 abbrev or_last : Option ℕ → Bool → ℕ → Option ℕ
 or_last (Some k) here n = Some k
 or_last None true n = Some n

@@ -49,7 +49,7 @@ all-then : (x : Plain) (bs cs : List BlockId) → AllThere x bs → AllThere x c
 all-then x [] cs h k = k
 all-then x (b ∷ bs) cs h k = (h.0, all-then x bs cs h.1 k)
 
--- the blocks that a trace allocates are there behind it
+-- the blocks that a trace allocates are there after it
 all-made : (code : Code) (x : Plain) (l : Trace) → AllThere (plain_after code x l) (blocks_of l)
 all-made code x Nothing = tt
 all-made code x (Stepped rest) = all-made code x rest

@@ -54,7 +54,7 @@ fn block_after(
     }
 }
 
-/// Puts a block of the memory behind the others. Each block that a trace allocates is there.
+/// Puts a block of the memory after the others. Each block that a trace allocates is there.
 fn put_block(
     alloc: Global,
     memory: &TraceMemory<'_>,
@@ -73,7 +73,7 @@ fn put_block(
     }
 }
 
-/// Puts the block of the item behind the others, if it is an allocation.
+/// Puts the block of the item after the others, if it is an allocation.
 fn put_made(
     alloc: Global,
     memory: &TraceMemory<'_>,

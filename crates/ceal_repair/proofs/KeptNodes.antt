@@ -1,5 +1,5 @@
 -- Kept nodes inside a read that is taken, with the stale reads among them.
--- what this crate alone cites
+-- what only this crate cites
 pub mod PassOne
 pub mod PassAll
 pub mod StaleRead

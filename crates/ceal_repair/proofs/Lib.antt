@@ -2,7 +2,7 @@
 pub mod Lists
 pub mod Nodes
 pub mod Runs
--- what this crate alone cites
+-- what only this crate cites
 pub mod QueueCover
 pub mod TableCalls
 pub mod Reuse

@@ -2,5 +2,5 @@
 -- what crates above cite
 pub mod ListChanges
 pub mod PartedLists
--- what this crate alone cites
+-- what only this crate cites
 pub mod ListsOfNodes

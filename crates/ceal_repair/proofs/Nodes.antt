@@ -1,7 +1,7 @@
 -- What nodes stand for: items, blocks, groves, and the store.
 -- what crates above cite
 pub mod NodeItems
--- what this crate alone cites
+-- what only this crate cites
 pub mod NodeBlocks
 pub mod GroveOfRead
 pub mod AroundRead

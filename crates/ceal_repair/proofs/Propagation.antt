@@ -1,5 +1,5 @@
 -- Change propagation, turn by turn, and its slices.
--- what this crate alone cites
+-- what only this crate cites
 pub mod KeptRun
 pub mod TurnBegin
 pub mod TurnAgreement

@@ -1,5 +1,5 @@
 -- Each stale read is covered by a queued one.
--- what this crate alone cites
+-- what only this crate cites
 pub mod Cover
 pub mod QueueChanges
 pub mod AffectedRead

@@ -1,5 +1,5 @@
 -- What is left over to a unit, and is taken by it.
--- what this crate alone cites
+-- what only this crate cites
 pub mod LeftOver
 pub mod NoNewEnds
 pub mod AllocReuse

@@ -1,5 +1,5 @@
 -- What is left over in the end is revoked.
--- what this crate alone cites
+-- what only this crate cites
 pub mod FirstNode
 pub mod UpToNode
 pub mod BlockRelease

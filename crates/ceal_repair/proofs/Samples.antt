@@ -73,7 +73,7 @@ not_without_it : Covers (queue_of []) (holding 9) (λ p. false) increment → �
 unfolding queue_of
 not_without_it covers = elim covers.1.0 [ inl same ↦ absurd (cc) | inr seen ↦ absurd (cc) ]
 
--- the nodes behind the root as a grove, and as the theory has them
+-- the nodes after the root as a grove, and as the theory has them
 of_a_grove : entry 0 Root 1 ∷ entries (Got 7 a (Num (pos 4)) (record { 0 = 1 }) 2 (At b ∷ []) 1 (Put 3 b (Num (pos 5)) 0 Bare) 5 0 Bare) ≡ increment
 of_a_grove = refl
 

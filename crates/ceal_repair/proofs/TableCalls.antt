@@ -1,5 +1,5 @@
 -- Each call of the tables keeps them in step and the stale reads covered.
--- what this crate alone cites
+-- what only this crate cites
 pub mod PutKeepsTables
 pub mod CutKeepsTables
 pub mod CallsKeepCover

@@ -64,7 +64,7 @@ pub record IsFirstRun (code : Code) (inputs : List Block) (f : ℕ) (args : List
   pub named : Named code inputs f args Nothing 0 names first.items trace
   pub work : run.spent ≡ first.work
 
--- out of fuel exactly where the run from scratch is
+-- out of fuel exactly when the run from scratch is
 abbrev pub IsFirst : Code → List Block → ℕ → List Word → ℕ → Outcome → Type 0
 IsFirst code inputs f args fuel (Done run) = IsFirstRun code inputs f args fuel run
 IsFirst code inputs f args fuel OutOfFuel = fresh code f args inputs fuel ≡ None

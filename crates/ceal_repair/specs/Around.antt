@@ -1,4 +1,4 @@
--- What is left over to a unit, and what waits around it, by the nodes behind the cursor.
+-- What is left over to a unit, and what waits around it, by the nodes after the cursor.
 use Rattle.std.specs.Prelude.{◌≡◌, ℕ, Option, None, Some, List, [], ◌∷◌, ◌++◌}
 use Rattle.ceal_code.specs.Stacks.{waits_in}
 use Rattle.ceal_code.specs.declared.waits.Waits.{Waits}
@@ -18,7 +18,7 @@ pub data Inside (ws : List Wait) (rs : List ℕ) : List Wait → List ℕ → Li
       → Inside ws rs vs qs es
       → Inside ws rs (Fixes ∷ vs) (r ∷ qs) (entries g ++ closing e r m ∷ es)
 
--- Where nodes that are left over end: without a limit nothing stands behind them, else the end of a read, at the limit.
+-- Where nodes that are left over end: without a limit nothing stands after them, else the end of a read, at the limit.
 abbrev pub Bounds : Option Stamp → List Entry → Type 0
 Bounds None es = es ≡ []
 Bounds (Some e) es = (r m : ℕ) × (rest : List Entry) × (es ≡ closing e.0 r m ∷ rest)
@@ -27,7 +27,7 @@ Bounds (Some e) es = (r m : ℕ) × (rest : List Entry) × (es ≡ closing e.0 r
 -- the last begun first; the last list is that of the nodes.
 -- A repair ends at the limit and the nodes with which it began.
 mutual
-  -- the nodes behind those that are left over to the unit that runs
+  -- the nodes after those that are left over to the unit that runs
   pub data Tails (limit : Option Stamp) (beyond : List Entry)
       : Option Stamp → List Frame → List Wait → List ℕ → List Entry → Type 0 where
     last : Tails limit beyond limit [] [] [] beyond
@@ -36,7 +36,7 @@ mutual
         (below : Waits) (read : Stamp)
         → Tails limit beyond until fs ws rs tail
         → Tails limit beyond until (Begun below read ∷ fs) (Begins (waits_in below) ∷ ws) (read.0 ∷ rs) tail
-    -- a taken read that runs anew: its end, and what is left over behind it
+    -- a taken read that is re-executed: its end, and what is left over after it
     taken : {until : Stamp} {fs : List Frame} {ws : List Wait} {rs : List ℕ} {tail : List Entry}
         (below : Waits) (e r m : ℕ) (g : Grove)
         → Tails limit beyond (Some until) fs ws rs tail
@@ -47,7 +47,7 @@ mutual
         → Passes limit beyond until fs ws rs back
         → Tails limit beyond (Some (stamped e)) (Kept until ∷ fs) (Fixes ∷ ws) (r ∷ rs) (closing e r m ∷ back)
 
-  -- the nodes behind the cursor, where kept nodes are passed up to the end of a taken read
+  -- the nodes after the cursor, where kept nodes are passed up to the end of a taken read
   pub data Passes (limit : Option Stamp) (beyond : List Entry)
       : Stamp → List Frame → List Wait → List ℕ → List Entry → Type 0 where
     passes : {until : Stamp} {fs : List Frame} {ws vs : List Wait} {rs qs : List ℕ} {es tail : List Entry}

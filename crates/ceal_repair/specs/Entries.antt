@@ -52,7 +52,7 @@ pub data CutTo (s : ℕ) : Grove → Grove → Type 0 where
   there : {g : Grove} → first_stamp g ≡ Some s → CutTo s g g
   more : {g h : Grove} → ¬ (first_stamp g ≡ Some s) → CutTo s (cut g) h → CutTo s g h
 
--- Behind the last of these nodes, which is at the cursor, stand the nodes of a grove, and then these.
+-- After the last of these nodes, which is at the cursor, stand the nodes of a grove, and then these.
 -- Nothing up to the cursor is queued.
 pub record Lies (cursor : ℕ) (front : List Entry) (left : Grove) (tail : List Entry) (t : Tables) : Type 0 where
   pub done : List Entry
@@ -74,7 +74,7 @@ starts (Made s b key n rest) = s ∷ starts rest
 starts (Put s p v n rest) = s ∷ starts rest
 starts (Got s p v u x args n inside e m rest) = s ∷ (starts inside ++ starts rest)
 
--- the node at a stamp is one of those that are left over and no end, or the first behind them
+-- the node at a stamp is one of those that are left over and no end, or the first after them
 abbrev pub IsUntil : ℕ → Grove → List Entry → Type 0
 IsUntil s left tail = (is_in s (starts left) ≡ true) ⊎ (first_in tail ≡ Some s)
 

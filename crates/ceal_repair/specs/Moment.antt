@@ -1,4 +1,4 @@
--- What a repair is at a moment: the machine of repair as a function of the nodes behind the cursor.
+-- What a repair is at a moment: the machine of repair as a function of the nodes after the cursor.
 use Rattle.std.specs.Prelude.{◌≡◌, ℕ, Option, Some, None, List, [], ◌∷◌, ◌++◌, length, ⊤}
 use Rattle.ceal_base.specs.Block.{Block}
 use Rattle.ceal_base.specs.declared.forest.Item.{Item}
@@ -30,7 +30,7 @@ use Rattle.ceal_trace.specs.Nodes.{Entry, end_in}
 use Rattle.ceal_trace.specs.declared.node.Node.{Node}
 use Rattle.ceal_trace.specs.declared.node.Node.TheVariants.{Root}
 
--- the parts of a repair under way: its tables and its heap, the steps that were run anew, the stamp of the cursor,
+-- the parts of a repair under way: its tables and its heap, the steps that were re-executed, the stamp of the cursor,
 -- the limit of what is left over, and what follows, the next first
 pub record View : Type 0 where
   pub tables : Tables
@@ -42,7 +42,7 @@ pub record View : Type 0 where
 
 -- Where the run of one unit by itself began, and what stays until it ends: its machine; the blocks that were there
 -- before any was made, the numbers that were given out until then, and the blocks that old items name; the nodes
--- before the one behind which it runs, that node, and the reads that are open behind it; the limit and the nodes
+-- before the one after which it runs, that node, and the reads that are open after it; the limit and the nodes
 -- from there on.
 pub record Start : Type 0 where
   pub machine : Machine
@@ -56,7 +56,7 @@ pub record Start : Type 0 where
   pub limit : Option Stamp
   pub beyond : List Entry
 
--- a run from nothing begins behind the root, with nothing left over
+-- a run from nothing begins after the root, with nothing left over
 abbrev pub first_start : Code → List Block → ℕ → List Word → Start
 first_start code inputs f args = record {
   machine = first_begins code inputs f args;
@@ -79,7 +79,7 @@ items_before start = forest_of start.before ++ item_of start.node
 abbrev pub through : List Entry → Entry → List Entry
 through done last = done ++ last ∷ []
 
--- nodes that begin with those before the start, unchanged, and with the node behind which the run began
+-- nodes that begin with those before the start, unchanged, and with the node after which the run began
 pub record Began (start : Start) (front : List Entry) : Type 0 where
   pub steps : ℕ
   pub fresh : List Entry
@@ -93,7 +93,7 @@ Unfinished (Taken below limit ∷ fs) nodes = Unfinished fs nodes
 Unfinished (FrameKept until ∷ fs) nodes = Unfinished fs nodes
 
 -- The nodes: those in front are final, the last of them is at the cursor, and nothing before it or at it is queued;
--- then those behind. These reads are open behind the cursor, and then those that were open at the start.
+-- then those after. These reads are open after the cursor, and then those that were open at the start.
 pub record Placed (start : Start) (v : View) (reads : List ℕ) (behind : List Entry) : Type 0 where
   pub kept : Kept v.tables
   pub done : List Entry
@@ -132,7 +132,7 @@ pub record CourseNow (code : Code) (inputs : List Block) (start : Start) (v : Vi
       → store p ≡ contents_after (base_in v.tables.mods) front p
   pub given : Given start.first (start.chosen ++ made) v.heap
 
--- A unit runs with the nodes left over that stand behind the cursor, up to the limit;
+-- A unit runs with the nodes left over that stand after the cursor, up to the limit;
 -- where there is no limit nothing is left over.
 pub record RunningNow (code : Code) (inputs : List Block) (start : Start) (st : Stack) (v : View) : Type 0 where
   pub reads : List ℕ

@@ -48,7 +48,7 @@ pub record IsSpent (code : Code) (inputs : List Block) (fuel : ℕ) (o : Since) 
   pub whole : sliced code names inputs None fuel o.repair ≡ None
   pub part : (k : ℕ) → o.turns < k → sliced code names inputs (Some k) fuel o.repair ≡ None
 
--- so many turns are fewer than there are to be, or no more than that
+-- that many turns are fewer than there are to be, or no more than that
 abbrev pub IsLess : ℕ → Option ℕ → Type 0
 IsLess n None = ⊤
 IsLess n (Some k) = n < k

@@ -106,7 +106,7 @@ pub record EndsRead (start : Start) (below : Waits) (read : Stamp) (r : Repair) 
       (record (view r) { frames = Begun below read ∷ (view r).frames })
   pub over : next_in r stack ≡ Over
 
--- the nodes behind a cursor up to the limit; without a limit none is left over
+-- the nodes after a cursor up to the limit; without a limit none is left over
 abbrev pub nodes_to : Option Stamp → ℕ → List Entry → List Entry
 nodes_to None cursor nodes = []
 nodes_to (Some e) cursor nodes = between cursor e.0 nodes

@@ -27,7 +27,7 @@ use Rattle.ceal_trace.specs.Items.{forest_of, unclosed, Nests}
 use Rattle.ceal_trace.specs.Nodes.{Entry, node_at, with_value}
 use Rattle.ceal_trace.specs.declared.node.Node.TheVariants.{Read}
 
--- a finished read of nodes: those before it, those inside it, its end, and those behind that
+-- a finished read of nodes: those before it, those inside it, its end, and those after that
 pub record ReadAt (nodes : List Entry) : Type 0 where
   pub before : List Entry
   pub read : ℕ
@@ -86,7 +86,7 @@ abbrev pub turns_more : ℕ → ℕ → ℕ
 turns_more zero n = n
 turns_more (suc k) n = suc (turns_more k n)
 
--- after so many turns more
+-- after that many turns more
 abbrev pub later : ℕ → Since → Since
 later n o = record { repair = o.repair; first = o.first; turns = turns_more n o.turns }
 
@@ -114,7 +114,7 @@ pub record TurnedSoFar (code : Code) (inputs : List Block) (f : ℕ) (args : Lis
   pub history : (names : ℕ → ℕ) → Continues chosen names → Turns code names inputs o.turns o.repair repair
 
 -- The first stale read of a run that has come so far was found, and has the content of its moment since then;
--- what is queued stands behind it, and all else is as it was.
+-- what is queued stands after it, and all else is as it was.
 pub record FoundStale (code : Code) (inputs : List Block) (f : ℕ) (args : List Word)
     (o : Since) (read : ℕ) (run : Running) : Type 0 where
   pub called : IsOrigin code inputs f args o

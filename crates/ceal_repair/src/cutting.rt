@@ -44,7 +44,7 @@ fn cut_of(trace: &Trace, node: Stamp) -> Cut
 }
 
 impl Running {
-    /// Revokes the first node that is left over behind a cursor, a read with its end. The block of an allocation can still be read.
+    /// Revokes the first node that is left over after a cursor, a read with its end. The block of an allocation can still be read.
     fn cut(&mut self, cursor: Stamp, node: Stamp) -> Result<(), NoMemory>
         requires kept { Kept self.old.tables }
         requires has { (code : CodeOf) × (inputs : List Block)
@@ -81,8 +81,8 @@ impl Running {
         }
     }
 
-    /// Revokes the nodes that are left over behind a cursor up to one of them, which is then the first; or all of them, up to the
-    /// node behind them. A read goes with its end, and what is inside it stays. No trace that fits into memory has 2^64 nodes.
+    /// Revokes the nodes that are left over after a cursor up to one of them, which is then the first; or all of them, up to the
+    /// node after them. A read goes with its end, and what is inside it stays. No trace that fits into memory has 2^64 nodes.
     pub fn cut_until(&mut self, cursor: Stamp, until: Stamp) -> Result<(), NoMemory>
         requires kept { Kept self.old.tables }
         requires has { (code : CodeOf) × (inputs : List Block)
@@ -117,7 +117,7 @@ impl Running {
         Err(NoMemory)
     }
 
-    /// The node behind a cursor, None where it is this one or where there is none.
+    /// The node after a cursor, None where it is this one or where there is none.
     fn next_before(&self, cursor: Stamp, until: Stamp) -> Option<Stamp>
         requires here { has_node cursor.0 self.now.tables.trace.nodes ≡ true }
         ensures some { IfSome result (λ s. s.0 ≢ until.0) }

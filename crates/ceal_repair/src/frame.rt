@@ -8,8 +8,8 @@ use ceal_order::stamp::Stamp;
 pub enum Frame {
     /// the read is new: the units below run, with what its own leave over
     Begun { below: Waits, read: Stamp },
-    /// the read was taken: the units below run, with the nodes behind its end, up to this limit
+    /// the read was taken: the units below run, with the nodes after its end, up to this limit
     Taken { below: Waits, limit: Stamp },
-    /// the read was stale among nodes that are kept: those behind its end are passed, up to this limit
+    /// the read was stale among nodes that are kept: those after its end are passed, up to this limit
     Kept { until: Stamp },
 }

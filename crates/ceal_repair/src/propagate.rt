@@ -30,9 +30,9 @@ pub enum Propagation {
 }
 
 /// Brings a run up to date with inputs that have other bases: change propagation (Acar, *Self-Adjusting Computation*, 2005). Each
-/// stale read is run anew, the first one first; what the new run of its unit takes of the old one stays. It is out of fuel
-/// exactly where a run from scratch needs more steps than the fuel allows. Where no read is stale it takes no memory. What the run
-/// keeps is changed in place: after want of memory, and where it is out of fuel, it is of no further use.
+/// stale read is re-executed, the first one first; what the new run of its unit takes of the old one stays. It is out of fuel
+/// exactly when a run from scratch needs more steps than the fuel allows. Where no read is stale it takes no memory. What the run
+/// keeps is changed in place: after running out of memory, and where it is out of fuel, it is of no further use.
 pub fn propagate(
     room: &mut Room,
     code: &Code,

@@ -34,7 +34,7 @@ mod take;
 mod turn;
 pub mod turns;
 
-/// A repair that is under way, or a run from nothing. A unit runs; the nodes up to the cursor are final, and those behind it, up to
+/// A repair that is under way, or a run from nothing. A unit runs; the nodes up to the cursor are final, and those after it, up to
 /// the limit, are left over to the unit. The cursor only moves on. The arguments are those of the read that is made.
 ///
 /// It holds nothing itself: what the run keeps is changed in place, and the units, the frames and the arguments are in the
@@ -53,7 +53,7 @@ pub struct Repair<'a> {
 }
 
 impl<'a> Repair<'a> {
-    /// Before the first act, behind the root: the units of the room are still to do, no frame waits, and nothing is left over.
+    /// Before the first act, after the root: the units of the room are still to do, no frame waits, and nothing is left over.
     pub fn at_root(
         code: &'a Code,
         inputs: &'a Inputs,
@@ -88,7 +88,7 @@ impl<'a> Repair<'a> {
         }
     }
 
-    /// How many steps were run anew.
+    /// How many steps were re-executed.
     pub fn spent(&self) -> u32
         ensures { result ≡ (view self.now).spent }
     {
@@ -142,8 +142,8 @@ impl<'a> Repair<'a> {
         Ok(())
     }
 
-    /// One step more was run anew, behind the node at the cursor. Where the count has no room in 32 bits, there is no memory for
-    /// so many steps.
+    /// One step more was re-executed, after the node at the cursor. Where the count has no room in 32 bits, there is no memory for
+    /// that many steps.
     fn step(&mut self) -> Result<(), NoMemory>
         requires kept { Kept (running_of self.old).tables }
         requires here { has_node self.old.cursor.0 (running_of self.old).tables.trace.nodes ≡ true }
@@ -168,7 +168,7 @@ impl<'a> Repair<'a> {
         Ok(())
     }
 
-    /// What the running unit does next. It answers false where the unit is over and nothing follows. After want of memory the
+    /// What the running unit does next. It answers false where the unit is over and nothing follows. After running out of memory the
     /// repair is of no further use.
     pub fn act(&mut self) -> Result<bool, NoMemory>
         requires runs { (start : Start) × Runs start self.old }

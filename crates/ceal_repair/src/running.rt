@@ -26,7 +26,7 @@ use ceal_code::initialise::{made_shape, make_block};
 use ceal_heap::heap::Heap;
 use std::alloc::Global;
 
-/// What a run keeps: the tables of its trace, its core blocks, and how many steps were run anew for it.
+/// What a run keeps: the tables of its trace, its core blocks, and how many steps were re-executed for it.
 #[derive(Drop)]
 pub struct Running {
     pub tables: Tables,
@@ -42,8 +42,8 @@ pub enum Outcome {
     OutOfFuel,
 }
 
-/// The number of words of a block, where the heap takes so many: at most 255. Valid code makes no larger block; one that was
-/// larger would be told as want of memory.
+/// The number of words of a block, where the heap takes that many: at most 255. Valid code makes no larger block; one that was
+/// larger would be answered as out of memory.
 fn few_words(block: &BlockWords) -> Result<&[Word], NoMemory>
     ensures words { IfOk result (λ words. words.now ≡ block.now.words) }
     ensures few { IfOk result (λ words. length words.now < 256) }
@@ -57,7 +57,7 @@ fn few_words(block: &BlockWords) -> Result<&[Word], NoMemory>
 }
 
 impl Running {
-    /// Before the first step: the root alone, the inputs with their bases, and no core block.
+    /// Before the first step: only the root, the inputs with their bases, and no core block.
     pub fn begin(alloc: Global, code: &Code, inputs: &Inputs) -> Result<Running, NoMemory>
         requires few { length inputs.now < 2 ^ 32 }
         ensures nodes { IfOk result (λ r. r.tables.trace.nodes ≡ new_entry 0 Root ∷ []) }

@@ -49,7 +49,7 @@ pub struct Begun {
 }
 
 impl Tables {
-    /// The tables of a trace of the root alone.
+    /// The tables of a trace of only the root.
     pub fn new(alloc: Global) -> Result<Tables, NoMemory>
         ensures nodes { IfOk result (λ t. t.trace.nodes ≡ new_entry 0 Root ∷ []) }
         ensures bases { IfOk result (λ t. IsUntouched t.mods) }

@@ -101,7 +101,7 @@ fn a_write_parts_a_read_from_what_stands_before(rt: HostRuntime) {
     drop(order);
 }
 
-// Puts in a read of a place at a new stamp, directly behind another one.
+// Puts in a read of a place at a new stamp, directly after another one.
 fn read_behind<R: Abort>(
     rt: &R,
     order: &mut Order,
@@ -125,7 +125,7 @@ fn read_behind<R: Abort>(
     stamp
 }
 
-// Puts in a write of 2 to a place at a new stamp, directly behind another one.
+// Puts in a write of 2 to a place at a new stamp, directly after another one.
 fn write_behind<R: Abort>(
     rt: &R,
     order: &mut Order,
@@ -150,7 +150,7 @@ fn write_behind<R: Abort>(
     stamp
 }
 
-// A place with a base, a read, a write behind it, and two reads behind that.
+// A place with a base, a read, a write after it, and two reads after that.
 fn writes_between_reads<R: Abort>(rt: &R, order: &mut Order, mods: &mut Mods)
     requires room { 4 ≤ order.old.spare }
     requires follows { (stamps : List ℕ) → Follows stamps mods.old }

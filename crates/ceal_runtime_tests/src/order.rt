@@ -45,7 +45,7 @@ fn is_as<R: Abort>(rt: &R, alloc: Global, order: &Order, list: &Vec<Stamp>) {
     holds(rt, is_rising(order));
 }
 
-// The stamp so many places behind the first, or the last one.
+// The stamp that many places after the first, or the last one.
 fn stamp_at(order: &Order, places: u64) -> Stamp
     ensures { IsTrue (is_in result.0 order.now.stamps) }
 {
@@ -59,7 +59,7 @@ fn stamp_at(order: &Order, places: u64) -> Stamp
     at
 }
 
-// A stamp behind the first one.
+// A stamp after the first one.
 fn put_second<R: Abort>(rt: &R, order: &mut Order) -> Stamp {
     order.reserve(1).expect(rt, "memory");
     let first = order.first();
@@ -89,7 +89,7 @@ fn each_after_the_first_comes_second(rt: HostRuntime) {
     drop(order);
 }
 
-// A stamp behind the last one.
+// A stamp after the last one.
 fn put_last<R: Abort>(rt: &R, order: &mut Order, last: Stamp) -> Stamp
     requires here { IsTrue (is_in last.0 order.old.stamps) }
     ensures here { IsTrue (is_in result.0 order.new.stamps) }
@@ -120,7 +120,7 @@ fn each_after_the_last_comes_last(rt: HostRuntime) {
     drop(order);
 }
 
-// Puts a stamp behind the one at a place, in the order and in the list, or takes that one out of both.
+// Puts a stamp after the one at a place, in the order and in the list, or takes that one out of both.
 fn put_or_take<R: Abort>(
     rt: &R,
     order: &mut Order,
@@ -151,7 +151,7 @@ fn next_random(random: u64) -> u64 {
     next
 }
 
-// Two insertions to one deletion at random, among so many places.
+// Two insertions to one deletion at random, among that many places.
 fn change_at_random<R: Abort>(rt: &R, order: &mut Order, list: &mut Vec<Stamp>, places: u64)
     requires some { 0 < places }
 {
@@ -174,7 +174,7 @@ fn at_random_among<R: Abort>(rt: &R, alloc: Global, places: u64)
     drop(order);
 }
 
-// Among all stamps, and among the first few, where labels are given anew.
+// Among all stamps, and among the first few, where labels are given again.
 #[test]
 fn at_random_as_a_list(rt: HostRuntime) {
     at_random_among(&rt, rt.alloc(), 5);

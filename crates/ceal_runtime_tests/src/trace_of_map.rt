@@ -85,7 +85,7 @@ struct Mapped {
     to: Place,
 }
 
-// A read of the map with its end, behind a node.
+// A read of the map with its end, after a node.
 fn add_read<R: Abort>(rt: &R, alloc: Global, trace: &mut Trace, after: Stamp, found: Found) -> Stamp
     requires here { IsTrue (has_node after.0 trace.old.nodes) }
     requires room { 2 ≤ trace.old.spare }
@@ -101,8 +101,8 @@ fn add_read<R: Abort>(rt: &R, alloc: Global, trace: &mut Trace, after: Stamp, fo
     read
 }
 
-// What the map of a list puts behind a node for one cell: the read of the cell with its end, and inside it the new
-// block and the write. The read of the next cell comes behind the write.
+// What the map of a list puts after a node for one cell: the read of the cell with its end, and inside it the new
+// block and the write. The read of the next cell comes after the write.
 fn add_cell<R: Abort>(
     rt: &R,
     alloc: Global,

@@ -73,7 +73,7 @@ fn made_by_itself<R: Abort>(rt: &R, alloc: Global) -> Cmd {
     }
 }
 
-/// Calls a function that is not there, with a unit that is not there behind it.
+/// Calls a function that is not there, with a unit that is not there after it.
 fn lost_call(alloc: Global) -> Cmd {
     Cmd::Call {
         function: 9,
@@ -252,7 +252,7 @@ fn is_valid_on_the_other_branch<R: Abort>(
     are_right(rt, alloc, structs, body)
 }
 
-// A variable that is set on the other branch alone.
+// A variable that is set only on the other branch.
 fn sets_on_a_branch<R: Abort>(rt: &R, alloc: Global, structs: &[StructInfo]) {
     let two = CodeExpr::Num(2);
     holds(
@@ -285,7 +285,7 @@ fn branches(rt: HostRuntime) -> Result<(), Fail> {
 }
 
 fn goes_on<R: Abort>(rt: &R, alloc: Global, structs: &[StructInfo]) {
-    // before any step, and behind one
+    // before any step, and after one
     let first = tail(rt, alloc, 1, &[0, 1]);
     holds(rt, !is_right_alone(rt, alloc, structs, first));
     let second = tail(rt, alloc, 1, &[0, 1]);

@@ -11,7 +11,7 @@ use std::alloc::Global;
 use std::process::Abort;
 use std::test::Fail;
 
-/// A block by its jumps alone.
+/// A block, only by its jumps.
 #[derive(Clone, Copy, PartialEq)]
 enum Jumps {
     Done,

@@ -119,7 +119,7 @@ const WORDS: [Reserved; 17] = [
     Reserved::Continue,
 ];
 
-/// The first tokens are these signs. The tokens behind them are what is left.
+/// The first tokens are these signs. The tokens after them are what is left.
 fn after_signs<'a, R: Abort>(rt: &R, tokens: &'a [Token], signs: &[Sign]) -> &'a [Token] {
     let mut rest = tokens;
     for sign in signs {
@@ -129,7 +129,7 @@ fn after_signs<'a, R: Abort>(rt: &R, tokens: &'a [Token], signs: &[Sign]) -> &'a
     rest
 }
 
-/// The first tokens are these words. The tokens behind them are what is left.
+/// The first tokens are these words. The tokens after them are what is left.
 fn after_words<'a, R: Abort>(rt: &R, tokens: &'a [Token], words: &[Reserved]) -> &'a [Token] {
     let mut rest = tokens;
     for word in words {

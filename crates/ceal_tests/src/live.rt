@@ -34,7 +34,7 @@ fn push_set<R: Abort>(rt: &R, alloc: Global, all: &mut Vec<u32>, set: &LiveSet) 
     all.push(9).expect(rt, "memory");
 }
 
-/// The variables of all sets, each list behind the one before.
+/// The variables of all sets, each list after the one before.
 fn all_of<R: Abort>(rt: &R, alloc: Global, sets: &[LiveSet]) -> Vec<u32> {
     let mut all = Vec::new(alloc);
     for set in sets {
@@ -51,7 +51,7 @@ fn sets_of<R: Abort>(rt: &R, alloc: Global, program: &Typed) -> LiveSets {
     sets
 }
 
-/// The live variables of a program's blocks are these, one block behind another; each list ends by 9.
+/// The live variables of a program's blocks are these, one block after another; each list ends by 9.
 fn are_live<R: Abort>(rt: &R, alloc: Global, program: &Typed, wanted: &[u32]) {
     let sets = sets_of(rt, alloc, program);
     let all = all_of(rt, alloc, sets.items());

@@ -9,7 +9,7 @@ use ceal_many::{Answerer, Maker, Many};
 use std::alloc::Global;
 use std::process::Abort;
 
-// Says all lines that it has heard, each with a line feed behind it.
+// Says all lines that it has heard, each with a line feed after it.
 #[derive(Drop)]
 struct Echo {
     heard: Text,

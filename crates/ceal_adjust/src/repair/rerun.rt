@@ -1,4 +1,4 @@
-// Units run anew, and take what the old items have left over.
+// Units that are re-executed, and take what the old items have left over.
 
 ghost use Rattle.std.specs.Prelude.{◌≡◌, ◌+◌, true, drop, Option, IfOk, OnOk};
 ghost use Rattle.ceal_base.specs.declared.forest.Item.TheVariants.{Alloc as AllocItem, Read as ReadItem};
@@ -25,7 +25,7 @@ use ceal_code::step::Act;
 use std::mem;
 
 impl<'a> Repair<'a> {
-    /// One step more was run anew.
+    /// One step more was re-executed.
     fn step(&mut self) -> Result<(), NoMemory>
         ensures work { OnOk result (self.new ≡ record self.old { work = self.old.work + 1 }) }
     {
@@ -108,8 +108,8 @@ impl<'a> Repair<'a> {
         }
     }
 
-    /// The unit goes into a read: one that is left over is taken with the items inside it, or the unit of the read runs
-    /// anew. It answers the content that is read.
+    /// The unit goes into a read: one that is left over is taken with the items inside it, or the unit of the read is
+    /// re-executed. It answers the content that is read.
     #[tactic(auto, using(crate::proofs::MachineSteps::frame_steps), unfolding(crate::specs::Machines::machine_of))]
     fn read_in(&mut self, closure: &Closure) -> Result<Word, NoMemory>
         requires running { self.old.mode ≡ Mode.Running }
@@ -144,7 +144,7 @@ impl<'a> Repair<'a> {
         }
     }
 
-    /// The unit reads: a read that is left over is taken with the items inside it, or the unit of the read runs anew.
+    /// The unit reads: a read that is left over is taken with the items inside it, or the unit of the read is re-executed.
     fn read(&mut self, closure: Closure) -> Result<Turn, NoMemory>
         requires running { self.old.mode ≡ Mode.Running }
         ensures code { OnOk result (code_of self.new ≡ code_of self.old) }

@@ -81,7 +81,7 @@ impl Engine {
         }
     }
 
-    /// How many steps were run anew for the last `run` or `propagate`. The step of a read belongs to what stands before
+    /// How many steps were re-executed for the last `run` or `propagate`. The step of a read belongs to what stands before
     /// the read, so a stale read by itself is no work.
     pub fn work(&self) -> u32
         requires { self.now.phase ≡ Finished }

@@ -151,7 +151,7 @@ impl Engine {
         }
     }
 
-    /// Runs the core function of this number. OutOfFuel comes exactly where the run from scratch takes more steps than
+    /// Runs the core function of this number. OutOfFuel comes exactly when the run from scratch takes more steps than
     /// the fuel. After an error the phase is Dropped, and the call is kept for `propagate`.
     pub fn run(&mut self, function: u32, args: &[Word]) -> Result<(), RunError>
         requires new { self.old.phase ≡ New }
@@ -172,8 +172,8 @@ impl Engine {
     }
 
     /// Brings the run up to date after edits, by change propagation (Acar, *Self-Adjusting Computation*, 2005).
-    /// OutOfFuel comes exactly where the run from scratch takes more steps than the fuel, although only a part is run
-    /// anew. After an error the phase is Dropped, and another `propagate` runs the call anew. In Finished it takes no
+    /// OutOfFuel comes exactly when the run from scratch takes more steps than the fuel, although only a part is
+    /// re-executed. After an error the phase is Dropped, and another `propagate` runs the call again. In Finished it takes no
     /// memory. In Partial it ends the repair that goes on.
     pub fn propagate(&mut self) -> Result<(), RunError>
         requires { self.old.phase ≡ New → ⊥ }
@@ -219,8 +219,8 @@ impl Engine {
         }
     }
 
-    /// Goes on with the repair that is under way, or begins that of a run: so many stale reads, each with all that is inside
-    /// it, or all where no number is given. Where more steps would be spent on it than the fuel, the call is run anew.
+    /// Goes on with the repair that is under way, or begins that of a run: that many stale reads, each with all that is inside
+    /// it, or all where no number is given. Where more steps would be spent on it than the fuel, the call is run again.
     /// After an error the phase is Dropped.
     pub fn go_on(&mut self, reads: Option<u32>) -> Result<Came, RunError>
         requires run { has_run self.old.phase ≡ true }
@@ -280,9 +280,9 @@ impl Engine {
         }
     }
 
-    /// Repairs at most so many stale reads, each with all that is inside it. Done: the run is up to date. More: reads are
-    /// stale still, and another `slice` or `propagate` goes on, also after edits. Where the steps run anew since the last
-    /// completion would be more than the fuel, all is run anew in the same call. After an error the phase is Dropped.
+    /// Repairs at most that many stale reads, each with all that is inside it. Done: the run is up to date. More: reads are
+    /// stale still, and another `slice` or `propagate` goes on, also after edits. Where the steps re-executed since the last
+    /// completion would be more than the fuel, all is run again in the same call. After an error the phase is Dropped.
     pub fn slice(&mut self, reads: u32) -> Result<Progress, RunError>
         requires called { self.old.phase ≡ New → ⊥ }
         requires some { 1 ≤ reads }

@@ -1,4 +1,4 @@
--- Behind a read among kept nodes whose unit is over, the nodes that are kept go on, in code.
+-- After a read among kept nodes whose unit is over, the nodes that are kept go on, in code.
 use Rattle.std.proofs.Common.{◌≡◌, ℕ, Some, List, refl, sym, ap, ◌∙◌}
 use Rattle.ceal_base.specs.Block.{Block}
 use Rattle.ceal_base.specs.declared.word.BlockId.{BlockId}
@@ -26,7 +26,7 @@ module _ (old : Repair) (start : Start) (until end : Stamp) (a : EndsKept start 
       let both : Some (stamped n.end) ≡ Some end = sym n.now_is ∙ at_end in
       cc
 
-  -- its end is the first node behind what is left over
+  -- its end is the first node after what is left over
   pub end-first : first_in a.now.tail ≡ Some end.0
   end-first = first-kept (code_of old) (inputs_of old) start a.stack (view old) until a.now ∙ ap (λ (s : Stamp). Some s.0) same-end
 

@@ -95,7 +95,7 @@ end-turn code names s below ws is = refl
 unqueued-from : (t : Tables) → Kept t → (s : ℕ) → QueuedFrom s t → (r : ℕ) → position r t.trace.nodes < position s t.trace.nodes → IsHonestRecord r t
 unqueued-from t k s from r lt = unqueued-honest t k r (false-of (is_in r t.stale.stamps) (λ i. absurd (omega (arith, from r i, lt)))) (λ z i. omega (arith, from z i, lt))
 
--- ---- what is passed, and what stands behind it
+-- ---- what is passed, and what stands after it
 
 -- what the frame of the taken read says of what waits
 pub record PassesTaken (limit : Option Stamp) (beyond : List Entry) (until : Stamp) (fs : List Frame) (ws : List Wait) (rs : List ℕ) (back : List Entry) : Type 0 where
@@ -236,7 +236,7 @@ module _ (code : Code) (inputs : List Block) (start : Start) (until : Stamp) (v 
         → KnownBlock (length inputs) (known_after [] (forest_of walked)) q.block
     known-then q c = subst (λ bs. KnownBlock (length inputs) bs q.block) (ap (known_after []) (forest-put walked until.0 (End (stamped around-it.read))) ∙ known-append [] (forest_of walked) (item.End ∷ [])) c
 
-    -- all are in front with the end, and the units below run with what stands behind it
+    -- all are in front with the end, and the units below run with what stands after it
     pub now-passed : RunningNow code inputs start (waits_in around-it.below) (record { tables = t; heap = v.heap; spent = v.spent; cursor = until.0; limit = Some around-it.next; frames = around-it.frames })
     now-passed = record {
       reads = around-it.reads;

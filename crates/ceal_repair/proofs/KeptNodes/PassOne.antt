@@ -97,7 +97,7 @@ walks-along (Along.close e r m a) = Walks.close e r m (walks-along a)
 pub walks-all : {vs : List Wait} {qs : List ℕ} {ws : List Wait} {rs : List ℕ} {es : List Entry} → Inside vs qs ws rs es → Walks vs qs ws rs es
 walks-all i = walks-along (along i)
 
--- a read among them: the nodes before it, what is inside it, and the nodes behind its end
+-- a read among them: the nodes before it, what is inside it, and the nodes after its end
 pub record Reached (s : ℕ) (vs : List Wait) (qs : List ℕ) (ws : List Wait) (rs : List ℕ) (es : List Entry) : Type 0 where
   pub waits : List Wait
   pub reads : List ℕ
@@ -316,7 +316,7 @@ module _ (code : Code) (inputs : List Block) (start : Start) (v : View) (has : H
 
   module _ (kept : Kept v.tables) (walked tail : List Entry) (nodes : v.tables.trace.nodes ≡ walked ++ tail)
       (honest : (r : ℕ) (p : Place) (w : Word) → Records p w (node_at r walked) → w ≡ contents_after (base_in v.tables.mods) (before r walked) p) where
-    -- the moment behind these nodes
+    -- the moment after these nodes
     pub record Walked (ws : List Wait) (rs : List ℕ) : Type 0 where
       pub opened : unclosed (Some []) walked ≡ Some (rs ++ start.reads)
       pub began : Began start walked

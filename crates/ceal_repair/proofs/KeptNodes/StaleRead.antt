@@ -67,7 +67,7 @@ position-far r (e ∷ es) back h = elim (eqb_tells e.stamp r) [
   | inr p ↦ rw p.0 (let rest = position-far r es back (rw p.0 at h) in omega (arith, rest))
 ]
 
--- where all that is queued stands behind a node, the reads up to it have the contents of their moments
+-- where all that is queued stands after a node, the reads up to it have the contents of their moments
 unqueued-behind : (t : Tables) → Kept t → (s : ℕ) → QueuedBehind s t → (r : ℕ) → position r t.trace.nodes ≤ position s t.trace.nodes → IsHonestRecord r t
 unqueued-behind t k s behind r le = unqueued-honest t k r (false-of (is_in r t.stale.stamps) (λ i. absurd (omega (arith, behind r i, le)))) (λ z i. omega (arith, behind z i, le))
 
@@ -125,7 +125,7 @@ module _ (code : Code) (inputs : List Block) (start : Start) (until : Stamp) (v 
       now.waits now.reads (around-it code inputs start until v now).nodes
   the-read = reached read (around-it code inputs start until v now).inside reads-one
 
-  -- the nodes before it, and those behind it
+  -- the nodes before it, and those after it
   abbrev pub walked : List Entry
   walked = through now.placed.done now.placed.last ++ the-read.front
 
@@ -232,7 +232,7 @@ module _ (code : Code) (inputs : List Block) (start : Start) (until : Stamp) (v 
         ∙ ap (λ z. Went (item.Read the-read.place z the-read.unit the-read.var the-read.args ∷ [])
         (running_at (state_at code inputs v moment-read.course.store (start.chosen ++ moment-read.course.made)) (resumed code the-read.unit the-read.var the-read.args z) (Fixes ∷ the-read.waits) (ticks the-read.steps ++ forest_of read-tail))) store-now
 
-    -- the nodes before the read are passed, and its unit runs, with what is inside it left over; behind its end nodes are passed then
+    -- the nodes before the read are passed, and its unit runs, with what is inside it left over; after its end nodes are passed then
     pub now-mend : RunningNow code inputs start (resumed code the-read.unit the-read.var the-read.args word)
         (record { tables = t; heap = v.heap; spent = v.spent; cursor = read; limit = Some (stamped the-read.end); frames = FrameKept until ∷ v.frames })
     now-mend = record {

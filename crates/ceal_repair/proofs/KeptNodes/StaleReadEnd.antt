@@ -159,7 +159,7 @@ module _ (code : Code) (inputs : List Block) (start : Start) (st : Stack) (w : V
     unfolding mid-machine
     mid-number = refl
 
-    -- what is left over inside the read is revoked, its end is in front with its steps, and the nodes behind it are to be passed
+    -- what is left over inside the read is revoked, its end is in front with its steps, and the nodes after it are to be passed
     pub now-go-on : PassingNow code inputs start until (record { tables = t; heap = heap; spent = w.spent; cursor = next-kept.end; limit = Some until; frames = w.frames })
     now-go-on = record {
       reads = next-kept.reads;

@@ -29,7 +29,7 @@ flat-stepped (suc n) t = ap (λ is. item.Step ∷ is) (flat-stepped n t)
 pub forest-grove : (g : Grove) → forest_of (entries g) ≡ flat (trace_in g)
 forest-grove g = sym (items-knots-of (entries g) (rootless-entries g)) ∙ (ap items_in (knots-entries g) ∙ items-knots g)
 
--- behind a read that is open, its end closes it
+-- after a read that is open, its end closes it
 pub end-closes : (e r m : ℕ) (behind : List Entry) (rs : List ℕ) → unclosed (Some (r ∷ rs)) (closing e r m ∷ behind) ≡ unclosed (Some rs) behind
 end-closes e r m behind rs = ap (λ t. unclosed (if t then Some rs else None) behind) (eq-eqb r r refl)
 
@@ -44,7 +44,7 @@ grove-nests (Got s p v u x args n inside e m rest) es rs =
     ∙ (end-closes e s m (entries rest ++ es) rs ∙ grove-nests rest es rs))
 
 module _ {nodes : List Entry} (a : ReadAt nodes) where
-  -- the items before the read, the read, what is inside it, its end, and the items behind that
+  -- the items before the read, the read, what is inside it, its end, and the items after that
   pub spot-items : forest_of nodes ≡ forest_of a.before ++ item.Read a.place a.value a.unit a.var a.args ∷ (flat (stepped a.steps (trace_in a.inside)) ++ item.End ∷ (ticks a.end_steps ++ forest_of a.behind))
   spot-items = ap forest_of a.whole
       ∙ (forest-append a.before (entry a.read (Read a.place a.value a.unit a.var a.args) a.steps ∷ (entries a.inside ++ closing a.end a.read a.end_steps ∷ a.behind))
@@ -55,7 +55,7 @@ module _ {nodes : List Entry} (a : ReadAt nodes) where
           ∙ (sym (append_assoc (ticks a.steps) (flat (trace_in a.inside)) (item.End ∷ (ticks a.end_steps ++ forest_of a.behind)))
           ∙ ap (λ (is : List Item). is ++ item.End ∷ (ticks a.end_steps ++ forest_of a.behind)) (sym (flat-stepped a.steps (trace_in a.inside))))
 
-  -- the reads that are open before it are closed behind its end
+  -- the reads that are open before it are closed after its end
   pub spot-nests : Nests nodes → (rs : List ℕ) → unclosed (Some []) a.before ≡ Some rs → unclosed (Some rs) a.behind ≡ Some []
   spot-nests h rs o =
       sym (end-closes a.end a.read a.end_steps a.behind rs)

@@ -1,4 +1,4 @@
--- Nodes in front of the cursor and behind it, and what they stand for.
+-- Nodes in front of the cursor and after it, and what they stand for.
 use Rattle.std.proofs.Common.{◌≡◌, ℕ, zero, suc, inl, inr, ◌⊎◌, ◌+◌, ◌≤◌, Bool, true, false, if◌then◌else◌, Option, Some, None, List, [], ◌∷◌, ◌++◌, length, refl, sym, ap, subst, ◌∙◌, arith, append_assoc, append-nil, add-one}
 use Rattle.std.specs.Prelude.{⊤, IsSome}
 use Rattle.std.proofs.lemmas.Bool.Decides.{eqb_tells}
@@ -55,7 +55,7 @@ ticks-more n = ap ticks (add-one n) ∙ ticks-next n
 forest-one : (e : Entry) → forest_of (e ∷ []) ≡ item_of e.node ++ ticks e.steps
 forest-one e = ap (λ is. item_of e.node ++ is) (append-nil (ticks e.steps))
 
--- one step more on the last node is one step behind all
+-- one step more on the last node is one step after all
 pub forest-step : (done : List Entry) (last : Entry) → forest_of (through done (more last)) ≡ forest_of (through done last) ++ item.Step ∷ []
 forest-step done last =
     forest-append done (more last ∷ []) ∙ (ap (λ is. forest_of done ++ is) one ∙ (sym (append_assoc (forest_of done) (forest_of (last ∷ [])) (item.Step ∷ []))
@@ -65,7 +65,7 @@ forest-step done last =
     one = forest-one (more last) ∙ (ap (λ is. item_of last.node ++ is) (ticks-more last.steps)
         ∙ (sym (append_assoc (item_of last.node) (ticks last.steps) (item.Step ∷ [])) ∙ ap (λ is. is ++ item.Step ∷ []) (sym (forest-one last))))
 
--- a node that is put behind all
+-- a node that is put after all
 pub forest-put : (front : List Entry) (s : ℕ) (node : Node) → forest_of (front ++ new_entry s node ∷ []) ≡ forest_of front ++ item_of node
 forest-put front s node = forest-append front (new_entry s node ∷ []) ∙ ap (λ is. forest_of front ++ is) (append-nil (item_of node))
 
@@ -219,7 +219,7 @@ began-put start front e b = record {
 abbrev ApartFrom : List ℕ → List Entry → Type 0
 ApartFrom rs es = (r : ℕ) → is_in r rs ≡ true → has_node r es ≡ false
 
--- the reads that are open behind nodes are different ones, and each of them is one of those before or is among the nodes
+-- the reads that are open after nodes are different ones, and each of them is one of those before or is among the nodes
 pub record OpenReads (before after : List ℕ) (es : List Entry) : Type 0 where
   pub distinct : Distinct after
   pub reads : (r : ℕ) → is_in r after ≡ true → (is_in r before ≡ true) ⊎ (is_read (node_at r es) ≡ true)
@@ -318,7 +318,7 @@ open-reads : (es : List Entry) (before after : List ℕ) → Distinct (stamps_in
 open-reads [] before after d o a h = let same : before ≡ after = cc in record { distinct = subst (λ rs. Distinct rs) same o; reads = λ r i. inl (subst (λ rs. is_in r rs ≡ true) (sym same) i) }
 open-reads (e ∷ es) before after d o a h = open-then e es after d (λ b o a k. open-reads es b after d.1 o a k) before o a e.node refl h
 
--- the reads that are open behind nodes are different ones, and each is a read among them
+-- the reads that are open after nodes are different ones, and each is a read among them
 pub unclosed-reads : (es : List Entry) (rs : List ℕ) → Distinct (stamps_in es) → unclosed (Some []) es ≡ Some rs → Distinct rs × ((r : ℕ) → is_in r rs ≡ true → is_read (node_at r es) ≡ true)
 unclosed-reads es rs d h =
     let o = open-reads es [] rs d tt (λ r i. absurd (cc)) h in
@@ -428,7 +428,7 @@ pub entry-front : (r : ℕ) (front back : List Entry) → has_node r front ≡ t
 entry-front r [] back h = absurd (cc)
 entry-front r (e ∷ es) back h = elim (eqb_tells e.stamp r) [ inl p ↦ rw p.0 refl | inr p ↦ rw p.0 (entry-front r es back (rw p.0 at h)) ]
 
--- a node in front does not stand behind the last one
+-- a node in front does not stand after the last one
 pub position-front : (r : ℕ) (done : List Entry) (last : Entry) (back : List Entry) → has_node r (through done last) ≡ true → position r (through done last ++ back) ≤ length done
 position-front r [] last back h = elim (eqb_tells last.stamp r) [
   | inl p ↦ rw p.0 (omega arith)
@@ -474,7 +474,7 @@ mutual
       → Passes limit beyond until fs ws rs back → (r : ℕ) → is_in r (waiting fs) ≡ true → is_in r rs ≡ true
   passes-open (Passes.passes {rs = rs} below e q m g h t) r i = inside-reads h r (in_tail r q rs (waiting-open t r i))
 
--- what stands behind nodes that are left over
+-- what stands after nodes that are left over
 pub tails-bound : {limit : Option Stamp} {beyond : List Entry} {until : Option Stamp} {fs : List Frame} {ws : List Wait} {rs : List ℕ} {tail : List Entry}
     → Tails limit beyond until fs ws rs tail → Bounds limit beyond → Bounds until tail
 tails-bound Tails.last b = b

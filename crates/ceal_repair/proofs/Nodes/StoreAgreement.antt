@@ -116,7 +116,7 @@ module _ (code : Code) (inputs : List Block) (f : ℕ) (args : List Word) (r : R
   abbrev pub bases : Store
   bases = base_in run.tables.mods
 
-  -- the items of nodes in front, and of those behind
+  -- the items of nodes in front, and of those after
   pub items-parted : (front back : List Entry) → run.tables.trace.nodes ≡ front ++ back → flat r.items ≡ forest_of front ++ forest_of back
   items-parted front back h = sym stands.items ∙ (ap forest_of h ∙ forest-append front back)
 
@@ -143,7 +143,7 @@ module _ (code : Code) (inputs : List Block) (f : ℕ) (args : List Word) (r : R
           (in-more b (allocs (forest_of front)) (allocs (forest_of back)) (known-allocs (forest_of front) b i)) in
           live-base b p.field ((stands.blocks.lives.live b).1 there)
 
-  -- behind items that agree the store is at known places what the lists of writes say
+  -- after items that agree the store is at known places what the lists of writes say
   pub store-listed : (front back : List Entry) → run.tables.trace.nodes ≡ front ++ back → AgreesAll code first-store (forest_of front) → (p : Place)
       → KnownBlock (length inputs) (known_after [] (forest_of front)) p.block → store_after code first-store (forest_of front) p ≡ contents_after bases front p
   store-listed front back h a p k =

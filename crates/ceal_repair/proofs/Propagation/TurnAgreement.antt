@@ -42,7 +42,7 @@ use Rattle.ceal_trace.specs.Items.{ticks, forest_of}
 use Rattle.ceal_trace.specs.Nodes.{Entry, node_at, with_value}
 use Rattle.ceal_trace.specs.declared.node.Node.TheVariants.{Read}
 
--- one of two fronts of nodes has the other in front of it: the first the node behind the second, or the second the first
+-- one of two fronts of nodes has the other in front of it: the first the node after the second, or the second the first
 fronts : (xs ys zs : List Entry) (w : Entry) (ws : List Entry) → xs ++ ys ≡ zs ++ w ∷ ws
     → ((mid : List Entry) × (zs ≡ xs ++ mid)) ⊎ ((mid : List Entry) × (xs ≡ zs ++ w ∷ mid))
 fronts [] ys zs w ws e = inl (zs, refl)

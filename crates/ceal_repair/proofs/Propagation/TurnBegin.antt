@@ -165,7 +165,7 @@ module _ (code : Code) (inputs : List Block) (f : ℕ) (args : List Word) (o : S
   pub opens : (reads : List ℕ) × (unclosed (Some []) spot.before ≡ Some reads)
   opens = read-opens old.trace found.so_far.stands.kept.step.whole found.so_far.stands.nests read at-place found.value unit var words found.is_read.is
 
-  -- what stands behind the read
+  -- what stands after the read
   abbrev behind : List Entry
   behind = entries spot.inside ++ closing spot.end read spot.end_steps ∷ spot.behind
 
@@ -275,7 +275,7 @@ module _ (code : Code) (inputs : List Block) (f : ℕ) (args : List Word) (o : S
 
   -- ---- the machine
 
-  -- the items inside the read and behind it
+  -- the items inside the read and after it
   items-behind : ticks spot.steps ++ forest_of behind ≡ flat (stepped spot.steps (trace_in spot.inside)) ++ item.End ∷ (ticks spot.end_steps ++ forest_of spot.behind)
   items-behind = ap (λ is. ticks spot.steps ++ is) (forest-left spot.inside (closing spot.end read spot.end_steps ∷ spot.behind))
       ∙ (sym (append_assoc (ticks spot.steps) (flat (trace_in spot.inside)) (forest_of (closing spot.end read spot.end_steps ∷ spot.behind)))

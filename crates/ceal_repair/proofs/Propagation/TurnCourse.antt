@@ -48,7 +48,7 @@ module _ (code : Code) (inputs : List Block) (f : ℕ) (args : List Word) (o : S
   abbrev pub inside_there : Trace
   inside_there = stepped b.spot.steps (trace_in b.spot.inside)
 
-  -- the items behind the end of the read
+  -- the items after the end of the read
   abbrev pub back_there : List Item
   back_there = ticks b.spot.end_steps ++ forest_of b.spot.behind
 

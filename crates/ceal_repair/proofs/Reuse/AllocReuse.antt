@@ -408,7 +408,7 @@ module _ (code : Code) (inputs : List Block) (start : Start) (st : Stack) (v : V
   limit-some : v.limit ≡ None → ⊥
   limit-some none = let no : head_of (stamps_where (allocates key) (entries Bare)) ≡ Some found.0 = subst (λ g. head_of (stamps_where (allocates key) (entries g)) ≡ Some found.0) (now.bare none) matches in absurd (cc)
 
-  -- the block of the match is taken: its node is in front, and what stands behind it is left over
+  -- the block of the match is taken: its node is in front, and what stands after it is left over
   pub now-take-alloc : (x u i : ℕ) (env : Variables) (below : Stack) → next code (words_of code inputs v.heap) st ≡ Makes key x u i env below
       → RunningNow code inputs start (Run u i (set env x (pointer key the-match.block)) below) (record { tables = t; heap = heap; spent = v.spent + 1; cursor = found.0; limit = v.limit; frames = v.frames })
   now-take-alloc x u i env below does = record {

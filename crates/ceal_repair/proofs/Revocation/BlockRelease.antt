@@ -143,7 +143,7 @@ allocs-ticks zero is = refl
 allocs-ticks (suc k) is = allocs-ticks k is
 
 module _ (n : ℕ) (p : Place) (v : Word) where
-  -- what is said of the place behind a node
+  -- what is said of the place after a node
   abbrev Later : List ℕ → List Item → Type 0
   Later cs is = (ds : List ℕ) → KnownItems n ds is cs → Among n ds (allocs is) p.block
 

@@ -46,7 +46,7 @@ position-behind r (e ∷ es) back h = elim (eqb_tells e.stamp r) [
 
 -- ---- the first node that is left over
 
--- what stands first, and what behind it
+-- what stands first, and what after it
 pub record BeginsWith (s : ℕ) (es : List Entry) : Type 0 where
   pub node : Node
   pub steps : ℕ
@@ -129,7 +129,7 @@ module _ (cursor : ℕ) (front : List Entry) (left : Grove) (tail : List Entry) 
     | inr e ↦ e
   ]
 
-  -- so nothing else is, where fewer nodes stand behind it
+  -- so nothing else is, where fewer nodes stand after it
   pub late-fewer : (new : Tables) (back : List Entry) → new.trace.nodes ≡ front ++ back → ((r : ℕ) → is_in r new.stale.stamps ≡ true → is_in r t.stale.stamps ≡ true) → QueuedBehind cursor new
   late-fewer new back e only r i =
       subst (λ es. position cursor es < position r es) (sym e)
@@ -162,7 +162,7 @@ back-plain (Made t b key n rest) s h tail k = refl
 back-plain (Put t p v n rest) s h tail k = refl
 back-plain (Got t p v u x args n inside e m rest) s h tail k = absurd (cc)
 
--- behind a read stand those inside it, its end, and those behind that
+-- after a read stand those inside it, its end, and those after that
 pub record ReadFirst (s : ℕ) (g : Grove) (tail back : List Entry) : Type 0 where
   pub inside : List Entry
   pub end : ℕ
@@ -550,7 +550,7 @@ pub until-still : (cursor until : ℕ) (front : List Entry) (left : Grove) (tail
 until-still cursor until front left tail t r (inl h) = inl (r.there h)
 until-still cursor until front left tail t r (inr h) = inr h
 
--- the node behind the cursor is one of them, where it is not the one up to which they are revoked
+-- the node after the cursor is one of them, where it is not the one up to which they are revoked
 pub is-first : (cursor until s : ℕ) (front : List Entry) (left : Grove) (tail : List Entry) (t : Tables) → Kept t → Lies cursor front left tail t → IsUntil until left tail
     → order.successor cursor (stamps_in t.trace.nodes) ≡ Some s → s ≢ until → first_stamp left ≡ Some s
 is-first cursor until s front left tail t kept l u n other = go (first-is left tail s (sym (next-is cursor front left tail t kept l) ∙ n)) u
@@ -589,7 +589,7 @@ first-in-has : (es : List Entry) (s : ℕ) → first_in es ≡ Some s → has_no
 first-in-has [] s h = absurd (cc)
 first-in-has (e ∷ es) s h = let same : e.stamp ≡ s = cc in rw (eq-eqb e.stamp s same) refl
 
--- ends-with : what the first node of a grove leaves behind it ends with the tail
+-- ends-with : what the first node of a grove leaves after it ends with the tail
 back-tail : (g : Grove) (s : ℕ) (f : first_stamp g ≡ Some s) (tail : List Entry) (u : ℕ) → has_node u tail ≡ true → has_node u (begins-with g s f tail).back ≡ true
 unfolding begins-with
 back-tail Bare s f tail u h = absurd (cc)
@@ -597,7 +597,7 @@ back-tail (Made t b key n rest) s f tail u h = in-later u (entries rest) tail h
 back-tail (Put t p v n rest) s f tail u h = in-later u (entries rest) tail h
 back-tail (Got t p v x y args n inside e m rest) s f tail u h = in-later u (entries inside ++ closing e t m ∷ entries rest) tail h
 
--- the node up to which nodes are revoked stands behind the cursor: it is the first of them, or all were revoked
+-- the node up to which nodes are revoked stands after the cursor: it is the first of them, or all were revoked
 module _ (cursor until : ℕ) (front : List Entry) (left : Grove) (tail : List Entry) (t : Tables) (kept : Kept t) (r : LeftOf cursor until front left tail t) where
   pub cut-there : is_in until (starts left) ≡ true → order.successor cursor (stamps_in t.trace.nodes) ≡ Some until → (rest : Grove) × CutTo until left rest × Lies cursor front rest tail t
   cut-there i n = (r.rest, r.cuts r.rest (there (sym (starts-some r.rest until (r.there i) tail) ∙ (sym (next-is cursor front r.rest tail t kept r.lies) ∙ n))), r.lies)

@@ -39,7 +39,7 @@ runs-as code inputs start st v r now c i s w =
     (subst (λ st. RunningNow code inputs start st (view r)) (sym s)
     (subst (λ v. RunningNow code inputs start st v) (sym w) now)))
 
--- one step more was run anew
+-- one step more was re-executed
 pub record IsStepped (old new : Repair) : Type 0 where
   pub rest : new ≡ record old { running = new.running }
   pub heap : new.running.now.heap ≡ old.running.now.heap
@@ -59,7 +59,7 @@ stepped-here start st old new now h =
     subst (λ s. has_node s new.running.now.tables.trace.nodes ≡ true) (sym (cursor-kept old new h))
     (here-next (code_of old) (inputs_of old) start st (view old) now new.running.now.tables h.more)
 
--- a node that was put in behind the cursor
+-- a node that was put in after the cursor
 pub node-behind : (old new : Repair) → IsStepped old new → (s : ℕ) (node : Node) (t : Tables) → NodeMore new.cursor.0 s node new.running.now.tables t → NodeMore old.cursor.0 s node new.running.now.tables t
 node-behind old new h s node t k = subst (λ c. NodeMore c s node new.running.now.tables t) (cursor-kept old new h) k
 

@@ -27,7 +27,7 @@ use Rattle.ceal_repair.specs.declared.tables.Tables.{Tables}
 use Rattle.ceal_trace.specs.Nodes.{new_entry, is_read, held_by}
 use Rattle.ceal_trace.specs.declared.node.Node.TheVariants.{Root}
 
--- the root alone is no read, so nothing is queued
+-- only the root is no read, so nothing is queued
 alone : (s root : ℕ) (b : Bool) → is_read (held_by (if b then Some (new_entry root Root) else None)) ≡ false
 alone s root true = refl
 alone s root false = refl

@@ -121,7 +121,7 @@ module _ (code : Code) (inputs : List Block) (f : ℕ) (args : List Word) (fits 
     given = record { distinct = λ b. omega arith; apart = λ b i. refl; there = λ b i. no-block i; still = λ b i. no-block i };
   }
 
-  -- the unit of the call runs behind the root, with nothing left over
+  -- the unit of the call runs after the root, with nothing left over
   pub starts : RunningNow code inputs (first_start code inputs f args) (started code f args) v
   starts = record { reads = []; left = Bare; waits = []; tail = []; placed = placed; tails = tails; bare = λ e. refl; bounds = refl; blocks = blocks; course = course }
 

@@ -42,7 +42,7 @@ use Rattle.ceal_trace.specs.Nodes.{Entry, Inserted, stamps_in, has_node, node_at
 use Rattle.ceal_trace.specs.declared.node.Node.{Node}
 use Rattle.ceal_trace.specs.declared.node.Node.TheVariants.{Alloc, Write}
 
--- ---- the tables after one step more at a node, and after a new node behind it
+-- ---- the tables after one step more at a node, and after a new node after it
 
 pub record StepMore (cursor : ℕ) (old new : Tables) : Type 0 where
   pub nodes : new.trace.nodes ≡ with_steps cursor (steps_at cursor old.trace.nodes + 1) old.trace.nodes
@@ -214,7 +214,7 @@ module _ (code : Code) (inputs : List Block) (start : Start) (st : Stack) (v : V
   pub here-next : (t : Tables) → StepMore v.cursor v.tables t → has_node v.cursor t.trace.nodes ≡ true
   here-next t h = cursor-here start (record v { tables = t; spent = v.spent + 1 }) now.reads (entries now.left ++ now.tail) (placed-step start v now.reads (entries now.left ++ now.tail) now.placed t (v.spent + 1) h)
 
-  -- a step and a node behind all in front
+  -- a step and a node after all in front
   pub items-next : (s : ℕ) (node : Node) → forest_of (through (through now.placed.done (more now.placed.last)) (new_entry s node)) ≡ forest_of (through now.placed.done now.placed.last) ++ (item.Step ∷ item_of node)
   items-next s node = forest-put (through now.placed.done (more now.placed.last)) s node
       ∙ (ap (λ is. is ++ item_of node) (forest-step now.placed.done now.placed.last) ∙ append_assoc (forest_of (through now.placed.done now.placed.last)) (item.Step ∷ []) (item_of node))
@@ -227,11 +227,11 @@ module _ (code : Code) (inputs : List Block) (start : Start) (st : Stack) (v : V
       ∙ (contents-base (base_in v.tables.mods) (base_in t.mods) p (sym (b p)) (through now.placed.done now.placed.last)
       ∙ sym (ap (λ (f : Store). f p) (contents-step (base_in t.mods) now.placed.done now.placed.last)))
 
-  -- the next act names known blocks alone
+  -- the next act names only known blocks
   pub knows-act : KnownAct (length inputs) (known_after [] (forest_of (through now.placed.done now.placed.last))) (next code (words_of code inputs v.heap) st)
   knows-act = next-known (length inputs) (known_after [] (forest_of (through now.placed.done now.placed.last))) (words_of code inputs v.heap) now.course.knows.plain (words_of code inputs v.heap) (λ b k. refl) code st now.course.knows.mode.0
 
-  -- a write: its node stands behind the cursor
+  -- a write: its node stands after the cursor
   pub now-write : (after : Stack) (p : Place) (value : Word) (t1 t : Tables) (s : ℕ) → next code (words_of code inputs v.heap) st ≡ Writes p value after
       → StepMore v.cursor v.tables t1 → NodeMore v.cursor s (Write p value) t1 t
       → RunningNow code inputs start after (record { tables = t; heap = v.heap; spent = v.spent + 1; cursor = s; limit = v.limit; frames = v.frames })

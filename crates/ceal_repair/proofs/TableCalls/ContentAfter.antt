@@ -55,7 +55,7 @@ value-next old k p s n next =
     let r = up-to-next s n old.trace.nodes next in
     looked-up n (up_to s old.trace.nodes) r.0 r.1 old.trace.nodes old.mods p r.2 r.3 k.whole.order.distinct k.tabled
 
--- the tables of the root alone
+-- the tables of only the root
 pub first-kept : (t : Tables) → t.trace.nodes ≡ new_entry 0 Root ∷ [] → IsTrace t.trace → NoLooseEnd t.trace.nodes → IsUntouched t.mods → t.stale.stamps ≡ []
     → ((hash : ℕ) → entries_of t.memo hash ≡ [])
     → Mods_follow (stamps_in t.trace.nodes) t.mods → Memo_follows (stamps_in t.trace.nodes) t.memo → Queue_follows (stamps_in t.trace.nodes) t.stale → Kept t

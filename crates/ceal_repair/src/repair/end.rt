@@ -11,7 +11,7 @@ use super::Repair;
 use ceal_base::no_memory::NoMemory;
 
 impl<'a> Repair<'a> {
-    /// The unit of the read that a turn runs anew is over: what is left over to it is revoked. No unit runs then.
+    /// The unit of the read that a turn re-executes is over: what is left over to it is revoked. No unit runs then.
     pub fn end_turn(&mut self) -> Result<(), NoMemory>
         requires over { (f : ℕ) × (args : List Word) × (o : Since) × (before : Running)
             × (start : Start)

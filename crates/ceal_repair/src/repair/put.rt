@@ -1,4 +1,4 @@
-// What a unit does that puts nodes in behind the cursor.
+// What a unit does that puts nodes in after the cursor.
 
 ghost use Rattle.std.specs.Prelude.{◌≡◌, ◌∷◌, [], None, OnOk};
 ghost use Rattle.ceal_code.specs.declared.step.Act.TheVariants as does;
@@ -32,7 +32,7 @@ impl<'a> Repair<'a> {
         Ok(())
     }
 
-    /// A write: its node stands behind the cursor, and the read that this affects is queued.
+    /// A write: its node stands after the cursor, and the read that this affects is queued.
     pub fn write(&mut self, place: Place, value: Word) -> Result<(), NoMemory>
         requires acts { (start : Start) × Acts start (does.Writes place value) self.old }
         ensures call { OnOk result (SameCall self.old self.new) }
@@ -111,7 +111,7 @@ impl<'a> Repair<'a> {
         Ok(())
     }
 
-    /// The unit of a new read is over: its end stands behind the cursor, and the units below run with what is left over.
+    /// The unit of a new read is over: its end stands after the cursor, and the units below run with what is left over.
     pub fn finish(&mut self, below: Waits, read: Stamp) -> Result<(), NoMemory>
         requires ends { (start : Start) × EndsRead start below read self.old }
         ensures call { OnOk result (SameCall self.old self.new) }

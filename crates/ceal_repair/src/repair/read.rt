@@ -134,7 +134,7 @@ impl<'a> Repair<'a> {
         Ok(())
     }
 
-    /// The unit of a read that was taken is over: what is left over is revoked. The units below run with what stands behind its
+    /// The unit of a read that was taken is over: what is left over is revoked. The units below run with what stands after its
     /// end, up to their own limit; the steps on the end are dropped.
     pub fn leave(&mut self, below: Waits, until: Stamp) -> Result<(), NoMemory>
         requires ends { (start : Start) × EndsTaken start below until self.old }

@@ -1,4 +1,4 @@
-// A turn of change propagation: the first stale read is run anew, by itself.
+// A turn of change propagation: the first stale read is re-executed, by itself.
 
 ghost use Rattle.std.specs.Prelude.{◌≡◌, [], ℕ, List, Some, true, OnOk};
 ghost use Rattle.ceal_base.specs.declared.forest.UnitId.{UnitId as UnitOf};

@@ -19,13 +19,13 @@ use ceal_order::stamp::Stamp;
 pub enum Ending {
     /// no read is stale
     Done,
-    /// as many reads were run anew as were to be, and one is stale still
+    /// as many reads were re-executed as were to be, and one is stale still
     More,
     /// more steps were spent than the fuel allows
     Spent,
 }
 
-/// Whether so many turns were made as there are to be.
+/// Whether that many turns were made as there are to be.
 fn is_last(reads: Option<u32>, turns: u64) -> bool
     ensures last { IsTrue result → reads ≡ Some turns }
     ensures fewer { result ≡ false → reads ≢ Some turns }
@@ -37,8 +37,8 @@ fn is_last(reads: Option<u32>, turns: u64) -> bool
 }
 
 impl<'a> Repair<'a> {
-    /// Makes turns until no read is stale, or so many of them as there are to be. Where no read was stale at the beginning no memory is
-    /// taken. No run that fits into memory comes to 2^64 turns; one that did would be told as want of memory.
+    /// Makes turns until no read is stale, or that many of them as there are to be. Where no read was stale at the beginning no memory is
+    /// taken. No run that fits into memory comes to 2^64 turns; one that did would be answered as out of memory.
     pub fn turns(&mut self, reads: Option<u32>, fuel: u32) -> Result<Ending, NoMemory>
         requires comes { (f : ℕ) × (args : List Word) × (o : Since) × (before : Running)
             × HasCome (code_of self.old) (inputs_of self.old)
@@ -75,7 +75,7 @@ impl<'a> Repair<'a> {
         Err(NoMemory)
     }
 
-    /// Makes the turn of a read that was found stale. It answers false where more steps were run anew than the fuel allows.
+    /// Makes the turn of a read that was found stale. It answers false where more steps were re-executed than the fuel allows.
     fn turn_from(&mut self, read: Stamp, fuel: u32) -> Result<bool, NoMemory>
         requires found { (f : ℕ) × (args : List Word) × (o : Since)
             × FoundStale (code_of self.old) (inputs_of self.old)
