@@ -5,6 +5,7 @@ ghost use Rattle.ceal_base.specs.declared.word.BlockId.TheVariants.{Input};
 ghost use Rattle.ceal_base.specs.declared.word.Word.TheVariants.{Num};
 ghost use Rattle.ceal_code.specs.Value.{field_kind};
 ghost use Rattle.ceal_engine.specs.Completed.{LeavesCells, OfRuns, SetsBase, SetsInput, idle, opened, told};
+ghost use Rattle.ceal_engine.specs.declared.phase.Phase.TheVariants.{Dropped};
 ghost use Rattle.ceal_mods.specs.Mods.{cell_of};
 ghost use Rattle.ceal_repair.specs.Kept.{Kept, base_in};
 ghost use Rattle.ceal_repair.specs.Words.{IsTouched, NONE_BEHIND};
@@ -91,9 +92,11 @@ pub fn reopen(run: &mut Option<Running>, phase: Phase)
 }
 
 /// The run is given up.
-pub fn give_up(run: &mut Option<Running>)
-    ensures { run.new ≡ None }
+pub fn give_up(phase: &mut Phase, run: &mut Option<Running>)
+    ensures phase { phase.new ≡ Dropped }
+    ensures run { run.new ≡ None }
 {
+    *phase = Phase::Dropped;
     drop(mem::replace(run, None));
 }
 

@@ -66,6 +66,9 @@ module _ (index : Index) (cells : List (Place × Cell)) (p : Place) (slot : ℕ)
     pub at : Held cells p slot
     at = held index cells p slot indexes is some
 
+    pub has_cell : IsSome (lookup (ghosts.eq p) cells)
+    has_cell = rw (lookup_stands p cells slot at.stands) refl
+
     pub cell_here : unwrap_or (lookup (ghosts.eq p) cells) untouched ≡ cell_in cells slot
     cell_here = ap (λ (o : Option Cell). unwrap_or o untouched) (lookup_stands p cells slot at.stands)
 

@@ -83,15 +83,19 @@ impl Mods {
         Ok(())
     }
 
-    /// Sets what a place that was never touched holds before any write. A place that was touched is left as it is, and it answers
-    /// false.
+    /// Sets what a place that was never touched holds before any write, and answers true. A place that was touched is left as it
+    /// is, and the answer is false.
     pub fn begin(&mut self, place: Place, value: Word) -> Result<bool, NoMemory>
         ensures untouched { IfOk result
             (λ begun. IsTrue begun → cell_of self.old place ≡ untouched) }
         ensures begun { IfOk result (λ begun. IsTrue begun
             → Changes self.old self.new place (with_base value (cell_of self.old place))) }
+        ensures known { IfOk result (λ begun. begun ≡ false → HasCell self.old place) }
         ensures left { IfOk result (λ begun. begun ≡ false → self.new ≡ self.old) }
         ensures err { OnErr result (self.new ≡ self.old) }
+        ensures sure { HasCell self.old place → IsOk result }
+        ensures touched { OnOk result (HasCell self.new place) }
+        ensures others_touched { (p : PlaceOf) → HasCell self.old p → HasCell self.new p }
         ensures follows { (order : List ℕ) → Follows order self.old → Follows order self.new }
     {
         let slot = self.index.find(place);

@@ -80,33 +80,13 @@ impl Tables {
             → IsTrue (is_in s (cell_of self.old.mods place).reads) }
         ensures kept { Kept self.new }
     {
-        let _root = self.trace.root();
+        let root = self.trace.root();
         let begun = self.mods.begin(place, value)?;
         if begun {
             return Ok(());
         }
-        self.edit_touched(place, value)?;
-        Ok(())
-    }
-
-    // The same, where the place was touched before.
-    fn edit_touched(&mut self, place: Place, value: Word) -> Result<(), NoMemory>
-        requires kept { Kept self.old }
-        ensures trace { self.new.trace ≡ self.old.trace }
-        ensures memo { self.new.memo ≡ self.old.memo }
-        ensures base { OnOk result
-            ((p : PlaceOf)
-            → base_in self.new.mods p ≡ stored (base_in self.old.mods) place value p) }
-        ensures err { OnErr result (self.new.mods ≡ self.old.mods) }
-        ensures queue_err { OnErr result (self.new.stale.stamps ≡ self.old.stale.stamps) }
-        ensures only { (s : ℕ) → IsTrue (is_in s self.new.stale.stamps)
-            → is_in s self.old.stale.stamps ≡ false
-            → IsTrue (is_in s (cell_of self.old.mods place).reads) }
-        ensures kept { Kept self.new }
-    {
         self.stale.reserve(1)?;
         self.mods.set_base(place, value)?;
-        let root = self.trace.root();
         self.wake(place, root);
         Ok(())
     }

@@ -28,6 +28,16 @@ fn a_base_holds_from_the_start(rt: HostRuntime) {
     drop(mods);
 }
 
+#[test]
+fn a_base_begins_once(rt: HostRuntime) {
+    let mut mods = Mods::new(rt.alloc()).expect(&rt, "memory");
+    holds(&rt, mods.begin(COUNTER, Word::Num(1)).expect(&rt, "memory"));
+    equal(&rt, mods.last_value(COUNTER), Word::Num(1));
+    holds(&rt, !mods.begin(COUNTER, Word::Num(2)).expect(&rt, "memory"));
+    equal(&rt, mods.last_value(COUNTER), Word::Num(1));
+    drop(mods);
+}
+
 fn writes_at_the_start<R: Abort>(rt: &R, order: &mut Order, mods: &mut Mods)
     requires room { 1 ≤ order.old.spare }
     requires untouched { IsUntouched mods.old }

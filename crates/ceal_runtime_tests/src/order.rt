@@ -7,6 +7,7 @@ use crate::asserts::{equal, holds};
 use crate::orders::order_with_room;
 use ceal_order::order::Order;
 use ceal_order::rising::Rising;
+use ceal_order::room::{ample, make_room};
 use ceal_order::stamp::Stamp;
 use std::alloc::Global;
 use std::process::Abort;
@@ -208,4 +209,17 @@ fn in_and_out_by_time(rt: HostRuntime) {
     in_and_out(&rt, &mut order, &mut rising);
     drop(rising);
     drop(order);
+}
+
+#[test]
+fn a_short_list_grows_fourfold(rt: HostRuntime) {
+    equal(&rt, ample(10, 1), 30);
+    equal(&rt, ample(10, 40), 40);
+    equal(&rt, ample(1_000_000, 1), 196_608);
+    let mut items = Vec::new(rt.alloc());
+    items.push(7_u32).expect(&rt, "memory");
+    holds(&rt, make_room(&mut items, 100).is_ok());
+    holds(&rt, items.capacity() - items.len() >= 100);
+    equal(&rt, items[0], 7);
+    drop(items);
 }

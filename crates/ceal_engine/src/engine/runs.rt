@@ -142,8 +142,7 @@ impl Engine {
                         Ok(())
                     }
                     Err(error) => {
-                        self.phase = Phase::Dropped;
-                        give_up(&mut self.running);
+                        give_up(&mut self.phase, &mut self.running);
                         Err(error)
                     }
                 }
@@ -260,19 +259,16 @@ impl Engine {
                         Ok(Came::Done)
                     }
                     Ok(Sliced::Spent) => {
-                        self.phase = Phase::Dropped;
-                        give_up(&mut self.running);
+                        give_up(&mut self.phase, &mut self.running);
                         self.run_anew()?;
                         Ok(Came::Anew)
                     }
                     Ok(Sliced::OutOfFuel) => {
-                        self.phase = Phase::Dropped;
-                        give_up(&mut self.running);
+                        give_up(&mut self.phase, &mut self.running);
                         Err(RunError::OutOfFuel)
                     }
                     Err(error) => {
-                        self.phase = Phase::Dropped;
-                        give_up(&mut self.running);
+                        give_up(&mut self.phase, &mut self.running);
                         Err(RunError::from(error))
                     }
                 }

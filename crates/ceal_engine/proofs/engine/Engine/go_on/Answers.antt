@@ -41,17 +41,17 @@ invariant_of-self-in-Ok-Done c =
 pub invariant_of-self-in-Ok-Spent : goal.invariant_of-self-in-Ok-Spent
 invariant_of-self-in-Ok-Spent c =
     let v = c.self.inside in
-    rw c.give_up.ensures (sound-dropped v.code v.fuel v.inputs v.call v.phase v.running (subst (λ e. has_run e.phase ≡ true) (sym c.self.view_is) c.requires.run) c.self.invariant)
+    rw (c.give_up.ensures.phase, c.give_up.ensures.run) (sound-dropped v.code v.fuel v.inputs v.call v.phase v.running (subst (λ e. has_run e.phase ≡ true) (sym c.self.view_is) c.requires.run) c.self.invariant)
 
 pub invariant_of-self-in-Ok-OutOfFuel : goal.invariant_of-self-in-Ok-OutOfFuel
 invariant_of-self-in-Ok-OutOfFuel c =
     let v = c.self.inside in
-    rw c.give_up-in-Ok-OutOfFuel.ensures (sound-dropped v.code v.fuel v.inputs v.call v.phase v.running (subst (λ e. has_run e.phase ≡ true) (sym c.self.view_is) c.requires.run) c.self.invariant)
+    rw (c.give_up-in-Ok-OutOfFuel.ensures.phase, c.give_up-in-Ok-OutOfFuel.ensures.run) (sound-dropped v.code v.fuel v.inputs v.call v.phase v.running (subst (λ e. has_run e.phase ≡ true) (sym c.self.view_is) c.requires.run) c.self.invariant)
 
 pub invariant_of-self-in-Err : goal.invariant_of-self-in-Err
 invariant_of-self-in-Err c =
     let v = c.self.inside in
-    rw c.give_up-in-Err.ensures (sound-dropped v.code v.fuel v.inputs v.call v.phase v.running (subst (λ e. has_run e.phase ≡ true) (sym c.self.view_is) c.requires.run) c.self.invariant)
+    rw (c.give_up-in-Err.ensures.phase, c.give_up-in-Err.ensures.run) (sound-dropped v.code v.fuel v.inputs v.call v.phase v.running (subst (λ e. has_run e.phase ≡ true) (sym c.self.view_is) c.requires.run) c.self.invariant)
 
 pub returns-in-Ok-More-clause-comes : goal.returns-in-Ok-More-clause-comes
 returns-in-Ok-More-clause-comes c = λ next r carries.

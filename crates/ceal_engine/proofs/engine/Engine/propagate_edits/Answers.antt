@@ -87,7 +87,7 @@ pub invariant_of-self-in-Err : goal.invariant_of-self-in-Err
 invariant_of-self-in-Err c =
     let v = c.self.inside in
     let there : has_run v.phase ≡ true = rw (subst (λ e. e.phase ≡ Pending) (sym c.self.view_is) c.requires.pending) refl in
-    rw c.give_up.ensures (sound-dropped v.code v.fuel v.inputs v.call v.phase v.running there c.self.invariant)
+    rw (c.give_up.ensures.phase, c.give_up.ensures.run) (sound-dropped v.code v.fuel v.inputs v.call v.phase v.running there c.self.invariant)
 
 pub returns-in-Err-clause-sure_where_honest : goal.returns-in-Err-clause-sure_where_honest
 returns-in-Err-clause-sure_where_honest c = λ l e h.

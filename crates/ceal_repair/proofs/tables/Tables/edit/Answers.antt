@@ -1,6 +1,7 @@
 use Rattle.std.proofs.Common.{◌≡◌, true, false, sym, ap, ◌∙◌}
 use Rattle.ceal_mods.specs.declared.cell.Cell.{Cell}
 use Rattle.ceal_order.specs.Stamps.{is_in}
+use Rattle.ceal_repair.proofs.TableCalls.CutKeepsTables.{as-tables}
 use Rattle.ceal_repair.proofs.TableCalls.BaseEdit.{edit-base, edit-kept}
 use Rattle.ceal_trace.specs.Nodes.{stamps_in}
 use Rattle.ceal_repair.proofs.tables.Tables.edit.Goals as goal
@@ -19,3 +20,18 @@ returns-then-begun-clause-kept c =
     let here = ap (λ (cell : Cell). is_in r cell.reads) change.here in
     absurd (let no : true ≡ false = sym sees.there ∙ (here ∙ none) in cc))
     (c.begin.ensures.follows (stamps_in old.trace.nodes) c.requires.kept.step.mods) c.requires.kept.step.stale
+
+pub returns-clause-base : goal.returns-clause-base
+returns-clause-base c = λ p.
+    let change = rw (c.in_ok-begun.ensures.left c.if-begun.false) at c.in_ok-set_base.ensures.ok in
+    rw c.wake.ensures.mods (edit-base c.args.self.now c.requires.kept c.args.place c.args.value c.set_base.new.self change p)
+
+pub returns-clause-kept : goal.returns-clause-kept
+returns-clause-kept c =
+    let old = c.args.self.now in
+    let left = c.in_ok-begun.ensures.left c.if-begun.false in
+    let change = rw left at c.in_ok-set_base.ensures.ok in
+    as-tables c.wake.new.self old.trace c.set_base.new.self old.memo c.wake.ensures.trace c.wake.ensures.mods c.wake.ensures.memo
+    (edit-kept old c.requires.kept c.args.place c.args.value c.set_base.new.self change c.root-root.result.0 c.root-root.ensures.first c.root-root.ensures.node c.wake.new.self.stale
+    (λ t i. c.wake.ensures.more t (rw c.reserve.ensures.stamps i)) (λ t i. c.wake.ensures.only t (rw c.reserve.ensures.stamps i)) c.wake.ensures.woken
+    (c.set_base.ensures.follows (stamps_in old.trace.nodes) (rw left c.requires.kept.step.mods)) (rw c.wake.ensures.trace at c.wake.ensures.stale))
