@@ -13,7 +13,7 @@ returns-then-slot-clause-known c = λ _.
 
 pub returns-then-slot-clause-touched : goal.returns-then-slot-clause-touched
 returns-then-slot-clause-touched c =
-    has_cell c.self.inside.index c.self.inside.cells.items c.args.place c.find-slot.result c.self.invariant c.find-slot.ensures c.if-slot.true
+    rw (← c.self.view_is) (has_cell c.self.inside.index c.self.inside.cells.items c.args.place c.find-slot.result c.self.invariant c.find-slot.ensures c.if-slot.true)
 
 pub returns-in_err-enter_base-clause-sure : goal.returns-in_err-enter_base-clause-sure
 returns-in_err-enter_base-clause-sure c = λ h.
