@@ -1,4 +1,3 @@
 -- what the crate promises
 pub mod Print
--- what its own functions say of each other
 pub mod PrintWords

@@ -26,6 +26,7 @@ fn tree_text(alloc: Global, tree: &Tree) -> Result<Text, NoMemory>
 pub fn print_tree(alloc: Global, tree: &Tree) -> Result<Text, NoMemory>
     requires parsed { IsParsed tree.now }
     ensures back { IfOk result (λ text. ReadsBack text tree.now) }
+    ensures layout { IfOk result (λ text. text ≡ texts (tree_kinds tree.now)) }
 {
     let text = tree_text(alloc, tree)?;
     Ok(text)
