@@ -61,7 +61,7 @@ abbrev pub AllBelow : ℕ → List Pending → Type 0
 AllBelow n [] = Unit {0}
 AllBelow n (p ∷ ps) = (p.block < n) × AllBelow n ps
 
--- what is put after a statement, and after a test at an index
+-- the block that is put after a statement, where the path goes on
 abbrev pub next_pending : Bool → ℕ → List Pending
 next_pending true next = record { block = next; test = None } ∷ []
 next_pending false next = []

@@ -29,7 +29,7 @@ pub record Source : Type 0 where
   pub graph : Graph
   pub live : List (List ℕ)
 
--- units are numbered by the number of their head block
+-- units are numbered in the order of their head blocks
 abbrev pub unit_of : Source → ℕ → UnitId
 unit_of s b = record { 0 = entries_before s.graph b }
 
@@ -58,12 +58,12 @@ without v (w ∷ ws) = if w == v then without v ws else w ∷ without v ws
 abbrev pub closure_args : Source → ℕ → ℕ → List CodeExpr
 closure_args s v b = own_args (without v (set_at s.live b))
 
--- the arguments of a call for the parameters that the called function's entry unit has
+-- the code of an argument of a call; null where the call has none
 abbrev pub arg_at : Option TypedExpr → CodeExpr
 arg_at None = Null
 arg_at (Some e) = expr_code e
 
--- the arguments of a call that are live in its function
+-- the arguments of a call for the parameters of the called function's entry unit
 abbrev pub call_args : List TypedExpr → List ℕ → List CodeExpr
 call_args args vs = map (λ v. arg_at (slice_get args v)) vs
 

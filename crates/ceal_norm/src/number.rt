@@ -1,12 +1,14 @@
 // Numbers of blocks, functions and commands. An overflow is told as `NoMemory`: that many cannot be in memory.
 
-ghost use Rattle.std.specs.Prelude.{◌≡◌, ◌+◌, if◌then◌else◌, IfOk};
+ghost use Rattle.std.specs.Prelude.{◌≡◌, ◌≤◌, ◌^◌, ◌+◌, if◌then◌else◌, IfOk, IfErr};
 
 use ceal_base::count;
 use ceal_base::no_memory::NoMemory;
 
+/// The number in 32 bits, if it fits.
 pub fn number(n: usize) -> Result<u32, NoMemory>
-    ensures { IfOk result (λ k. k ≡ n) }
+    ensures value { IfOk result (λ k. k ≡ n) }
+    ensures full { IfErr result (λ error. 2 ^ 32 ≤ n) }
 {
     match u32::try_from(n) {
         Err(_) => Err(NoMemory),

@@ -49,7 +49,7 @@ value_mentions (Alloc at shape f name args) = faults_of_each mentions args
 value_mentions (ModrefInt at) = []
 value_mentions (Modref at s) = []
 
--- the function is a core function, or an initialiser
+-- whether there is such a function, and it is a core function
 abbrev pub is_core : Option TypedFunction → Bool
 is_core None = false
 is_core (Some f) = is_none f.initialiser
