@@ -1,5 +1,5 @@
 -- Known blocks one after another, and what a memory has that knows them.
-use Rattle.std.proofs.Common.{◌≡◌, ℕ, ◌+◌, ◌<◌, ◌≤◌, Bool, true, false, if◌then◌else◌, Option, Some, None, List, [], ◌∷◌, ◌++◌, length, refl, sym, ap, ◌∙◌, inl, inr, ◌⊎◌, arith}
+use Rattle.std.proofs.Common.{◌≡◌, ℕ, suc, ◌+◌, ◌<◌, ◌≤◌, Bool, true, false, if◌then◌else◌, Option, Some, None, List, [], ◌∷◌, ◌++◌, append-nil, length, refl, sym, ap, ◌∙◌, inl, inr, ◌⊎◌, arith}
 use Rattle.std.proofs.Math.Path.{fun_ext}
 use Rattle.ceal_base.specs.Block.{Block}
 use Rattle.ceal_base.specs.Operators.{same_block}
@@ -10,7 +10,7 @@ use Rattle.ceal_code.specs.Program.{Code}
 use Rattle.ceal_code.specs.Replay.{Store, learnt, input_plain, bases}
 use Rattle.ceal_code.specs.Tables.{defaulted}
 use Rattle.ceal_code.specs.Value.{Plain}
-use Rattle.ceal_adjust.specs.KnownBlocks.{Numbered, nothing, knowing, defaulting, IsKnown}
+use Rattle.ceal_adjust.specs.KnownBlocks.{Numbered, nothing, knowing, defaulting, IsKnown, block_list, blocks_below}
 use Rattle.std.proofs.lemmas.Bool.{cases_order}
 use Rattle.ceal_theory.specs.Slices.{with_inputs, default_in, starting}
 
@@ -98,14 +98,35 @@ module _ (code : Code) (inputs : List Block) (known : Plain) (ks : List Numbered
       at : (p : Place) → defaulting code (bases code inputs) ks p ≡ starting code inputs known p
       at p = of p.block p.field
 
+-- the list with the block of the next number, if it is known
+blocks-next : (x : Plain) (n : ℕ) (ks : List Numbered) → ks ≡ blocks_below n x → ks ++ block_list n (x (Core n)) ≡ blocks_below (n + 1) x
+unfolding blocks_below
+blocks-next x n ks e = rw (more-is n) (ap (λ l. l ++ block_list n (x (Core n))) e)
+  where
+    more-is : (k : ℕ) → k + 1 ≡ suc k
+    more-is k = omega arith
+
+blocks-none : (x : Plain) (n : ℕ) (ks : List Numbered) → ks ≡ blocks_below n x → x (Core n) ≡ None → ks ≡ blocks_below (n + 1) x
+blocks-none x n ks h e = sym (append-nil ks) ∙ (ap (λ o. ks ++ block_list n o) (sym e) ∙ blocks-next x n ks h)
+
+blocks-some : (x : Plain) (n : ℕ) (ks : List Numbered) (k : Numbered) → ks ≡ blocks_below n x → k.number ≡ n → x (Core n) ≡ Some k.block
+    → ks ++ k ∷ [] ≡ blocks_below (n + 1) x
+blocks-some x n ks k h m e = ap (λ i. ks ++ record { number = i; block = k.block } ∷ []) m ∙ (ap (λ o. ks ++ block_list n o) (sym e) ∙ blocks-next x n ks h)
+
+blocks-zero : (x : Plain) → [] ≡ blocks_below 0 x
+unfolding blocks_below
+blocks-zero x = refl
+
 -- the known blocks below a number
 pub record Below (x : Plain) (n : ℕ) (ks : List Numbered) : Type 0 where
+  pub listed : ks ≡ blocks_below n x
   pub below : (b : ℕ) → b < n → knowing nothing ks (Core b) ≡ x (Core b)
   pub others : (b : ℕ) → n ≤ b → knowing nothing ks (Core b) ≡ None
 
 -- the block of the next number, if it is known
 pub below-none : (x : Plain) (n : ℕ) (ks : List Numbered) → Below x n ks → IsKnown n (x (Core n)) None → Below x (n + 1) ks
 below-none x n ks h e = record {
+  listed = blocks-none x n ks h.listed e;
   below = λ b l. of b (cases_order b n) l;
   others = λ b l. h.others b (omega (arith, l));
 }
@@ -121,6 +142,7 @@ block-here b = grind arith
 pub below-some : (x : Plain) (n : ℕ) (ks : List Numbered) (k : Numbered) → Below x n ks → IsKnown n (x (Core n)) (Some k) → Below x (n + 1) (ks ++ k ∷ [])
 unfolding learnt
 below-some x n ks k h e = record {
+  listed = blocks-some x n ks k h.listed e.0 e.1;
   below = λ b l. rw (knowing-end nothing ks k, e.0) (of b (cases_order b n) l);
   others = λ b l. rw (knowing-end nothing ks k, e.0) (apart b (omega (arith, l)) ∙ h.others b (omega (arith, l)));
 }
@@ -142,4 +164,8 @@ below-some x n ks k h e = record {
 
 pub below-zero : (x : Plain) (ks : List Numbered) → ks ≡ [] → Below x 0 ks
 unfolding knowing
-below-zero x ks e = record { below = λ b l. absurd (omega (arith, l)); others = λ b l. rw e refl }
+below-zero x ks e = record {
+  listed = e ∙ blocks-zero x;
+  below = λ b l. absurd (omega (arith, l));
+  others = λ b l. rw e refl;
+}

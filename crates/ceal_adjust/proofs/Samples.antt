@@ -4,10 +4,9 @@ use Rattle.ceal_base.specs.Trace.{flat}
 use Rattle.ceal_base.specs.declared.kind.Shape.TheVariants.{ModInt}
 use Rattle.ceal_base.specs.declared.word.BlockId.TheVariants.{Core}
 use Rattle.ceal_base.specs.declared.word.Word.TheVariants.{Num, At}
-use Rattle.ceal_code.specs.declared.command.Cmd.TheVariants.{Write, Read}
 use Rattle.ceal_code.specs.declared.expr.CodeExpr.TheBlock.{hidden-the_row-CodeExpr-0, shape-the_row-CodeExpr-0}
 use Rattle.ceal_base.specs.declared.forest.Item.TheVariants as item
-use Rattle.ceal_code.proofs.Replay.Increment.{var, inc, place, inputs, args, items}
+use Rattle.ceal_code.proofs.Replay.Increment.{inc, place, inputs, args, items}
 use Rattle.ceal_code.specs.Fresh.{fresh, run}
 use Rattle.ceal_code.specs.Replay.{bases, input_plain, plain_of, stored, learnt}
 use Rattle.ceal_code.specs.Step.{settled, next, chosen, bound, woven}
@@ -15,7 +14,7 @@ use Rattle.ceal_code.specs.Value.{expr_value, values, set, unset}
 use Rattle.ceal_code.specs.declared.stack.Closure.{Closure}
 use Rattle.ceal_adjust.specs.Answers.{IsAnswer}
 use Rattle.ceal_adjust.specs.Closures.{find_closure, mark_of_read}
-use Rattle.ceal_adjust.specs.KnownBlocks.{nothing, knowing}
+use Rattle.ceal_adjust.specs.KnownBlocks.{nothing, knowing, blocks_below}
 use Rattle.ceal_adjust.specs.Marks.{mark_of, depth, depths}
 use Rattle.ceal_adjust.specs.Slicing.{Comes}
 use Rattle.ceal_adjust.specs.declared.adjust.Adjusted.TheVariants.{Done as IsDone, OutOfFuel}
@@ -92,3 +91,9 @@ open_reads = refl
 a_block : knowing nothing (record { number = 3; block = record { shape = ModInt; words = [] } } ∷ []) (Core 3) ≡ Some (record { shape = ModInt; words = [] })
 unfolding knowing learnt
 a_block = refl
+
+-- of the blocks 1 and 3 only the one below 3 is listed
+listed : blocks_below 3 (learnt (learnt nothing (Core 3) (record { shape = ModInt; words = [] })) (Core 1) (record { shape = ModInt; words = [] }))
+    ≡ record { number = 1; block = record { shape = ModInt; words = [] } } ∷ []
+unfolding blocks_below learnt
+listed = refl

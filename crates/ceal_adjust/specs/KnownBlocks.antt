@@ -1,5 +1,5 @@
 -- Known core blocks, as the code keeps them.
-use Rattle.std.specs.Prelude.{◌≡◌, ℕ, Option, Some, None, List, [], ◌∷◌}
+use Rattle.std.specs.Prelude.{◌≡◌, ℕ, zero, suc, Option, Some, None, List, [], ◌∷◌, ◌++◌}
 use Rattle.ceal_base.specs.Block.{Block}
 use Rattle.ceal_base.specs.declared.word.BlockId.TheVariants.{Core}
 use Rattle.ceal_code.specs.Program.{Code}
@@ -30,3 +30,13 @@ defaulting code s (k ∷ ks) = defaulting code (defaulted code s (Core k.number)
 abbrev pub IsKnown : ℕ → Option Block → Option Numbered → Type 0
 IsKnown number o None = o ≡ None
 IsKnown number o (Some k) = (k.number ≡ number) × (o ≡ Some k.block)
+
+-- the block of this number with it, if it is known
+abbrev pub block_list : ℕ → Option Block → List Numbered
+block_list number None = []
+block_list number (Some block) = record { number = number; block = block } ∷ []
+
+-- the known core blocks with numbers below this one, each once and in their order
+unfoldable pub blocks_below : ℕ → Plain → List Numbered
+blocks_below zero x = []
+blocks_below (suc n) x = blocks_below n x ++ block_list n (x (Core n))

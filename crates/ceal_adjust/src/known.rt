@@ -4,7 +4,7 @@ ghost use Rattle.std.specs.Prelude.{◌≡◌, ◌<◌, ◌≤◌, ◌∷◌, []
 ghost use Rattle.ceal_base.specs.Block.{Block};
 ghost use Rattle.ceal_base.specs.declared.word.BlockId.TheVariants.{Core};
 ghost use Rattle.ceal_code.specs.Tables.{code_in, plain_in, store_in};
-ghost use Rattle.ceal_adjust.specs.KnownBlocks.{nothing, knowing, defaulting, IsKnown};
+ghost use Rattle.ceal_adjust.specs.KnownBlocks.{nothing, knowing, defaulting, IsKnown, blocks_below};
 
 use ceal_base::kind::Shape;
 use ceal_base::memory::BlockWords;
@@ -132,8 +132,9 @@ fn known_block(
     }
 }
 
-/// The known core blocks with numbers below `next`, in their order.
+/// The known core blocks with numbers below `next`, each once and in their order.
 pub fn known_below(alloc: Global, memory: &TraceMemory<'_>, next: u32) -> Result<Known, NoMemory>
+    ensures value { IfOk result (λ known. known ≡ blocks_below next (plain_in memory.now)) }
     ensures below { IfOk result (λ known. (b : ℕ) → b < next →
         knowing nothing known (Core b) ≡ plain_in memory.now (Core b)) }
     ensures others { IfOk result (λ known. (b : ℕ) → next ≤ b →

@@ -3,7 +3,6 @@ use Rattle.std.proofs.Common.{◌≡◌, pos, Some, [], ◌∷◌, refl}
 use Rattle.ceal_base.specs.declared.word.BlockId.TheVariants.{Core}
 use Rattle.ceal_base.specs.declared.word.Word.{Word}
 use Rattle.ceal_base.specs.declared.word.Word.TheVariants.{Num, Block as BlockWord}
-use Rattle.ceal_code.specs.declared.command.Cmd.TheVariants.{Write, Read}
 use Rattle.ceal_code.specs.declared.expr.CodeExpr.TheBlock.{hidden-the_row-CodeExpr-0, shape-the_row-CodeExpr-0}
 use Rattle.ceal_base.specs.declared.forest.Item.{Item}
 use Rattle.ceal_base.specs.declared.forest.Item.TheVariants as item
@@ -13,7 +12,8 @@ use Rattle.ceal_code.specs.Replay.{bases, input_plain, plain_of, stored}
 use Rattle.ceal_code.specs.Step.{settled, next, chosen, bound, woven}
 use Rattle.ceal_code.specs.Value.{expr_value, values, set, unset}
 use Rattle.ceal_cost.specs.Bounds.{first_cost}
-use Rattle.ceal_cost.specs.Side.{along, steps_inside}
+use Rattle.ceal_cost.specs.Along.{along}
+use Rattle.ceal_cost.specs.Side.{steps_inside}
 use Rattle.ceal_cost.specs.Ways.{way_of, with_items}
 use Rattle.ceal_cost.specs.declared.aligned.Way.TheVariants.{On, Over, Apart}
 use Rattle.ceal_theory.specs.Computed.{anew, adjusted, first_of}
