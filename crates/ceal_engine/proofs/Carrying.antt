@@ -88,7 +88,7 @@ opened-whole Dropped run h = absurd (grind (arith, h))
 opened-part : (phase : Phase) (run : Option Running) → phase ≡ Partial → opened phase run ≡ run
 opened-part phase run e = rw e refl
 
-opened-none : (phase : Phase) → opened phase None ≡ None
+pub opened-none : (phase : Phase) → opened phase None ≡ None
 opened-none New = refl
 opened-none IsFinished = refl
 opened-none Pending = refl
@@ -112,12 +112,12 @@ module _ (code : Code) (fuel : ℕ) (inputs : List Block) (phase : Phase) where
   some-open (Some call) (Some run) (KeepsRun.part p k) there e = none-some run (sym e ∙ opened-part phase (Some run) p)
 
 -- what of it is that of the run before
-record SameAs (phase : Phase) (before run : Running) : Type 0 where
+pub record SameAs (phase : Phase) (before run : Running) : Type 0 where
   pub trace : run.tables.trace ≡ before.tables.trace
   pub heap : run.heap ≡ before.heap
   pub spent : run.spent ≡ spent_in phase before.spent
 
-same-as : (phase : Phase) (before run : Running) → opened phase (Some before) ≡ Some run → SameAs phase before run
+pub same-as : (phase : Phase) (before run : Running) → opened phase (Some before) ≡ Some run → SameAs phase before run
 same-as New before run e = subst (SameAs New before) (some-same (idle before) run e) (record { trace = refl; heap = refl; spent = refl })
 same-as IsFinished before run e = subst (SameAs IsFinished before) (some-same (idle before) run e) (record { trace = refl; heap = refl; spent = refl })
 same-as Pending before run e = subst (SameAs Pending before) (some-same (idle before) run e) (record { trace = refl; heap = refl; spent = refl })

@@ -10,6 +10,7 @@ pub mod ReadRun
 pub mod Flattening
 pub mod NewInput
 pub mod Carrying
+pub mod NoneStale
 pub mod Restored
 pub mod EngineLaws
 pub mod Samples

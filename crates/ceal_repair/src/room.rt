@@ -2,7 +2,7 @@
 
 ghost use Rattle.std.specs.Prelude.{◌≡◌, IfOk};
 ghost use Rattle.ceal_code.specs.Stacks.{stack_in};
-ghost use Rattle.ceal_code.specs.Step.{started};
+ghost use Rattle.ceal_code.specs.Step.{Empty, started};
 
 use crate::frame::Frame;
 use ceal_base::no_memory::NoMemory;
@@ -22,7 +22,9 @@ pub struct Room {
 
 impl Room {
     /// With no unit, and no memory yet.
-    pub fn new(alloc: Global) -> Room {
+    pub fn new(alloc: Global) -> Room
+        ensures empty { stack_in result.stack ≡ Empty }
+    {
         Room {
             stack: Stack::empty(alloc),
             frames: Vec::new(alloc),

@@ -42,7 +42,7 @@ pub enum Outcome {
     OutOfFuel,
 }
 
-/// The number of words of a block, where the heap takes that many: at most 255. Valid code makes no larger block; one that was
+/// The words of a block, where the heap takes that many: at most 255. Valid code makes no larger block; one that was
 /// larger would be answered as out of memory.
 fn few_words(block: &BlockWords) -> Result<&[Word], NoMemory>
     ensures words { IfOk result (λ words. words.now ≡ block.now.words) }

@@ -1,6 +1,6 @@
 // Runs, and change propagation.
 
-ghost use Rattle.std.specs.Prelude.{◌≡◌, ◌≢◌, ℕ, ◌<◌, ◌≤◌, ◌^◌, true, Option, Some, None, length, IfOk, IsSome, IsOk, OnOk, OnErr};
+ghost use Rattle.std.specs.Prelude.{◌≡◌, ◌≢◌, ◌⊎◌, ℕ, ◌<◌, ◌≤◌, ◌^◌, true, Option, Some, None, length, IfOk, IsSome, IsOk, OnOk, OnErr};
 ghost use Rattle.std.specs.Option.{IsSomeAnd};
 ghost use Rattle.ceal_base.specs.Trace.{Trace as TraceOf};
 ghost use Rattle.ceal_base.specs.declared.call.Call.{Call as CallOf};
@@ -219,8 +219,9 @@ impl Engine {
     }
 
     /// Goes on with the repair that is under way, or begins that of a run: that many stale reads, each with all that is inside
-    /// it, or all where no number is given. Where more steps would be spent on it than the fuel, the call is run again.
-    /// After an error the phase is Dropped.
+    /// it, or all where no number is given. What stands before the first of them stays as it is, and where none is stale in
+    /// Finished or Pending it takes no memory. Where more steps would be spent on it than the fuel, the call is run again. After
+    /// an error the phase is Dropped.
     pub fn go_on(&mut self, reads: Option<u32>) -> Result<Came, RunError>
         requires run { has_run self.old.phase ≡ true }
         requires some { reads ≢ Some 0 }
@@ -233,8 +234,13 @@ impl Engine {
         ensures comes { (next : ℕ) (r : RepairOf) → CarriesFrom self.old next r →
             Comes self.old self.new reads next r result }
         ensures more { IfOk result (λ came. came ≡ Came.More → IsSome reads) }
+        ensures first { IfOk result (λ came. came ≡ Came.Anew →
+            IsSomeAnd (trace self.new) (IsFirst self.new)) }
+        ensures front { IfOk result (λ came. came ≢ Came.Anew → KeepsFront self.old self.new) }
         ensures revoked_stay { IfOk result (λ came. came ≡ Came.More →
             KeepsWords self.old.heap self.new.heap) }
+        ensures sure_where_honest { IsWhole self.old.phase → (l : TraceOf) →
+            trace self.old ≡ Some l → IsHonest self.old.code self.old.inputs l → IsOk result }
         ensures out_of_fuel { IfOutOfFuel result (fresh_of self.new ≡ None) }
         ensures dropped { OnErr result (self.new.phase ≡ Dropped) }
     {
@@ -293,8 +299,12 @@ impl Engine {
             IsSomeAnd (trace self.new) (IsFirst self.new)) }
         ensures slice { (next : ℕ) (r : RepairOf) → CarriesFrom self.old next r →
             ComesSo self.old self.new (Some reads) next r result }
+        ensures front { OnOk result (KeepsFront self.old self.new
+            ⊎ IsSomeAnd (trace self.new) (IsFirst self.new)) }
         ensures revoked_stay { IfOk result (λ p. p ≡ Progress.More →
             KeepsWords self.old.heap self.new.heap) }
+        ensures sure_where_honest { IsWhole self.old.phase → (l : TraceOf) →
+            trace self.old ≡ Some l → IsHonest self.old.code self.old.inputs l → IsOk result }
         ensures out_of_fuel { IfOutOfFuel result (fresh_of self.new ≡ None) }
         ensures dropped { OnErr result (self.new.phase ≡ Dropped) }
     {

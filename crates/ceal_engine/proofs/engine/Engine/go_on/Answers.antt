@@ -1,12 +1,16 @@
-use Rattle.std.proofs.Common.{◌≡◌, ◌∙◌, true, None, Some, refl, sym, subst}
+use Rattle.std.proofs.Common.{◌≡◌, ◌∙◌, false, true, None, Some, ap, refl, sym, subst}
 use Rattle.std.proofs.lemmas.Result.{err_from_is_err_and}
 use Rattle.ceal_engine.proofs.Carrying.{some-open, open-run, open-part, slice-for, keeps-more, keeps-done, goes-on, ends, some-reads, keeps-words, no-slice, is-out, fresh-out, anew-comes}
+use Rattle.ceal_engine.proofs.NoneStale.{done-within, part-honest, honest-ends, front-kept}
 use Rattle.ceal_engine.proofs.Keeping.{sound-kept, sound-part, sound-dropped}
 use Rattle.ceal_engine.proofs.Present.{sound-present}
 use Rattle.ceal_engine.specs.Completed.{finished, under_way}
-use Rattle.ceal_engine.specs.Engine.{has_run}
+use Rattle.ceal_code.specs.Replay.{IsHonest}
+use Rattle.ceal_engine.specs.Engine.{IsWhole, has_run, trace}
 use Rattle.ceal_engine.specs.Partial.{CarriesFrom, GoesOn, Ends, IsOut, KeepsWords}
-use Rattle.ceal_engine.specs.declared.phase.Phase.TheVariants.{Finished}
+use Rattle.ceal_engine.specs.Repaired.{KeepsFront}
+use Rattle.ceal_engine.specs.declared.phase.Phase.TheVariants.{Finished, Partial}
+use Rattle.ceal_repair.specs.Slicing.{IsSliced}
 use Rattle.ceal_theory.specs.Repair.{own}
 use Rattle.ceal_theory.specs.Slices.{sliced as sliced_repair}
 use Rattle.ceal_engine.proofs.engine.Engine.go_on.Goals as goal
@@ -131,3 +135,47 @@ returns-in-Ok-OutOfFuel-clause-out_of_fuel c =
     let run = c.slice.new.running in
     let sliced = slice-for v.code v.fuel v.inputs v.call.call c.args.reads c.in-Some.run' run c.in-Ok-OutOfFuel.field-0 c.in-Ok-OutOfFuel.ensures.sliced in
     fresh-out v.code v.fuel v.inputs v.phase v.call.call v.running c.self.invariant.keeps c.in-Some.run' is c.args.reads run c.in-Ok-OutOfFuel.field-0 sliced c.in-Ok-OutOfFuel.field-0-is
+
+pub returns-in-Ok-More-clause-front : goal.returns-in-Ok-More-clause-front
+returns-in-Ok-More-clause-front c = λ n.
+    let v = c.self.inside in
+    let is = sym c.reopen.ensures ∙ c.in-Some.is in
+    let run = c.slice.new.running in
+    subst (λ e. KeepsFront e (under_way v.code v.fuel v.inputs v.call.call run)) c.self.view_is
+    (front-kept v.code v.fuel v.inputs v.call.call v.phase Partial v.running c.in-Some.run' run is (c.in-Ok-More.ensures.front (λ s. absurd (let clash = sym c.in-Ok-More.field-0-is ∙ s in cc))))
+
+pub returns-in-Ok-Done-clause-front : goal.returns-in-Ok-Done-clause-front
+returns-in-Ok-Done-clause-front c = λ n.
+    let v = c.self.inside in
+    let is = sym c.reopen.ensures ∙ c.in-Some.is in
+    let run = c.slice.new.running in
+    subst (λ e. KeepsFront e (finished v.code v.fuel v.inputs v.call.call run)) c.self.view_is
+    (front-kept v.code v.fuel v.inputs v.call.call v.phase Finished v.running c.in-Some.run' run is (c.in-Ok-Done.ensures.front (λ s. absurd (let clash = sym c.in-Ok-Done.field-0-is ∙ s in cc))))
+
+pub returns-in_ok-run_anew-in-Ok-Spent-clause-front : goal.returns-in_ok-run_anew-in-Ok-Spent-clause-front
+returns-in_ok-run_anew-in-Ok-Spent-clause-front c = λ n. absurd (n refl)
+
+pub returns-in_err-run_anew-in-Ok-Spent-clause-sure_where_honest : goal.returns-in_err-run_anew-in-Ok-Spent-clause-sure_where_honest
+returns-in_err-run_anew-in-Ok-Spent-clause-sure_where_honest c = λ w l e h.
+    let v = c.self.inside in
+    let is = sym c.reopen.ensures ∙ c.in-Some.is in
+    let p = part-honest v.code v.fuel v.inputs v.phase v.call.call v.running c.self.invariant.keeps c.in-Some.run' is l (ap trace c.self.view_is ∙ e) (subst (λ s. IsHonest s.code s.inputs l) (sym c.self.view_is) h) in
+    absurd
+    (done-within v.code v.inputs p.0 p.1 v.fuel p.2 c.in-Some.run' p.3 p.4 c.args.reads c.requires.some (subst (IsSliced v.code v.inputs p.0 p.1 c.args.reads v.fuel p.2 c.slice.new.running) c.in-Ok-Spent.field-0-is (c.in-Ok-Spent.ensures.sliced p.0 p.1 p.2 p.3)))
+
+pub returns-in-Ok-OutOfFuel-clause-sure_where_honest : goal.returns-in-Ok-OutOfFuel-clause-sure_where_honest
+returns-in-Ok-OutOfFuel-clause-sure_where_honest c = λ w l e h.
+    let v = c.self.inside in
+    let is = sym c.reopen.ensures ∙ c.in-Some.is in
+    let run = c.slice.new.running in
+    let sliced = slice-for v.code v.fuel v.inputs v.call.call c.args.reads c.in-Some.run' run c.in-Ok-OutOfFuel.field-0 c.in-Ok-OutOfFuel.ensures.sliced in
+    absurd
+    (honest-ends v.code v.fuel v.inputs v.phase v.call.call v.running c.self.invariant.keeps (subst (λ s. IsWhole s.phase) (sym c.self.view_is) w) l (ap trace c.self.view_is ∙ e) (subst (λ s. IsHonest s.code s.inputs l) (sym c.self.view_is) h)
+    (fresh-out v.code v.fuel v.inputs v.phase v.call.call v.running c.self.invariant.keeps c.in-Some.run' is c.args.reads run c.in-Ok-OutOfFuel.field-0 sliced c.in-Ok-OutOfFuel.field-0-is))
+
+pub returns-in-Err-clause-sure_where_honest : goal.returns-in-Err-clause-sure_where_honest
+returns-in-Err-clause-sure_where_honest c = λ w l e h.
+    let v = c.self.inside in
+    let is = sym c.reopen.ensures ∙ c.in-Some.is in
+    let p = part-honest v.code v.fuel v.inputs v.phase v.call.call v.running c.self.invariant.keeps c.in-Some.run' is l (ap trace c.self.view_is ∙ e) (subst (λ s. IsHonest s.code s.inputs l) (sym c.self.view_is) h) in
+    absurd (let no : false ≡ true = c.in-Err.ensures.sure p.0 p.1 p.2 p.3 p.4 in cc)
