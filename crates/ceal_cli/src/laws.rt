@@ -1,12 +1,19 @@
 // The laws of outputs and of the generated workloads, each the contract of a function that does nothing but call the
 // laws on which it rests.
 
+ghost use Rattle.std.specs.Prelude.{◌≡◌};
 ghost use Rattle.ceal_many.specs.Laws.{IsDetermined, OwnRepliesLaw, RefusedLaw as Others_refused_law, AloneLaw};
 ghost use Rattle.ceal_session.specs.Replies.{Replies};
 ghost use Rattle.ceal_cli.specs.Continuing.{ResumableLaw, ResumedOutputLaw};
 ghost use Rattle.ceal_cli.specs.Laws.{AcceptedLaw, ShortLaw, OneOutputLaw, AnsweredLaw, UntakenLaw, CheckedLaw, ListedLaw, RefusedLaw, RepliedLaw, DumpedLaw, SavedLaw, ToldLaw, JudgedLaw, TakenLaw, GeneratedLaw, VerifiedLaw};
 
 use crate::members::Member;
+use crate::top::INPUT_LIMIT;
+
+/// The limit on inputs is the number in the line of `TooLong`.
+pub fn input_limit()
+    ensures law { INPUT_LIMIT ≡ 4194304 }
+{}
 
 /// A workload of `ceal_gen` is an accepted input, whatever its kind, seed and size: it has no fault of characters,
 /// grammar, names, types or usage, and keeps the limits. The lexer counts bytes in 32 bits, so a text of `2 ^ 32` bytes

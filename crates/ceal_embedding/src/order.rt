@@ -1,6 +1,6 @@
 // A session that a program keeps: the total of an order, brought up to date after each change.
 
-ghost use Rattle.std.specs.Prelude.{IfOk};
+ghost use Rattle.std.specs.Prelude.{◌≡◌, IfOk, IfErr};
 ghost use Rattle.ceal_session.specs.Keeping.{situation};
 ghost use Rattle.ceal_session.specs.Replies.{Answers};
 ghost use Rattle.ceal_session.specs.State.{numbers_in};
@@ -61,6 +61,7 @@ pub fn ask(session: &mut Session, line: &[u8]) -> Result<Text, Trouble>
     ensures answers { IfOk result (λ text. Answers session.old.state
         (numbers_in (situation session.old)) (goes (situation session.new).past)
         line.now text session.new.state) }
+    ensures memory { IfErr result (λ trouble. trouble ≡ Trouble.Memory) }
 {
     let reply = session.command(line)?;
     Ok(reply)

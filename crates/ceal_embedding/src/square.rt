@@ -1,8 +1,12 @@
 // An engine that a program drives by calls: the square of a number, kept up to date.
 
-ghost use Rattle.std.specs.Prelude.{◌≡◌, IfOk, OnOk};
+ghost use Rattle.std.specs.Prelude.{◌≡◌, true, IsOk, IfOk, IfErr, OnOk};
 ghost use Rattle.ceal_base.specs.Access.{word_in};
-ghost use Rattle.ceal_engine.specs.Engine.{stored_at, with_base, IsPresent};
+ghost use Rattle.ceal_base.specs.Fitting.{kind_at};
+ghost use Rattle.ceal_base.specs.declared.word.BlockId.TheVariants.{Input};
+ghost use Rattle.ceal_code.specs.Value.{is_cell};
+ghost use Rattle.ceal_embedding.specs.Causes.{IsGivenUp};
+ghost use Rattle.ceal_engine.specs.Engine.{alone, stored_at, with_base, IsPresent};
 ghost use Rattle.ceal_engine.specs.declared.phase.Phase.TheVariants.{Finished};
 
 use crate::trouble::Trouble;
@@ -22,7 +26,9 @@ ceal square(mod int *side, mod int *area) {
 ";
 
 /// The modifiable that an input of one modifiable is.
-fn input(number: u32) -> Place {
+fn input(number: u32) -> Place
+    ensures place { result ≡ record { block = Input number; field = 0 } }
+{
     Place {
         block: BlockId::Input(number),
         field: 0,
@@ -30,16 +36,23 @@ fn input(number: u32) -> Place {
 }
 
 /// The side, which is the first input, and the area, which is the second one.
-pub fn side() -> Place {
+pub fn side() -> Place
+    ensures place { result ≡ record { block = Input 0; field = 0 } }
+{
     input(0)
 }
 
-pub fn area() -> Place {
+pub fn area() -> Place
+    ensures place { result ≡ record { block = Input 1; field = 0 } }
+{
     input(1)
 }
 
 /// An engine with two inputs and a finished run of function 0, which is `square`. A run may take a thousand steps.
-pub fn open(alloc: Global) -> Result<Engine, Trouble> {
+pub fn open(alloc: Global) -> Result<Engine, Trouble>
+    ensures present { IfOk result IsPresent }
+    ensures finished { IfOk result (λ engine. engine.phase ≡ Finished) }
+{
     let program = compile(alloc, SOURCE)?;
     let mut engine = Engine::new(alloc, program.code, 1_000)?;
     match prepare(&mut engine) {
@@ -52,7 +65,10 @@ pub fn open(alloc: Global) -> Result<Engine, Trouble> {
 }
 
 /// Makes the inputs, and runs the program on them.
-fn prepare(engine: &mut Engine) -> Result<(), Trouble> {
+fn prepare(engine: &mut Engine) -> Result<(), Trouble>
+    ensures present { OnOk result (IsPresent engine.new) }
+    ensures finished { OnOk result (engine.new.phase ≡ Finished) }
+{
     add(engine, 3)?;
     add(engine, 0)?;
     let args = [Word::At(side()), Word::At(area())];
@@ -73,11 +89,13 @@ fn add(engine: &mut Engine, base: i64) -> Result<(), Trouble> {
 }
 
 /// Gives an input another base, and brings the run up to date: what the engine has then is the run from scratch on the
-/// inputs as they are now.
+/// inputs as they are now. An edit that the engine does not take is refused, and the engine stays as it was.
 pub fn update(engine: &mut Engine, place: Place, base: Word) -> Result<(), Trouble>
     ensures present { OnOk result (IsPresent engine.new) }
     ensures inputs { OnOk result (engine.new.inputs ≡ with_base engine.old.inputs place base) }
     ensures finished { OnOk result (engine.new.phase ≡ Finished) }
+    ensures given_up { IfErr result
+        (λ trouble. IsGivenUp trouble engine.old place base engine.new) }
 {
     if engine.phase() == Phase::New || !engine.takes_edit(place, base) {
         return Err(Trouble::Refused);

@@ -1,5 +1,9 @@
 // Why an example is given up.
 
+ghost use Rattle.std.specs.Prelude.{◌≡◌};
+ghost use Rattle.ceal_embedding.specs.Causes.{front_trouble, run_trouble};
+ghost use Rattle.ceal_embedding.specs.declared.trouble.Trouble.TheVariants.{Memory, Output};
+
 use ceal_base::fault::FrontError;
 use ceal_base::no_memory::NoMemory;
 use ceal_engine::run_error::RunError;
@@ -22,12 +26,16 @@ pub enum Trouble {
 }
 
 impl From<NoMemory> for Trouble {
+    ghost from_gives = { λ _ trouble. trouble ≡ Memory };
+
     fn from(_error: NoMemory) -> Trouble {
         Trouble::Memory
     }
 }
 
 impl From<FrontError> for Trouble {
+    ghost from_gives = { λ error trouble. trouble ≡ front_trouble error };
+
     fn from(error: FrontError) -> Trouble {
         match error {
             FrontError::Memory => Trouble::Memory,
@@ -37,6 +45,8 @@ impl From<FrontError> for Trouble {
 }
 
 impl From<RunError> for Trouble {
+    ghost from_gives = { λ error trouble. trouble ≡ run_trouble error };
+
     fn from(error: RunError) -> Trouble {
         match error {
             RunError::Memory => Trouble::Memory,
@@ -46,6 +56,8 @@ impl From<RunError> for Trouble {
 }
 
 impl From<io::Error> for Trouble {
+    ghost from_gives = { λ _ trouble. trouble ≡ Output };
+
     fn from(_error: io::Error) -> Trouble {
         Trouble::Output
     }

@@ -1,0 +1,2 @@
+-- what the crate promises
+pub mod Causes
