@@ -33,7 +33,10 @@ fn a_base_begins_once(rt: HostRuntime) {
     let mut mods = Mods::new(rt.alloc()).expect(&rt, "memory");
     holds(&rt, mods.begin(COUNTER, Word::Num(1)).expect(&rt, "memory"));
     equal(&rt, mods.last_value(COUNTER), Word::Num(1));
-    holds(&rt, !mods.begin(COUNTER, Word::Num(2)).expect(&rt, "memory"));
+    holds(
+        &rt,
+        !mods.begin(COUNTER, Word::Num(2)).expect(&rt, "memory"),
+    );
     equal(&rt, mods.last_value(COUNTER), Word::Num(1));
     drop(mods);
 }
