@@ -109,6 +109,10 @@ pub fn update(engine: &mut Engine, place: Place, base: Word) -> Result<(), Troub
 pub fn content(engine: &Engine, place: Place) -> Result<Word, Trouble>
     ensures value { IfOk result (λ word. word
         ≡ word_in (stored_at engine.now.memory place.block) place.field Word.Null) }
+    ensures refused { IfErr result (λ trouble. trouble ≡ Trouble.Refused) }
+    ensures sure { engine.now.phase ≡ Finished
+        → is_cell (kind_at engine.now.code.structs (alone engine.now.inputs) place) ≡ true
+        → IsOk result }
 {
     if engine.phase() != Phase::Finished || !engine.has_modifiable(place) {
         return Err(Trouble::Refused);
