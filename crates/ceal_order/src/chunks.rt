@@ -132,17 +132,18 @@ fn put_in_one<T: Copy>(
     Ok(())
 }
 
-// Takes the second half of a chunk into a fork of its own.
+// Takes the second half of a chunk into a fork of its own, whose chunk has room for as many items as fit.
 fn second_half<T: Copy>(alloc: Global, items: &mut Vec<T>) -> Result<Box<Fork<T>>, NoMemory>
+    requires { 32 ≤ length items.old.items }
     ensures ok { IfOk result
         (λ second. items.new.items ++ second.value.items.items ≡ items.old.items) }
     ensures err { OnErr result (items.new.items ≡ items.old.items) }
 {
+    let mut half = Vec::with_capacity(alloc, CHUNK_ITEMS)?;
+    half.extend_from_slice(&items[HALF_CHUNK..])?;
     let mut second = leaf(alloc)?;
-    if items.len() <= HALF_CHUNK {
-        return Ok(second);
-    }
-    second.items = items.split_off(HALF_CHUNK)?;
+    items.truncate(HALF_CHUNK);
+    second.items = half;
     Ok(second)
 }
 
@@ -204,7 +205,7 @@ fn first_len<T: Copy>(tree: &Tree<T>) -> usize
     }
 }
 
-// The same, where the chunk takes in the next one; where there is no memory for that, both stay.
+// The same, where the chunk takes in the next one. That takes no memory: where it has no room for both, both stay.
 fn with_next<T: Copy>(earlier: Tree<T>, mut fork: Box<Fork<T>>, later: Tree<T>) -> Tree<T>
     requires earlier { IsCounted earlier }
     requires later { IsCounted later }
@@ -215,9 +216,12 @@ fn with_next<T: Copy>(earlier: Tree<T>, mut fork: Box<Fork<T>>, later: Tree<T>) 
         Tree::Empty => Tree::Fork(forked(earlier, fork, Tree::Empty)),
         Tree::Fork(top) => {
             let (mut next, rest) = taken_first(top);
+            if next.items.len() > fork.items.capacity() - fork.items.len() {
+                return joined(earlier, fork, joined(Tree::Empty, next, rest));
+            }
             match fork.items.append(&mut next.items) {
                 Ok(()) => joined(earlier, fork, rest),
-                Err(_refused) => joined(earlier, fork, joined(Tree::Empty, next, rest)),
+                Err(_refused) => unreachable!(),
             }
         }
     }

@@ -12,7 +12,7 @@ use crate::run::sparse_run;
 const LABELS: u64 = 1 << 62;
 
 /// Into how many shares the room between two links is parted. Only the first one is before the new link.
-const SHARES: u64 = 16;
+const SHARES: u64 = 8;
 
 /// A label that is free directly after a link; where there is none, labels are given again round it first.
 pub fn fresh_label(links: &mut Vec<Link>, at: u32) -> u64

@@ -9,7 +9,7 @@
 //! `run` finds the links that get new labels then.
 //!
 //! What is kept by time is kept in lists of stamps that rise along the order: each stands before those that follow it.
-//! `rising` is such a list, searched by halves; it stands in a `short_list`, which takes no memory for a single stamp, and
+//! `rising` is such a list, searched by halves; it stands in a `short_list`, which takes no memory for up to two stamps, and
 //! for more a `sequence`, which keeps chunks of them in a balanced `tree`; `chunks` puts items into such a tree and takes them
 //! out, and `search` finds a place in it. `laws` says along which other orders stamps still rise. `room` makes room in lists
 //! that grow.

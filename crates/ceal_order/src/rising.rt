@@ -2,7 +2,7 @@
 
 ghost use Rattle.std.specs.Prelude.{◌≡◌, ◌↔◌, ◌<◌, ◌≤◌, [], ◌∷◌, false, length, insert, remove, IfOk, IfSome, IfNone, OnOk, OnErr, IsTrue};
 ghost use Rattle.ceal_order.specs.Stamps.{is_in, place, without};
-ghost use Rattle.ceal_order.specs.Rising.{numbers, count_before, IsRising, IsFirstAfter, NoneAfter, IsParted};
+ghost use Rattle.ceal_order.specs.Rising.{numbers, count_before, IsRising, IsFirstAfter, NoneAfter};
 
 use crate::order::Order;
 use crate::short_list::ShortList;
@@ -72,7 +72,7 @@ impl Rising {
         ensures here { IfSome result (λ next. IsTrue (is_in next.0 order.now.stamps)) }
         ensures none { IfNone result (NoneAfter order.now.stamps self.now stamp.0) }
     {
-        next_of(order, &self.stamps, stamp)
+        self.stamps.first_after(order, stamp)
     }
 
     /// Puts a stamp in that is not there, after those that stand before it, and says how many those are.
@@ -140,39 +140,6 @@ fn searched(order: &Order, stamps: &ShortList<Stamp>, stamp: Stamp) -> usize
     ensures within { result ≤ length stamps.now }
 {
     stamps.count_before(order, stamp)
-}
-
-// The nearest one after a stamp.
-fn next_of(order: &Order, stamps: &ShortList<Stamp>, stamp: Stamp) -> Option<Stamp>
-    requires here { IsTrue (is_in stamp.0 order.now.stamps) }
-    requires rising { IsRising order.now.stamps (numbers stamps.now) }
-    ensures some { IfSome result
-        (λ next. IsFirstAfter order.now.stamps (numbers stamps.now) stamp.0 next.0) }
-    ensures here { IfSome result (λ next. IsTrue (is_in next.0 order.now.stamps)) }
-    ensures none { IfNone result (NoneAfter order.now.stamps (numbers stamps.now) stamp.0) }
-{
-    let at = past(order, stamps, stamp);
-    if at < stamps.len() {
-        Some(stamps.get(at))
-    } else {
-        None
-    }
-}
-
-// How many do not stand after a stamp.
-fn past(order: &Order, stamps: &ShortList<Stamp>, stamp: Stamp) -> usize
-    requires here { IsTrue (is_in stamp.0 order.now.stamps) }
-    requires rising { IsRising order.now.stamps (numbers stamps.now) }
-    ensures { IsParted order.now.stamps (numbers stamps.now) stamp.0 result }
-{
-    let at = searched(order, stamps, stamp);
-    if at == stamps.len() {
-        return at;
-    }
-    if order.before(stamp, stamps.get(at)) {
-        return at;
-    }
-    at + 1
 }
 
 // Where a stamp first stands.

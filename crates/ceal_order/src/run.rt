@@ -7,8 +7,8 @@ ghost use Rattle.ceal_order.specs.Runs.{LowBefore, HighAfter, IsRun, Fills};
 
 use crate::link::{FIRST, Link, NO_LINK, label_at, next_at, prev_at};
 
-/// The smallest range that is looked at has 2^3 labels.
-const FEWEST_BITS: u32 = 3;
+/// The smallest range that is looked at has 2^10 labels: in a smaller one they would soon be given again.
+const FEWEST_BITS: u32 = 10;
 
 /// The links whose labels lie among the 2^bits labels from `low` on.
 #[derive(Clone, Copy)]

@@ -1,8 +1,8 @@
 // Items in a sequence.
 
-ghost use Rattle.std.specs.Prelude.{◌≡◌, ◌<◌, ◌≤◌, [], length, insert, remove, slice_index_or, OnOk, OnErr, IsTrue};
+ghost use Rattle.std.specs.Prelude.{◌≡◌, ◌<◌, ◌≤◌, [], length, insert, remove, slice_index_or, IfSome, IfNone, OnOk, OnErr, IsTrue};
 ghost use Rattle.ceal_order.specs.Stamps.{is_in};
-ghost use Rattle.ceal_order.specs.Rising.{numbers, count_before, IsRising};
+ghost use Rattle.ceal_order.specs.Rising.{numbers, count_before, IsRising, IsFirstAfter, NoneAfter};
 
 use crate::chunks::{CHUNK_ITEMS, put, with_item, without_item};
 use crate::order::Order;
@@ -132,5 +132,30 @@ impl Sequence<Stamp> {
             return count(&self.front) + last;
         }
         before_in_tree(order, &self.front, stamp)
+    }
+
+    /// The nearest one after a stamp, None where none stands after it.
+    pub fn first_after(&self, order: &Order, stamp: Stamp) -> Option<Stamp>
+        requires here { IsTrue (is_in stamp.0 order.now.stamps) }
+        requires rising { IsRising order.now.stamps (numbers self.now) }
+        ensures some { IfSome result
+            (λ next. IsFirstAfter order.now.stamps (numbers self.now) stamp.0 next.0) }
+        ensures here { IfSome result (λ next. IsTrue (is_in next.0 order.now.stamps)) }
+        ensures none { IfNone result (NoneAfter order.now.stamps (numbers self.now) stamp.0) }
+    {
+        let at = self.count_before(order, stamp);
+        let len = self.len();
+        if at == len {
+            return None;
+        }
+        let here = self.get(at);
+        if order.before(stamp, here) {
+            return Some(here);
+        }
+        let next = at + 1;
+        if next == len {
+            return None;
+        }
+        Some(self.get(next))
     }
 }

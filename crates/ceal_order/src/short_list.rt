@@ -1,8 +1,9 @@
-// Items of which there is mostly one.
+// Items of which there are mostly two at most.
 
-ghost use Rattle.std.specs.Prelude.{◌≡◌, ◌<◌, ◌≤◌, [], ◌∷◌, length, insert, remove, slice_index_or, IfOk, OnOk, OnErr, IsTrue};
+ghost use Rattle.std.specs.Prelude.{◌≡◌, ◌<◌, ◌≤◌, [], ◌∷◌, length, insert, remove, slice_index_or, IfOk, IfSome, IfNone, OnOk, OnErr, IsTrue};
 ghost use Rattle.ceal_order.specs.Stamps.{is_in};
-ghost use Rattle.ceal_order.specs.Rising.{numbers, count_before, IsRising};
+ghost use Rattle.ceal_order.specs.Rising.{numbers, count_before, IsRising, IsFirstAfter, NoneAfter};
+ghost use Rattle.ceal_order.specs.ShortList.{listed};
 
 use crate::order::Order;
 use crate::sequence::Sequence;
@@ -11,8 +12,8 @@ use ceal_base::no_memory::NoMemory;
 use std::alloc::Global;
 use std::marker::Model;
 
-/// A list of items, of which there is mostly one at most. That one stands in the list itself and takes no memory of its own;
-/// from the second on they stand in a sequence, and stay there.
+/// A list of items, of which there are mostly two at most. Those stand in the list itself and take no memory of their own;
+/// from the third on they stand in a sequence, and stay there.
 #[derive(Drop)]
 pub struct ShortList<T> {
     form: Form<T>,
@@ -23,6 +24,7 @@ pub struct ShortList<T> {
 enum Form<T> {
     Empty,
     One(T),
+    Two(T, T),
     Many(Box<Sequence<T>>),
 }
 
@@ -65,6 +67,7 @@ impl<T: Copy> ShortList<T> {
         match &self.form {
             Form::Empty => 0,
             Form::One(_item) => 1,
+            Form::Two(_first, _second) => 2,
             Form::Many(items) => items.len(),
         }
     }
@@ -76,6 +79,7 @@ impl<T: Copy> ShortList<T> {
         match &self.form {
             Form::Empty => unreachable!(),
             Form::One(item) => *item,
+            Form::Two(first, second) => { if index == 0 { *first } else { *second } }
             Form::Many(items) => items.get(index),
         }
     }
@@ -93,7 +97,11 @@ impl<T: Copy> ShortList<T> {
                 Ok(())
             }
             Form::One(first) => {
-                let items = pair(self.alloc, *first, index, item)?;
+                self.form = two(*first, index, item);
+                Ok(())
+            }
+            Form::Two(first, second) => {
+                let items = three(self.alloc, *first, *second, index, item)?;
                 self.form = Form::Many(items);
                 Ok(())
             }
@@ -108,6 +116,10 @@ impl<T: Copy> ShortList<T> {
         match &mut self.form {
             Form::Empty => unreachable!(),
             Form::One(_item) => self.form = Form::Empty,
+            Form::Two(first, second) => {
+                let rest = if index == 0 { *second } else { *first };
+                self.form = Form::One(rest);
+            }
             Form::Many(items) => items.remove(index),
         }
     }
@@ -124,23 +136,93 @@ impl ShortList<Stamp> {
         match &self.form {
             Form::Empty => 0,
             Form::One(only) => usize::from(order.before(*only, stamp)),
+            Form::Two(first, second) => count_of_two(order, *first, *second, stamp),
             Form::Many(items) => items.count_before(order, stamp),
+        }
+    }
+
+    /// The nearest one after a stamp, None where none stands after it.
+    pub fn first_after(&self, order: &Order, stamp: Stamp) -> Option<Stamp>
+        requires here { IsTrue (is_in stamp.0 order.now.stamps) }
+        requires rising { IsRising order.now.stamps (numbers self.now) }
+        ensures some { IfSome result
+            (λ next. IsFirstAfter order.now.stamps (numbers self.now) stamp.0 next.0) }
+        ensures here { IfSome result (λ next. IsTrue (is_in next.0 order.now.stamps)) }
+        ensures none { IfNone result (NoneAfter order.now.stamps (numbers self.now) stamp.0) }
+    {
+        match &self.form {
+            Form::Empty => None,
+            Form::One(only) => {
+                if order.before(stamp, *only) {
+                    Some(*only)
+                } else {
+                    None
+                }
+            }
+            Form::Two(first, second) => first_of_two(order, *first, *second, stamp),
+            Form::Many(items) => items.first_after(order, stamp),
         }
     }
 }
 
+// How many of two stamps stand before another.
+fn count_of_two(order: &Order, first: Stamp, second: Stamp, stamp: Stamp) -> usize
+    requires here { IsTrue (is_in stamp.0 order.now.stamps) }
+    requires rising { IsRising order.now.stamps (first.0 ∷ second.0 ∷ []) }
+    ensures count { result ≡ count_before order.now.stamps stamp.0 (first.0 ∷ second.0 ∷ []) }
+    ensures within { result ≤ 2 }
+{
+    if order.before(second, stamp) {
+        return 2;
+    }
+    usize::from(order.before(first, stamp))
+}
+
+// The first one of two stamps that stands after another.
+fn first_of_two(order: &Order, first: Stamp, second: Stamp, stamp: Stamp) -> Option<Stamp>
+    requires here { IsTrue (is_in stamp.0 order.now.stamps) }
+    requires rising { IsRising order.now.stamps (first.0 ∷ second.0 ∷ []) }
+    ensures some { IfSome result
+        (λ next. IsFirstAfter order.now.stamps (first.0 ∷ second.0 ∷ []) stamp.0 next.0) }
+    ensures here { IfSome result (λ next. IsTrue (is_in next.0 order.now.stamps)) }
+    ensures none { IfNone result
+        (NoneAfter order.now.stamps (first.0 ∷ second.0 ∷ []) stamp.0) }
+{
+    if order.before(stamp, first) {
+        return Some(first);
+    }
+    if order.before(stamp, second) {
+        return Some(second);
+    }
+    None
+}
+
 // An item, and another one before it or after it.
-fn pair<T: Copy>(
+fn two<T: Copy>(first: T, index: usize, item: T) -> Form<T>
+    requires { index ≤ 1 }
+    ensures { listed result ≡ insert (first ∷ []) index item }
+{
+    if index == 0 {
+        Form::Two(item, first)
+    } else {
+        Form::Two(first, item)
+    }
+}
+
+// Two items, and a third one among them.
+fn three<T: Copy>(
     alloc: Global,
     first: T,
+    second: T,
     index: usize,
     item: T,
 ) -> Result<Box<Sequence<T>>, NoMemory>
-    requires { index ≤ 1 }
-    ensures { IfOk result (λ items. items.value ≡ insert (first ∷ []) index item) }
+    requires { index ≤ 2 }
+    ensures { IfOk result (λ items. items.value ≡ insert (first ∷ second ∷ []) index item) }
 {
     let mut items = Sequence::new(alloc);
     items.insert(0, first)?;
+    items.insert(1, second)?;
     items.insert(index, item)?;
     Ok(Box::new(alloc, items)?)
 }

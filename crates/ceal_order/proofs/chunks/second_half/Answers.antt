@@ -1,5 +1,7 @@
-use Rattle.std.proofs.lemmas.List.{take-append-drop}
+use Rattle.std.proofs.lemmas.List.{take-append-drop, take_rest}
 use Rattle.ceal_order.proofs.chunks.second_half.Goals as goal
 
 pub returns-clause-ok : goal.returns-clause-ok
-returns-clause-ok g c = rw (c.in_ok-second-2.ensures.items, c.in_ok-second-2.ensures.tail) (take-append-drop 32 c.args.items.now.items)
+returns-clause-ok g c =
+    rw (c.truncate.ensures.items, c.in_ok-extend_from_slice.ensures.items, c.in_ok-half.ensures.items, c.deref.ensures.value, take_rest c.args.items.now.items 32)
+    (take-append-drop 32 c.args.items.now.items)
