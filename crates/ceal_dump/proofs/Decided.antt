@@ -1,5 +1,5 @@
 -- Bytes are the dump of a record, or of none.
-use Rattle.std.proofs.Common.{◌≡◌, inl, inr, ◌⊎◌, ℕ, ◌<◌, ◌^◌, Bool, true, false, List, length, refl, sym, ◌∙◌, subst, arith}
+use Rattle.std.proofs.Common.{◌≡◌, inl, inr, ◌⊎◌, ℕ, ◌<◌, ◌^◌, Bool, true, false, List, length, refl, sym, subst, arith}
 use Rattle.std.specs.Prelude.{nat_lt, bytes_eq}
 use Rattle.std.proofs.lemmas.Bool.{false≢true}
 use Rattle.std.proofs.lemmas.Bool.Decides.{nat_tests}
@@ -11,26 +11,26 @@ use Rattle.ceal_dump.specs.DumpText.{all_core, closed, dump_text, HasDump, IsDum
 use Rattle.ceal_dump.specs.Reading.{record_at}
 
 -- a fact holds, or it does not
-abbrev Decided : Type 0 → Type 0
+abbrev pub Decided : Type 0 → Type 0
 Decided P = P ⊎ (P → ⊥)
 
-both : {P Q : Type 0} → Decided P → Decided Q → Decided (P × Q)
+pub both : {P Q : Type 0} → Decided P → Decided Q → Decided (P × Q)
 both (inl p) (inl q) = inl (p, q)
 both (inl p) (inr n) = inr (λ h. n h.1)
 both (inr n) q = inr (λ h. n h.0)
 
-moved : {P Q : Type 0} → (P → Q) → (Q → P) → Decided P → Decided Q
+pub moved : {P Q : Type 0} → (P → Q) → (Q → P) → Decided P → Decided Q
 moved f g (inl p) = inl (f p)
 moved f g (inr n) = inr (λ q. n (g q))
 
-is-or-not : (b : Bool) → Decided (b ≡ true)
+pub is-or-not : (b : Bool) → Decided (b ≡ true)
 is-or-not true = inl refl
 is-or-not false = inr (λ e. false≢true e)
 
-below-or-not : (n m : ℕ) → Decided (n < m)
+pub below-or-not : (n m : ℕ) → Decided (n < m)
 below-or-not n m = moved (λ e. grind (arith, nat_tests, e)) (λ h. grind (arith, nat_tests, h)) (is-or-not (nat_lt n m))
 
-text-or-not : (a b : List ℕ) → Decided (a ≡ b)
+pub text-or-not : (a b : List ℕ) → Decided (a ≡ b)
 text-or-not a b = moved (bytes_eq-Decides a b).0 (bytes_eq-Decides a b).1 (is-or-not (bytes_eq a b))
 
 module _ (r : Record) where

@@ -3,7 +3,8 @@ pub mod Steps
 pub mod Numbers
 pub mod Records
 pub mod Loops
+pub mod Decided
 -- the rest
 pub mod ReadBack
-pub mod Decided
+pub mod Ranges
 mod Samples

@@ -1,5 +1,5 @@
 -- A record is read back from its dump text, and what is read is in range.
-use Rattle.std.proofs.Common.{◌≡◌, ℕ, zero, suc, ◌^◌, ◌==◌, Bool, true, false, if◌then◌else◌, List, ◌∷◌, ◌++◌, length, drop, refl, sym, ap, ◌∙◌, append_assoc, arith}
+use Rattle.std.proofs.Common.{◌≡◌, ℕ, zero, suc, ◌^◌, ◌==◌, Bool, true, false, if◌then◌else◌, Ok, Err, List, ◌∷◌, ◌++◌, length, drop, refl, sym, ap, ◌∙◌, append_assoc, arith}
 use Rattle.std.specs.Prelude.{codes, nat_lt}
 use Rattle.std.specs.Fmt.{decimal}
 use Rattle.std.proofs.lemmas.Bool.Decides.{nat_tests}
@@ -10,7 +10,8 @@ use Rattle.ceal_base.specs.declared.word.Word.{Word}
 use Rattle.ceal_base.specs.declared.word.Word.TheVariants.{Num}
 use Rattle.ceal_dump.proofs.Numbers.{small-back, small-range}
 use Rattle.ceal_dump.proofs.ReadBack.{words-stop, words-back, inputs-back, trace-back, memory-back}
-use Rattle.ceal_dump.specs.Answers.{OneRecordLaw}
+use Rattle.ceal_dump.specs.Answers.{OneRecordLaw, ReadBackLaw}
+use Rattle.ceal_dump.specs.declared.read.DumpError.TheVariants.{Memory, Unreadable}
 use Rattle.ceal_dump.specs.DumpText.{words_text, block_lines, item_lines, inputs_text, call_text, trace_text, memory_text, dump_text, HasDump, Small, SmallBlock, SmallPlace, SmallWord, SmallWords, SmallShape, SmallBlocks, SmallKey, SmallItem, SmallItems, InRange, IsDump}
 use Rattle.ceal_dump.specs.Reading.{first_byte, number_at, positive, negative, int_at, small_at, block_of, block_at, place_at, pointer_at, is_pointer, word_at, words_from, words_at, shape_at, line_at, blocks_from, key_at, alloc_at, write_at, read_at, item_at, items_from, inputs_at, trace_at, memory_at, call_record, record_at, many_from}
 
@@ -79,6 +80,11 @@ module _ (r : Record) where
 
 pub one-record : OneRecordLaw
 one-record bytes r s h k = sym (record-back r h.has h.range) ∙ (ap record_at (sym h.text ∙ k.text) ∙ record-back s k.has k.range)
+
+pub read-back : ReadBackLaw
+read-back bytes r (Ok s) h k = one-record bytes s r k h
+read-back bytes r (Err Memory) h k = tt
+read-back bytes r (Err Unreadable) h k = k r h
 
 -- the bytes of a record are read as it
 pub record-read : (bytes : List ℕ) (r : Record) → IsDump bytes r → record_at bytes ≡ r

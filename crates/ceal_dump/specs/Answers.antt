@@ -18,3 +18,14 @@ OneRecordLaw = (bytes : List ℕ) (r s : Record) → IsDump bytes r → IsDump b
 -- and of one, or of none
 abbrev pub DumpOrNoneLaw : Type 0
 DumpOrNoneLaw = (bytes : List ℕ) → ((r : Record) × IsDump bytes r) ⊎ ((r : Record) → IsDump bytes r → ⊥)
+
+-- the record that is read is this one
+abbrev pub IsReadAs : Record → Result Record DumpError → Type 0
+IsReadAs r (Ok s) = s ≡ r
+IsReadAs r (Err Memory) = Unit {0}
+IsReadAs r (Err Unreadable) = ⊥
+
+-- of bytes that are the dump of a record a reader gives that record, if there is memory
+abbrev pub ReadBackLaw : Type 0
+ReadBackLaw = (bytes : List ℕ) (r : Record) (answer : Result Record DumpError)
+    → IsDump bytes r → IsRead bytes answer → IsReadAs r answer

@@ -1,8 +1,9 @@
-// The text of the parts of a record.
+// The text of the parts of a record. What is written is in range, since it was read.
 
 ghost use Rattle.std.specs.Prelude.{◌≡◌, ◌++◌, codes, OnOk};
 ghost use Rattle.std.specs.Fmt.{decimal};
 ghost use Rattle.ceal_dump.specs.DumpText.{block_text, place_text, word_text, words_text, shape_text, block_line, block_lines, key_text, item_line, item_lines};
+ghost use Rattle.ceal_dump.specs.DumpText.{Small, SmallBlock, SmallPlace, SmallWord, SmallWords, SmallShape, SmallBlocks, SmallKey, SmallItem, SmallItems};
 
 use ceal_base::forest::{Item, Key, UnitId};
 use ceal_base::kind::Shape;
@@ -12,7 +13,8 @@ use ceal_base::text::Text;
 use ceal_base::word::{BlockId, Place, Word};
 
 fn put_block(out: &mut Text, block: BlockId) -> Result<(), NoMemory>
-    ensures { OnOk result (out.new ≡ out.old ++ block_text block) }
+    ensures text { OnOk result (out.new ≡ out.old ++ block_text block) }
+    ensures range { SmallBlock block }
 {
     match block {
         BlockId::Input(n) => {
@@ -27,7 +29,8 @@ fn put_block(out: &mut Text, block: BlockId) -> Result<(), NoMemory>
 }
 
 fn put_place(out: &mut Text, place: Place) -> Result<(), NoMemory>
-    ensures { OnOk result (out.new ≡ out.old ++ place_text place) }
+    ensures text { OnOk result (out.new ≡ out.old ++ place_text place) }
+    ensures range { SmallPlace place }
 {
     put_block(out, place.block)?;
     out.append(b".")?;
@@ -35,7 +38,8 @@ fn put_place(out: &mut Text, place: Place) -> Result<(), NoMemory>
 }
 
 fn put_word(out: &mut Text, word: Word) -> Result<(), NoMemory>
-    ensures { OnOk result (out.new ≡ out.old ++ word_text word) }
+    ensures text { OnOk result (out.new ≡ out.old ++ word_text word) }
+    ensures range { SmallWord word }
 {
     match word {
         Word::Num(n) => out.append_signed(n),
@@ -47,7 +51,8 @@ fn put_word(out: &mut Text, word: Word) -> Result<(), NoMemory>
 
 /// Words with a space before each.
 pub fn put_words(out: &mut Text, words: &[Word]) -> Result<(), NoMemory>
-    ensures { OnOk result (out.new ≡ out.old ++ words_text words.now) }
+    ensures text { OnOk result (out.new ≡ out.old ++ words_text words.now) }
+    ensures range { OnOk result (SmallWords words.now) }
 {
     let mut words = words;
     while let Some((word, more)) = words.split_first() {
@@ -59,7 +64,8 @@ pub fn put_words(out: &mut Text, words: &[Word]) -> Result<(), NoMemory>
 }
 
 fn put_shape(out: &mut Text, shape: Shape) -> Result<(), NoMemory>
-    ensures { OnOk result (out.new ≡ out.old ++ shape_text shape) }
+    ensures text { OnOk result (out.new ≡ out.old ++ shape_text shape) }
+    ensures range { SmallShape shape }
 {
     match shape {
         Shape::Struct(n) => {
@@ -75,7 +81,8 @@ fn put_shape(out: &mut Text, shape: Shape) -> Result<(), NoMemory>
 }
 
 fn put_line(out: &mut Text, block: &BlockWords) -> Result<(), NoMemory>
-    ensures { OnOk result (out.new ≡ out.old ++ block_line block.now) }
+    ensures text { OnOk result (out.new ≡ out.old ++ block_line block.now) }
+    ensures range { OnOk result (SmallShape block.now.shape × SmallWords block.now.words) }
 {
     put_shape(out, block.shape)?;
     put_words(out, block.items())?;
@@ -84,7 +91,8 @@ fn put_line(out: &mut Text, block: &BlockWords) -> Result<(), NoMemory>
 
 /// The lines of blocks.
 pub fn put_blocks(out: &mut Text, blocks: &[BlockWords]) -> Result<(), NoMemory>
-    ensures { OnOk result (out.new ≡ out.old ++ block_lines blocks.now) }
+    ensures text { OnOk result (out.new ≡ out.old ++ block_lines blocks.now) }
+    ensures range { OnOk result (SmallBlocks blocks.now) }
 {
     let mut blocks = blocks;
     while let Some((block, more)) = blocks.split_first() {
@@ -95,7 +103,8 @@ pub fn put_blocks(out: &mut Text, blocks: &[BlockWords]) -> Result<(), NoMemory>
 }
 
 fn put_key(out: &mut Text, key: &Key) -> Result<(), NoMemory>
-    ensures { OnOk result (out.new ≡ out.old ++ key_text key.now) }
+    ensures text { OnOk result (out.new ≡ out.old ++ key_text key.now) }
+    ensures range { OnOk result (SmallKey key.now) }
 {
     match key {
         Key::Init { function, args } => {
@@ -113,8 +122,9 @@ fn put_key(out: &mut Text, key: &Key) -> Result<(), NoMemory>
 
 /// The letter of an item, a modifiable and its content.
 fn put_access(out: &mut Text, letter: &[u8], place: Place, value: Word) -> Result<(), NoMemory>
-    ensures { OnOk result (out.new
+    ensures text { OnOk result (out.new
         ≡ out.old ++ letter.now ++ place_text place ++ codes " " ++ word_text value) }
+    ensures range { SmallPlace place × SmallWord value }
 {
     out.append(letter)?;
     put_place(out, place)?;
@@ -124,9 +134,10 @@ fn put_access(out: &mut Text, letter: &[u8], place: Place, value: Word) -> Resul
 
 /// The unit of a read, its variable and its arguments.
 fn put_unit(out: &mut Text, unit: UnitId, var: u32, args: &[Word]) -> Result<(), NoMemory>
-    ensures { OnOk result (out.new
+    ensures text { OnOk result (out.new
         ≡ out.old ++ codes " u" ++ decimal unit.0 ++ codes " v" ++ decimal var
         ++ words_text args.now) }
+    ensures range { OnOk result (Small unit.0 × Small var × SmallWords args.now) }
 {
     out.append(b" u")?;
     out.append_number(unit.0 as usize)?;
@@ -136,7 +147,8 @@ fn put_unit(out: &mut Text, unit: UnitId, var: u32, args: &[Word]) -> Result<(),
 }
 
 fn put_item(out: &mut Text, item: &Item) -> Result<(), NoMemory>
-    ensures { OnOk result (out.new ≡ out.old ++ item_line item.now) }
+    ensures text { OnOk result (out.new ≡ out.old ++ item_line item.now) }
+    ensures range { OnOk result (SmallItem item.now) }
 {
     match item {
         Item::Step => out.append(b"s\n"),
@@ -168,7 +180,8 @@ fn put_item(out: &mut Text, item: &Item) -> Result<(), NoMemory>
 
 /// The lines of items.
 pub fn put_items(out: &mut Text, items: &[Item]) -> Result<(), NoMemory>
-    ensures { OnOk result (out.new ≡ out.old ++ item_lines items.now) }
+    ensures text { OnOk result (out.new ≡ out.old ++ item_lines items.now) }
+    ensures range { OnOk result (SmallItems items.now) }
 {
     let mut items = items;
     while let Some((item, more)) = items.split_first() {

@@ -2,7 +2,7 @@
 
 ghost use Rattle.std.specs.Prelude.{◌≡◌, ◌++◌, IfOk, OnOk};
 ghost use Rattle.ceal_dump.specs.DumpText as dump;
-ghost use Rattle.ceal_dump.specs.DumpText.{inputs_text, call_text, trace_text, memory_text, HasDump};
+ghost use Rattle.ceal_dump.specs.DumpText.{inputs_text, call_text, trace_text, memory_text, HasDump, Small, SmallWords, SmallBlocks, SmallItems, InRange, IsDump};
 
 use crate::text::{put_blocks, put_items, put_words};
 use ceal_base::forest::Item;
@@ -14,7 +14,8 @@ use ceal_base::word::Word;
 use std::alloc::Global;
 
 fn put_inputs(out: &mut Text, blocks: &[BlockWords]) -> Result<(), NoMemory>
-    ensures { OnOk result (out.new ≡ out.old ++ inputs_text blocks.now) }
+    ensures text { OnOk result (out.new ≡ out.old ++ inputs_text blocks.now) }
+    ensures range { OnOk result (SmallBlocks blocks.now) }
 {
     out.append(b"ceal-trace 1\ninputs ")?;
     out.append_number(blocks.len())?;
@@ -23,7 +24,8 @@ fn put_inputs(out: &mut Text, blocks: &[BlockWords]) -> Result<(), NoMemory>
 }
 
 fn put_call(out: &mut Text, function: u32, args: &[Word]) -> Result<(), NoMemory>
-    ensures { OnOk result (out.new ≡ out.old ++ call_text function args.now) }
+    ensures text { OnOk result (out.new ≡ out.old ++ call_text function args.now) }
+    ensures range { OnOk result (Small function × SmallWords args.now) }
 {
     out.append(b"run ")?;
     out.append_number(function as usize)?;
@@ -32,7 +34,8 @@ fn put_call(out: &mut Text, function: u32, args: &[Word]) -> Result<(), NoMemory
 }
 
 fn put_trace(out: &mut Text, items: &[Item]) -> Result<(), NoMemory>
-    ensures { OnOk result (out.new ≡ out.old ++ trace_text items.now) }
+    ensures text { OnOk result (out.new ≡ out.old ++ trace_text items.now) }
+    ensures range { OnOk result (SmallItems items.now) }
 {
     out.append(b"trace ")?;
     out.append_number(items.len())?;
@@ -41,7 +44,9 @@ fn put_trace(out: &mut Text, items: &[Item]) -> Result<(), NoMemory>
 }
 
 fn put_memory(out: &mut Text, memory: &Memory) -> Result<(), NoMemory>
-    ensures { OnOk result (out.new ≡ out.old ++ memory_text memory.now.inputs memory.now.made) }
+    ensures text { OnOk result
+        (out.new ≡ out.old ++ memory_text memory.now.inputs memory.now.made) }
+    ensures range { OnOk result (SmallBlocks memory.now.inputs × SmallBlocks memory.now.made) }
 {
     let inputs = memory.inputs.items();
     let made = memory.items();
@@ -57,7 +62,8 @@ fn put_memory(out: &mut Text, memory: &Memory) -> Result<(), NoMemory>
 /// Puts the text of a record at the end.
 #[tactic(auto, unfolding(crate::specs::DumpText::dump_text))]
 fn put_record(out: &mut Text, kept: &Record) -> Result<(), NoMemory>
-    ensures { OnOk result (out.new ≡ out.old ++ dump.dump_text kept.now) }
+    ensures text { OnOk result (out.new ≡ out.old ++ dump.dump_text kept.now) }
+    ensures range { OnOk result (InRange kept.now) }
 {
     put_inputs(out, kept.inputs.items())?;
     put_call(out, kept.function, kept.args.items())?;
@@ -69,16 +75,18 @@ fn put_record(out: &mut Text, kept: &Record) -> Result<(), NoMemory>
 /// The text of a record, also of one that has no dump.
 pub(crate) fn record_text(alloc: Global, kept: &Record) -> Result<Text, NoMemory>
     ensures text { IfOk result (λ text. text ≡ dump.dump_text kept.now) }
+    ensures range { IfOk result (λ text. InRange kept.now) }
 {
     let mut out = Text::empty(alloc);
     put_record(&mut out, kept)?;
     Ok(out)
 }
 
-/// The dump text of a record that has a dump.
+/// The dump text of a record that has a dump; it is the dump of that record.
 pub fn dump_text(alloc: Global, kept: &Record) -> Result<Text, NoMemory>
     requires has { HasDump kept.now }
     ensures text { IfOk result (λ text. text ≡ dump.dump_text kept.now) }
+    ensures dump { IfOk result (λ text. IsDump text kept.now) }
 {
     record_text(alloc, kept)
 }

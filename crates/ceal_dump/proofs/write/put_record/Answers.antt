@@ -4,9 +4,9 @@ use Rattle.ceal_dump.proofs.Loops.{joined, on-ok}
 use Rattle.ceal_dump.specs.DumpText.{inputs_text, call_text, trace_text, memory_text, dump_text}
 use Rattle.ceal_dump.proofs.write.put_record.Goals as goal
 
-pub returns : goal.returns
+pub returns-clause-text : goal.returns-clause-text
 unfolding dump_text
-returns c =
+returns-clause-text c =
     let out = c.args.out.now in
     let r = c.args.kept.now in
     let i = inputs_text r.inputs in
@@ -18,7 +18,7 @@ returns c =
     (joined out (i ++ f ++ t) m c.put_trace.new.out c.put_memory.new.out
     (joined out (i ++ f) t c.put_call.new.out c.put_trace.new.out
     (joined out i f c.put_inputs.new.out c.put_call.new.out
-    (c.in_ok-put_inputs.ensures ∙ ap (λ bs. out ++ inputs_text bs) c.items.ensures.value)
-    (c.in_ok-put_call.ensures ∙ ap (λ args. c.put_inputs.new.out ++ call_text r.function args) c.items-2.ensures.value))
-    (c.in_ok-put_trace.ensures ∙ ap (λ is. c.put_call.new.out ++ trace_text is) c.items-3.ensures.value))
-    c.in_ok-put_memory.ensures) e) c.append.ensures.ok
+    (c.in_ok-put_inputs.ensures.text ∙ ap (λ bs. out ++ inputs_text bs) c.items.ensures.value)
+    (c.in_ok-put_call.ensures.text ∙ ap (λ args. c.put_inputs.new.out ++ call_text r.function args) c.items-2.ensures.value))
+    (c.in_ok-put_trace.ensures.text ∙ ap (λ is. c.put_call.new.out ++ trace_text is) c.items-3.ensures.value))
+    c.in_ok-put_memory.ensures.text) e) c.append.ensures.ok
