@@ -3,5 +3,6 @@ pub mod ReadBack
 -- the rest
 pub mod Loops
 pub mod Joined
+pub mod Decided
 pub mod Plain
 mod Samples
