@@ -21,6 +21,7 @@ use ceal_base::memory::{BlockWords, Inputs};
 use ceal_base::no_memory::NoMemory;
 use ceal_base::word::{BlockId, Place, Word};
 use ceal_code::code::Code;
+use ceal_memo::seed::Seed;
 use ceal_repair::room::Room;
 use ceal_repair::running::Running;
 use std::alloc::Global;
@@ -44,6 +45,7 @@ pub struct Engine {
     phase: Phase,
     running: Option<Running>,
     room: Room,
+    seed: Seed,
 }
 
 impl Model for Engine {
@@ -95,6 +97,26 @@ impl Engine {
         ensures call { IfOk result (λ e. e.call ≡ None) }
         ensures phase { IfOk result (λ e. e.phase ≡ New) }
     {
+        let engine = Engine::seeded(alloc, code, fuel, Seed::of(0, 0))?;
+        Ok(engine)
+    }
+
+    /// An engine without inputs. A run may take `fuel` steps. It takes the room for the arguments of a call. Any seed is
+    /// right: its memo tables begin with it.
+    pub fn seeded(
+        alloc: Global,
+        code: Code,
+        fuel: u32,
+        seed: Seed,
+    ) -> Result<Engine, NoMemory>
+        requires valid { valid code ≡ true }
+        requires fuel { InLimits fuel }
+        ensures code { IfOk result (λ e. e.code ≡ code) }
+        ensures fuel { IfOk result (λ e. e.fuel ≡ fuel) }
+        ensures inputs { IfOk result (λ e. e.inputs ≡ []) }
+        ensures call { IfOk result (λ e. e.call ≡ None) }
+        ensures phase { IfOk result (λ e. e.phase ≡ New) }
+    {
         let call = KeptCall::new(alloc, most_arguments(code.functions()))?;
         Ok(Engine {
             alloc,
@@ -105,6 +127,7 @@ impl Engine {
             phase: Phase::New,
             running: None,
             room: Room::new(alloc),
+            seed,
         })
     }
 
@@ -120,6 +143,7 @@ impl Engine {
         args: &[Word],
         forest: &Forest,
         work: u32,
+        seed: Seed,
     ) -> Result<Engine, NoMemory>
         requires valid { valid code ≡ true }
         requires fuel { InLimits fuel }
@@ -134,7 +158,7 @@ impl Engine {
         ensures work { IfOk result (λ e. e.work ≡ work) }
         ensures forest { IfOk result (λ e. IsSomeAnd (trace e) (IsRestored forest.now)) }
     {
-        let mut engine = Engine::called(alloc, code, fuel, inputs)?;
+        let mut engine = Engine::called(alloc, code, fuel, inputs, seed)?;
         match engine.run(function, args) {
             Ok(()) => {
                 // for the proof: it is an engine, by the clause `whole`
@@ -151,7 +175,13 @@ impl Engine {
     }
 
     /// An engine that has these inputs, which may name one another, and no run.
-    fn called(alloc: Global, code: Code, fuel: u32, inputs: &Inputs) -> Result<Engine, NoMemory>
+    fn called(
+        alloc: Global,
+        code: Code,
+        fuel: u32,
+        inputs: &Inputs,
+        seed: Seed,
+    ) -> Result<Engine, NoMemory>
         requires valid { valid code ≡ true }
         requires fuel { InLimits fuel }
         requires few { length inputs.now < 2 ^ 32 }
@@ -172,6 +202,7 @@ impl Engine {
             phase: Phase::New,
             running: None,
             room: Room::new(alloc),
+            seed,
         })
     }
 

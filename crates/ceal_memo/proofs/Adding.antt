@@ -15,8 +15,8 @@ use Rattle.ceal_memo.specs.declared.home.Home.TheVariants.{In}
 use Rattle.ceal_memo.specs.Homes.{home_of, HomeChange, Houses, IsKept}
 use Rattle.ceal_memo.specs.Lists.{stamps_at, with_stamp}
 use Rattle.ceal_memo.specs.Numbers.{list_at, IsEntered}
-use Rattle.ceal_memo.specs.Memo.{Entries, Follows, HasNone, EntriesChange}
-use Rattle.ceal_memo.proofs.Keys.{either, number-Decides}
+use Rattle.ceal_memo.specs.Table.{ByHash, Follows, HasNone, EntriesChange}
+use Rattle.ceal_memo.proofs.Deciding.{either, number-Decides}
 use Rattle.ceal_memo.proofs.Numbers.{same_value}
 use Rattle.ceal_memo.proofs.Looking.{stamps_are, list_is, found, looked, nowhere}
 
@@ -144,7 +144,7 @@ module _ {K : Type 0} (eq : K → K → Bool) (decides : (a b : K) → Decides (
 -- ---- a memo
 
 -- each stamp has the home that it had
-pub kept_same : (memo : Entries) (homes homes' : List ℕ) → ((t : ℕ) → home_of homes' t ≡ home_of homes t) → IsKept memo homes → IsKept memo homes'
+pub kept_same : (memo : ByHash) (homes homes' : List ℕ) → ((t : ℕ) → home_of homes' t ≡ home_of homes t) → IsKept memo homes → IsKept memo homes'
 kept_same memo homes homes' same kept = record {
   houses = λ n t there. same t ∙ kept.houses n t there;
   once = kept.once;

@@ -1,5 +1,7 @@
-pub mod Mixing
-pub mod Keys
+-- what crates above cite
+pub mod Holding
+-- what only this crate cites
+pub mod Deciding
 pub mod Numbers
 pub mod Entering
 pub mod Looking

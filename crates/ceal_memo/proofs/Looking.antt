@@ -12,7 +12,7 @@ use Rattle.ceal_order.specs.Stamps.{is_in, Distinct, without}
 use Rattle.ceal_order.specs.Rising.{IsRising}
 use Rattle.ceal_memo.specs.Lists.{stamps_at}
 use Rattle.ceal_memo.specs.Numbers.{list_at, IsWithout}
-use Rattle.ceal_memo.proofs.Keys.{tells}
+use Rattle.ceal_memo.proofs.Deciding.{tells}
 use Rattle.ceal_memo.proofs.Numbers.{value_of}
 
 -- what cannot be true is false

@@ -10,8 +10,8 @@ use Rattle.ceal_order.proofs.StampLists.{without_none, absent_without, Distinct-
 use Rattle.ceal_memo.specs.declared.home.Home.TheVariants.{Nowhere, In}
 use Rattle.ceal_memo.specs.Homes.{home_of, HomeChange, IsKept}
 use Rattle.ceal_memo.specs.Numbers.{list_at, keys_in, IsWithout}
-use Rattle.ceal_memo.specs.Memo.{Entries, entries_of, Follows, HasNone, OneEntry}
-use Rattle.ceal_memo.proofs.Keys.{number-Decides}
+use Rattle.ceal_memo.specs.Table.{ByHash, entries_of, Follows, HasNone, OneEntry}
+use Rattle.ceal_memo.proofs.Deciding.{number-Decides}
 use Rattle.ceal_memo.proofs.Looking.{out, list_is, in_list, nowhere, all_without, all_once, same_entries}
 use Rattle.ceal_memo.proofs.Adding.{home_other, not_that}
 
@@ -45,7 +45,7 @@ same_hash a b same = let entries : a ≡ b = cc in ap (λ (e : ℕ × List ℕ).
 
 -- ---- a memo
 
-module _ (memo : Entries) (homes : List ℕ) (kept : IsKept memo homes) where
+module _ (memo : ByHash) (homes : List ℕ) (kept : IsKept memo homes) where
   -- a hash with a stamp has the list that is the home of the stamp
   one_list : (s hash : ℕ) → is_in s (entries_of memo hash) ≡ true → (n : ℕ) × (home_of homes s ≡ In n) × (slice_get memo.lists n ≡ Some (hash, entries_of memo hash))
   one_list s hash there =
@@ -59,7 +59,7 @@ module _ (memo : Entries) (homes : List ℕ) (kept : IsKept memo homes) where
       let same : at_a.0 ≡ at_b.0 = number_in at_a.0 at_b.0 (sym at_a.1 ∙ at_b.1) in
       same_hash (a, entries_of memo a) (b, entries_of memo b) (sym at_a.2 ∙ ap (slice_get memo.lists) same ∙ at_b.2)
 
-module _ (s : ℕ) (old new : Entries) (less : IsWithout s old.lists new.lists) where
+module _ (s : ℕ) (old new : ByHash) (less : IsWithout s old.lists new.lists) where
   pub stamps_less : (hash : ℕ) → entries_of new hash ≡ without s (entries_of old hash)
   stamps_less = all_without nat_eq s old.lists new.lists less
 

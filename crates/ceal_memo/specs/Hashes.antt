@@ -1,29 +1,62 @@
--- The hashes of keys.
-use Rattle.std.specs.Prelude.{ℕ, ◌+◌, ◌*◌, List, [], ◌∷◌}
-use Rattle.std.specs.List.{fold}
+-- The hashes of keys: sums of products with the words of a seed (multilinear hashing: Carter and Wegman, "Universal
+-- classes of hash functions", 1979; Lemire and Kaser, "Strongly universal string hashing is fast", 2014).
+use Rattle.std.specs.Prelude.{ℕ, ◌+◌, ◌*◌, ◌/◌, ◌%◌, ◌^◌, List, [], ◌∷◌, length, Option, None, Some, slice_get, unwrap_or}
+use mir.Syntax.{w64}
+use mir.Val.{of_z as cast_unsigned}
 use Rattle.ceal_base.specs.Hashing.{mixed, place_number}
 use Rattle.ceal_base.specs.declared.forest.Key.{Key}
 use Rattle.ceal_base.specs.declared.forest.Key.TheVariants.{Init, ModInt, ModPtr}
 use Rattle.ceal_base.specs.declared.word.Word.{Word}
-use Rattle.ceal_base.specs.contracts.word.WordHash.TheImpl as word
-use Rattle.ceal_memo.specs.Keys.{ReadKey}
-use Rattle.ceal_memo.specs.Mixing.{number_of}
+use Rattle.ceal_base.specs.declared.word.Word.TheVariants.{Num, Null, Block, At}
+use Rattle.ceal_memo.specs.declared.digest.Digest.{Digest}
+use Rattle.ceal_memo.specs.Keys.{EntryKey, OfRead, OfAlloc}
 
--- a digest with what has been fed after it
-abbrev pub behind : ℕ → List (List ℕ) → ℕ
-behind digest writes = fold (λ state bytes. mixed state (number_of bytes)) digest writes
+-- a word as one number, which no other word has
+abbrev pub word_number : Word → ℕ
+word_number (Num n) = cast_unsigned w64 n
+word_number Null = 2 ^ 64
+word_number (Block b) = 2 * 2 ^ 64 + place_number (record { block = b; field = 0 })
+word_number (At p) = 3 * 2 ^ 64 + place_number p
 
--- a digest with words after it
-unfoldable pub words_behind : ℕ → List Word → ℕ
-words_behind digest [] = digest
-words_behind digest (w ∷ ws) = words_behind (behind digest (word.ghosts.hash_input w)) ws
+-- a word of a seed
+abbrev pub seed_word : List ℕ → ℕ → ℕ
+seed_word seed at = unwrap_or (slice_get seed at) 0
 
--- the hash of a read's key
-unfoldable pub read_hash : ReadKey → ℕ
-read_hash key = words_behind (mixed (mixed 0 (place_number key.place)) (key.unit.0 * 4294967296 + key.var)) key.args
+-- one more number, with the word of the seed that is next; where none is left, they begin anew behind what is there
+abbrev pub with_number : List ℕ → Digest → ℕ → Digest
+with_number seed d number = by (slice_get seed d.at)
+  where
+    by : Option ℕ → Digest
+    by (Some word) = record { sum = (d.sum + word * number) % 2 ^ 128; at = d.at + 1 }
+    by None = record {
+      sum = (seed_word seed 0 * mixed 0 (d.sum / 2 ^ 64) + seed_word seed 1 * number) % 2 ^ 128;
+      at = 2;
+    }
 
--- the hash of an allocation's key
-unfoldable pub alloc_hash : Key → ℕ
-alloc_hash (Init function args) = words_behind (mixed 4611686018427387904 function) args
-alloc_hash ModInt = mixed 6917529027641081856 0
-alloc_hash (ModPtr pointed) = mixed 6917529027641081856 (pointed + 1)
+-- words after a digest
+unfoldable pub with_words : List ℕ → Digest → List Word → Digest
+with_words seed d [] = d
+with_words seed d (w ∷ ws) = with_words seed (with_number seed d (word_number w)) ws
+
+-- a digest of no numbers
+abbrev pub empty : Digest
+empty = record { sum = 0; at = 0 }
+
+-- the digest of an allocation's key
+unfoldable pub alloc_digest : List ℕ → Key → Digest
+alloc_digest seed (Init function args) =
+    with_words seed (with_number seed (with_number seed empty (length args * 4 + 1)) function) args
+alloc_digest seed ModInt = with_number seed empty 2
+alloc_digest seed (ModPtr pointed) = with_number seed (with_number seed empty 3) pointed
+
+-- the digest of a key
+unfoldable pub key_digest : List ℕ → EntryKey → Digest
+key_digest seed (OfRead key) =
+    with_words seed (with_number seed
+    (with_number seed (with_number seed empty (length key.args * 4)) (place_number key.place))
+    (key.unit.0 * 4294967296 + key.var)) key.args
+key_digest seed (OfAlloc key) = alloc_digest seed key
+
+-- the hash of a key
+unfoldable pub hash_of : List ℕ → EntryKey → ℕ
+hash_of seed key = mixed 0 ((key_digest seed key).sum / 2 ^ 64)

@@ -5,7 +5,7 @@ use Rattle.ceal_order.specs.Stamps.{is_in, Distinct}
 use Rattle.ceal_memo.specs.declared.home.Home.{Home}
 use Rattle.ceal_memo.specs.declared.home.Home.TheVariants.{Nowhere, In}
 use Rattle.ceal_memo.specs.Numbers.{list_at, keys_in}
-use Rattle.ceal_memo.specs.Memo.{Entries}
+use Rattle.ceal_memo.specs.Table.{ByHash}
 
 -- stands for no list: there are fewer lists than this
 abbrev pub no_list : ℕ
@@ -24,11 +24,11 @@ abbrev pub HomeChange : ℕ → Home → List ℕ → List ℕ → Type 0
 HomeChange s home old new = (t : ℕ) → home_of new t ≡ (if s == t then home else home_of old t)
 
 -- each stamp of a list has that list for its home
-abbrev pub Houses : Entries → List ℕ → Type 0
+abbrev pub Houses : ByHash → List ℕ → Type 0
 Houses memo homes = (n s : ℕ) → is_in s (list_at memo.lists n) ≡ true → home_of homes s ≡ In n
 
 -- each stamp of a memo stands once, in the list that is its home, and each hash has one list
-pub record IsKept (memo : Entries) (homes : List ℕ) : Type 0 where
+pub record IsKept (memo : ByHash) (homes : List ℕ) : Type 0 where
   pub houses : Houses memo homes
   pub once : (n : ℕ) → Distinct (list_at memo.lists n)
   pub unique : IsDistinct nat_eq (keys_in memo.lists)

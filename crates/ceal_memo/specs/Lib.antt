@@ -1,9 +1,10 @@
 -- what the crate promises
-pub mod Lists
-pub mod Memo
 pub mod Keys
-pub mod Hashes
+pub mod Memo
 -- what its own functions say of each other
+pub mod Hashes
+pub mod Table
+pub mod Lists
 pub mod Homes
 pub mod Numbers
 pub mod Mixing

@@ -1,5 +1,5 @@
 -- Lists of stamps by key.
-use Rattle.std.specs.Prelude.{◌≡◌, ◌<◌, ◌≤◌, ℕ, Bool, true, List, [], ◌∷◌, insert, unwrap_or, if◌then◌else◌}
+use Rattle.std.specs.Prelude.{◌≡◌, ◌<◌, ◌≤◌, ℕ, Bool, true, List, [], insert, unwrap_or}
 use Rattle.std.specs.Map.{lookup}
 use Rattle.ceal_order.specs.Stamps.{is_in, place}
 use Rattle.ceal_order.specs.Rising.{count_before}
@@ -12,12 +12,15 @@ stamps_at eq entries key = unwrap_or (lookup (eq key) entries) []
 abbrev pub with_stamp : List ℕ → ℕ → List ℕ → List ℕ
 with_stamp order s stamps = insert stamps (count_before order s stamps) s
 
--- of these stamps those that pass a test
-abbrev pub those : (ℕ → Bool) → List ℕ → List ℕ
-those test [] = []
-those test (s ∷ ss) = if test s then s ∷ those test ss else those test ss
+-- of these stamps the earliest after one of which something is true
+pub record IsFirstOf (order stamps : List ℕ) (is : ℕ → Type 0) (after s : ℕ) : Type 0 where
+  pub there : is_in s stamps ≡ true
+  pub is_so : is s
+  pub behind : place after order < place s order
+  pub nearest : (t : ℕ) → is_in t stamps ≡ true → is t → place after order < place t order
+      → place s order ≤ place t order
 
--- none of these stands between two stamps
-abbrev pub NoneBetween : List ℕ → List ℕ → ℕ → ℕ → Type 0
-NoneBetween order stamps after until = (s : ℕ)
-    → is_in s stamps ≡ true → place after order < place s order → place until order ≤ place s order
+-- none of these stamps of which something is true stands between two stamps
+abbrev pub NoneOf : List ℕ → List ℕ → (ℕ → Type 0) → ℕ → ℕ → Type 0
+NoneOf order stamps is after until = (t : ℕ) → is_in t stamps ≡ true → is t → place after order < place t order
+    → place until order ≤ place t order

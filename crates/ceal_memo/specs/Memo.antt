@@ -1,35 +1,66 @@
--- The entries of recorded reads and allocations by the hashes of their keys (memo tables: Acar, *Self-Adjusting
--- Computation*, 2005).
-use Rattle.std.specs.Prelude.{◌≡◌, ◌≢◌, ℕ, List, Bool, true, false, nat_eq}
-use Rattle.ceal_order.specs.Stamps.{is_in}
-use Rattle.ceal_order.specs.Rising.{IsRising}
-use Rattle.ceal_memo.specs.Lists.{stamps_at, those}
+-- The entries of recorded reads and allocations by their keys (memo tables: Acar, *Self-Adjusting Computation*, 2005).
+use Rattle.std.specs.Prelude.{◌≡◌, ◌≢◌, ◌<◌, ◌≤◌, ℕ, List, Option, None, Some, Bool, true, false, ◌==◌, if◌then◌else◌}
+use Rattle.ceal_order.specs.Stamps.{is_in, place}
+use Rattle.ceal_memo.specs.Hashes.{hash_of}
+use Rattle.ceal_memo.specs.Keys.{EntryKey}
+use Rattle.ceal_memo.specs.declared.memo.Hashed.{Hashed}
+use Rattle.ceal_memo.specs.Table.{ByHash, entries_of, Follows as Table_follows, HasNone as Table_has_none}
 
--- what a caller sees of a memo: for each hash the stamps of the entries whose keys have it
-pub record Entries : Type 0 where
-  pub lists : List (ℕ × List ℕ)
+-- Entries are told by the key of the one at each stamp.
 
--- the stamps of the entries under a hash
-abbrev pub entries_of : Entries → ℕ → List ℕ
-entries_of memo hash = stamps_at nat_eq memo.lists hash
+-- no entries
+abbrev pub no_entries : ℕ → Option EntryKey
+no_entries s = None
 
--- the stamps of the entries with a key, of which its hash is known, and at which stamps it stands
-abbrev pub entries_with : Entries → ℕ → (ℕ → Bool) → List ℕ
-entries_with memo hash has_key = those has_key (entries_of memo hash)
+-- with a key at a stamp
+abbrev pub with_key : ℕ → EntryKey → (ℕ → Option EntryKey) → ℕ → Option EntryKey
+with_key s key entries t = if s == t then Some key else entries t
 
--- a memo follows an order along which the stamps under each hash rise
-pub record Follows (order : List ℕ) (memo : Entries) : Type 0 where
-  pub rising : (hash : ℕ) → IsRising order (entries_of memo hash)
+-- with none at a stamp
+abbrev pub without_key : ℕ → (ℕ → Option EntryKey) → ℕ → Option EntryKey
+without_key s entries t = if s == t then None else entries t
+
+-- of the entries with a key the earliest after a stamp
+pub record IsFirstWith (order : List ℕ) (entries : ℕ → Option EntryKey) (key : EntryKey) (after s : ℕ) : Type 0 where
+  pub entry : entries s ≡ Some key
+  pub behind : place after order < place s order
+  pub earliest : (t : ℕ) → entries t ≡ Some key → place after order < place t order → place s order ≤ place t order
+
+-- no entry with a key stands between two stamps
+abbrev pub NoneWith : List ℕ → (ℕ → Option EntryKey) → EntryKey → ℕ → ℕ → Type 0
+NoneWith order entries key after until = (t : ℕ) → entries t ≡ Some key → place after order < place t order
+    → place until order ≤ place t order
+
+-- ---- a memo keeps stamps alone; that it has certain entries is a relation of both
+
+-- what a memo is made of
+pub record Contents : Type 0 where
+  pub table : ByHash
+  pub seed : List ℕ
+
+-- whether an entry stands under a hash
+abbrev pub is_under : List ℕ → ℕ → Option EntryKey → Bool
+is_under seed hash None = false
+is_under seed hash (Some key) = hash_of seed key == hash
+
+-- a memo has these entries, and no others
+pub record Holds (memo : Contents) (entries : ℕ → Option EntryKey) : Type 0 where
+  pub stamps : (hash s : ℕ) → is_in s (entries_of memo.table hash) ≡ is_under memo.seed hash (entries s)
+
+-- a key as it is entered into a memo
+pub record IsOf (memo : Contents) (key : EntryKey) (hashed : Hashed) : Type 0 where
+  pub hash : hashed.hash ≡ hash_of memo.seed key
+
+-- a memo follows an order: it has each stamp with an entry, and what is kept stands along it
+pub record Follows (order : List ℕ) (memo : Contents) : Type 0 where
+  pub table : Table_follows order memo.table
 
 -- a stamp has no entry
-pub record HasNone (s : ℕ) (memo : Entries) : Type 0 where
-  pub none : (hash : ℕ) → is_in s (entries_of memo hash) ≡ false
+pub record HasNone (s : ℕ) (memo : Contents) : Type 0 where
+  pub table : Table_has_none s memo.table
 
--- a stamp has one entry at most
-abbrev pub OneEntry : Entries → Type 0
-OneEntry memo = (s a b : ℕ) → is_in s (entries_of memo a) ≡ true → is_in s (entries_of memo b) ≡ true → a ≡ b
-
--- the entries under one hash have these stamps now, and nothing else has changed
-pub record EntriesChange (hash : ℕ) (stamps : List ℕ) (old new : Entries) : Type 0 where
-  pub here : entries_of new hash ≡ stamps
-  pub others : (other : ℕ) → other ≢ hash → entries_of new other ≡ entries_of old other
+-- the new order has the stamps of these entries too, and in the order that they have in the old one
+pub record KeepsEntries (entries : ℕ → Option EntryKey) (old new : List ℕ) : Type 0 where
+  pub there : (s : ℕ) → entries s ≢ None → is_in s new ≡ true
+  pub order : (a b : ℕ) → entries a ≢ None → entries b ≢ None → place a old < place b old
+      → place a new < place b new

@@ -1,22 +1,25 @@
-//! The memo table: the recorded reads and allocations by the hashes of their keys, among which change propagation finds
-//! what it can take again.
+//! The memo table: the recorded reads and allocations by their keys, among which change propagation finds what it can take
+//! again.
 //!
-//! Keys are only in the trace. Contracts see, for each hash, the list of the stamps of its entries, and who looks for a
-//! key tells at which stamps it stands. The order of the stamps belongs to the caller: each call that compares stamps is
-//! handed it, and what is kept follows it.
+//! Keys are only in the trace: who has it tells them (`keys`). The order of the stamps belongs to the caller: each call that
+//! compares stamps is handed it, and what is kept follows it.
 //!
-//! `key` is what a read is found again by, `hashes` has the hashes of keys; `sought` is a key that is looked for, `memo` the
-//! table with its calls; `laws` says along which orders a memo still follows. Inside, `lists` has the stamps of each hash, in
-//! lists that have numbers, `home` the list of each stamp, by which an entry is taken out without an order or a key, `spares`
-//! the lists that have become empty, and `mixer` has hashers.
+//! `key` is what a read is found again by, `keys` tells the keys of entries, `seed` is what hashes begin with, `memo` the table
+//! with its calls; `laws` says along which orders a memo still follows. Inside, `digest` has the hashes of keys, `table` the
+//! entries by their hashes, `sought` is a key that is looked for, `lists` has the stamps of each hash, in lists that have
+//! numbers, `home` the list of each stamp, by which an entry is taken out without a key, `spares` the lists that have become
+//! empty, and `mixer` a hasher for numbers that are hashes already.
 #![tactic(auto)]
 
-pub mod hashes;
+mod digest;
 mod home;
 pub mod key;
+pub mod keys;
 pub mod laws;
 mod lists;
 pub mod memo;
 mod mixer;
-pub mod sought;
+pub mod seed;
+mod sought;
 mod spares;
+mod table;

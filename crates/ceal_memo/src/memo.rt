@@ -1,77 +1,121 @@
 // The memo table.
 
-ghost use Rattle.std.specs.Prelude.{◌≡◌, ◌≢◌, ◌<◌, ℕ, List, [], true, IfSome, IfNone, IfOk, OnOk, OnErr, IsTrue};
-ghost use Rattle.ceal_order.specs.Stamps.{is_in, place, without};
-ghost use Rattle.ceal_order.specs.Rising.{IsRising, IsFirstAfter};
-ghost use Rattle.ceal_memo.specs.declared.home.Home.TheVariants.{In};
-ghost use Rattle.ceal_memo.specs.Lists.{with_stamp, NoneBetween};
-ghost use Rattle.ceal_memo.specs.Numbers.{list_at, IsWithout};
-ghost use Rattle.ceal_memo.specs.Memo.{entries_of, entries_with, Follows, HasNone, OneEntry, EntriesChange};
+ghost use Rattle.std.specs.Prelude.{◌≡◌, ◌≢◌, ◌<◌, ℕ, List, Option, IfSome, IfNone, IfOk, OnOk, OnErr, IsTrue};
+ghost use Rattle.ceal_order.specs.Stamps.{is_in, place};
+ghost use Rattle.ceal_memo.specs.Keys.{EntryKey, OfRead, OfAlloc};
+ghost use Rattle.ceal_memo.specs.Memo.{no_entries, with_key, without_key, IsFirstWith, NoneWith, Holds, IsOf, Follows, HasNone};
 
-use crate::home::{Home, Homes};
-use crate::lists::Lists;
-use crate::sought::{Sought, first_with_key};
+use crate::digest::{hash_of_alloc, hash_of_read};
+use crate::key::ReadKey;
+use crate::keys::{Keys, SoughtAlloc, SoughtRead};
+use crate::seed::Seed;
+use crate::table::Table;
+use ceal_base::forest::Key;
 use ceal_base::no_memory::NoMemory;
 use ceal_order::order::Order;
 use ceal_order::stamp::Stamp;
 use std::alloc::Global;
 use std::marker::Model;
 
-/// Entries of recorded reads and of allocations. Contracts see, for the hash of each key, the list of the stamps of the
-/// entries under it. Each call that is handed an order needs that the memo follows it, and leaves it so.
+/// Entries of recorded reads and of allocations by their keys: a stamp has one at most. The keys themselves are only with
+/// who tells them (`Keys`). Each call that is handed an order needs that the memo follows it, and leaves it so.
 #[derive(Drop)]
 pub struct Memo {
-    lists: Lists<u64>,
-    homes: Homes,
+    table: Table,
+    seed: Seed,
+}
+
+/// A key as a memo enters it, worked out once.
+#[derive(Clone, Copy)]
+pub struct Hashed {
+    hash: u64,
 }
 
 impl Model for Memo {
-    ghost use Rattle.ceal_memo.specs.Memo.{Entries};
-    ghost use Rattle.ceal_memo.specs.Homes.{IsKept};
+    ghost use Rattle.ceal_memo.specs.Memo.{Contents};
 
-    ghost Value = { Entries };
+    ghost Value = { Contents };
 
-    ghost view = { λ m. record { lists = m.lists } };
-
-    ghost invariant = { λ m. IsKept (record { lists = m.lists }) m.homes };
+    ghost view = { λ m. record { table = m.table; seed = m.seed.words } };
 }
 
 impl Memo {
-    /// A memo without entries.
-    pub fn new(alloc: Global) -> Result<Memo, NoMemory>
-        ensures stamps { IfOk result (λ memo. (hash : ℕ) → entries_of memo hash ≡ []) }
-        ensures none { IfOk result (λ memo. (s : ℕ) → HasNone s memo) }
+    /// A memo without entries. Any seed is right; which keys meet is told by the seed alone.
+    pub fn seeded(alloc: Global, seed: Seed) -> Result<Memo, NoMemory>
+        ensures holds { IfOk result (λ memo. Holds memo no_entries) }
         ensures follows { IfOk result (λ memo. (order : List ℕ) → Follows order memo) }
     {
         Ok(Memo {
-            lists: Lists::new(alloc),
-            homes: Homes::new(alloc),
+            table: Table::new(alloc),
+            seed,
         })
     }
 
-    /// A law: each stamp has one entry at most.
-    pub fn one_entry(&self)
-        ensures law { OneEntry self.now }
+    /// A read's key, as it is entered.
+    pub fn of_read(&self, key: &ReadKey<'_>) -> Hashed
+        ensures { IsOf self.now (OfRead key.now) result }
     {
-        // for the proof: the invariant, which speaks of this field
-        let _homes = &self.homes;
+        Hashed {
+            hash: hash_of_read(self.seed.words(), key),
+        }
     }
 
-    /// Enters a read or an allocation under the hash of its key, at a stamp that has no entry.
-    pub fn add(&mut self, order: &Order, hash: u64, stamp: Stamp) -> Result<(), NoMemory>
+    /// An allocation's key, as it is entered.
+    pub fn of_alloc(&self, key: &Key) -> Hashed
+        ensures { IsOf self.now (OfAlloc key.now) result }
+    {
+        Hashed {
+            hash: hash_of_alloc(self.seed.words(), key),
+        }
+    }
+
+    /// Enters a key at a stamp that has no entry.
+    pub fn add(&mut self, order: &Order, hashed: Hashed, stamp: Stamp) -> Result<(), NoMemory>
         requires here { IsTrue (is_in stamp.0 order.now.stamps) }
         requires follows { Follows order.now.stamps self.old }
         requires absent { HasNone stamp.0 self.old }
-        ensures ok { OnOk result
-            (EntriesChange hash
-            (with_stamp order.now.stamps stamp.0 (entries_of self.old hash)) self.old self.new) }
+        ensures ok { OnOk result ((key : EntryKey) (entries : ℕ → Option EntryKey)
+            → IsOf self.old key hashed → Holds self.old entries
+            → Holds self.new (with_key stamp.0 key entries)) }
         ensures err { OnErr result (self.new ≡ self.old) }
-        ensures others { (s : ℕ) → s ≢ stamp.0 → HasNone s self.old → HasNone s self.new }
         ensures follows { Follows order.now.stamps self.new }
     {
-        self.homes.make_room(stamp)?;
-        let number = self.lists.put(order, hash, stamp)?;
-        self.homes.settle(stamp, number);
+        self.table.add(order, hashed.hash, stamp)?;
+        Ok(())
+    }
+
+    /// Enters a read at a stamp that has no entry.
+    pub fn add_read(
+        &mut self,
+        order: &Order,
+        key: &ReadKey<'_>,
+        stamp: Stamp,
+    ) -> Result<(), NoMemory>
+        requires here { IsTrue (is_in stamp.0 order.now.stamps) }
+        requires follows { Follows order.now.stamps self.old }
+        requires absent { HasNone stamp.0 self.old }
+        ensures ok { OnOk result ((entries : ℕ → Option EntryKey) → Holds self.old entries
+            → Holds self.new (with_key stamp.0 (OfRead key.now) entries)) }
+        ensures err { OnErr result (self.new ≡ self.old) }
+        ensures follows { Follows order.now.stamps self.new }
+    {
+        let hashed = self.of_read(key);
+        self.add(order, hashed, stamp)?;
+        Ok(())
+    }
+
+    /// Enters an allocation at a stamp that has no entry.
+    pub fn add_alloc(&mut self, order: &Order, key: &Key, stamp: Stamp) -> Result<(), NoMemory>
+        requires here { IsTrue (is_in stamp.0 order.now.stamps) }
+        requires follows { Follows order.now.stamps self.old }
+        requires absent { HasNone stamp.0 self.old }
+        ensures ok { OnOk result ((entries : ℕ → Option EntryKey) → Holds self.old entries
+            → Holds self.new (with_key stamp.0 (OfAlloc key.now) entries)) }
+        ensures err { OnErr result (self.new ≡ self.old) }
+        ensures follows { Follows order.now.stamps self.new }
+    {
+        let hashed = self.of_alloc(key);
+        self.add(order, hashed, stamp)?;
         Ok(())
     }
 
@@ -79,52 +123,64 @@ impl Memo {
     pub fn remove(&mut self, order: &Order, stamp: Stamp)
         requires here { IsTrue (is_in stamp.0 order.now.stamps) }
         requires follows { Follows order.now.stamps self.old }
-        ensures stamps { (hash : ℕ)
-            → entries_of self.new hash ≡ without stamp.0 (entries_of self.old hash) }
+        ensures holds { (entries : ℕ → Option EntryKey) → Holds self.old entries
+            → Holds self.new (without_key stamp.0 entries) }
         ensures gone { HasNone stamp.0 self.new }
         ensures absent { HasNone stamp.0 self.old → self.new ≡ self.old }
-        ensures others { (s : ℕ) → HasNone s self.old → HasNone s self.new }
         ensures follows { (order : List ℕ) → Follows order self.old → Follows order self.new }
     {
-        let home = self.homes.take(stamp);
-        forget(&mut self.lists, order, home, stamp);
+        self.table.remove(order, stamp);
     }
 
-    /// The earliest entry with a key after one stamp and before another.
-    pub fn first_between<S: Sought>(
+    /// The earliest read with a key after one stamp and before another.
+    pub fn first_read<K: Keys>(
         &self,
         order: &Order,
-        sought: &S,
+        keys: &K,
+        key: &ReadKey<'_>,
         after: Stamp,
         until: Stamp,
     ) -> Option<Stamp>
         requires after { IsTrue (is_in after.0 order.now.stamps) }
         requires until { IsTrue (is_in until.0 order.now.stamps) }
         requires follows { Follows order.now.stamps self.now }
-        requires known { (s : ℕ) → is_in s (entries_of self.now (S.hash sought.now)) ≡ true
-            → IsTrue (S.knows sought.now s) }
-        ensures first { IfSome result (λ s. IsFirstAfter order.now.stamps
-            (entries_with self.now (S.hash sought.now) (S.has_key sought.now)) after.0 s.0) }
+        requires keys { Holds self.now (K.entries keys.now) }
+        ensures first { IfSome result (λ s. IsFirstWith
+            order.now.stamps (K.entries keys.now) (OfRead key.now) after.0 s.0) }
         ensures before { IfSome result
             (λ s. place s.0 order.now.stamps < place until.0 order.now.stamps) }
         ensures here { IfSome result (λ s. IsTrue (is_in s.0 order.now.stamps)) }
-        ensures none { IfNone result (NoneBetween order.now.stamps
-            (entries_with self.now (S.hash sought.now) (S.has_key sought.now)) after.0 until.0) }
+        ensures none { IfNone result (NoneWith
+            order.now.stamps (K.entries keys.now) (OfRead key.now) after.0 until.0) }
     {
-        let list = self.lists.get(&sought.hash())?;
-        first_with_key(list, order, sought, after, until)
+        let hash = hash_of_read(self.seed.words(), key);
+        let sought = SoughtRead { keys, key };
+        self.table.first_between(order, hash, &sought, after, until)
     }
-}
 
-// Takes a stamp out of the list that is its home.
-fn forget(lists: &mut Lists<u64>, order: &Order, home: Home, stamp: Stamp)
-    requires here { IsTrue (is_in stamp.0 order.now.stamps) }
-    requires home { (n : ℕ) → is_in stamp.0 (list_at lists.old n) ≡ true → home ≡ In n }
-    requires rising { (n : ℕ) → IsRising order.now.stamps (list_at lists.old n) }
-    ensures { IsWithout stamp.0 lists.old lists.new }
-{
-    match home {
-        Home::Nowhere => (),
-        Home::In(number) => lists.take(order, number, stamp),
+    /// The earliest allocation with a key after one stamp and before another.
+    pub fn first_alloc<K: Keys>(
+        &self,
+        order: &Order,
+        keys: &K,
+        key: &Key,
+        after: Stamp,
+        until: Stamp,
+    ) -> Option<Stamp>
+        requires after { IsTrue (is_in after.0 order.now.stamps) }
+        requires until { IsTrue (is_in until.0 order.now.stamps) }
+        requires follows { Follows order.now.stamps self.now }
+        requires keys { Holds self.now (K.entries keys.now) }
+        ensures first { IfSome result (λ s. IsFirstWith
+            order.now.stamps (K.entries keys.now) (OfAlloc key.now) after.0 s.0) }
+        ensures before { IfSome result
+            (λ s. place s.0 order.now.stamps < place until.0 order.now.stamps) }
+        ensures here { IfSome result (λ s. IsTrue (is_in s.0 order.now.stamps)) }
+        ensures none { IfNone result (NoneWith
+            order.now.stamps (K.entries keys.now) (OfAlloc key.now) after.0 until.0) }
+    {
+        let hash = hash_of_alloc(self.seed.words(), key);
+        let sought = SoughtAlloc { keys, key };
+        self.table.first_between(order, hash, &sought, after, until)
     }
 }

@@ -1,32 +1,9 @@
-// How keys are hashed, and their hashes.
+// The hashes of numbers that are hashes already.
 
 ghost use Rattle.std.specs.Prelude.{◌≡◌};
-ghost use Rattle.ceal_base.specs.Hashing.{mixed};
 ghost use Rattle.ceal_memo.specs.Mixing.{number_of, one_by_one};
 
-use ceal_base::hashing::mixed;
 use std::hash::Hasher;
-
-/// A hasher for keys that are fed as a few numbers: each write costs two products, where std's hasher for any bytes spends
-/// a hundred instructions. Its seed is fixed, as that one's is.
-#[derive(Clone, Copy)]
-pub struct Mixer {
-    pub state: u64,
-}
-
-impl Hasher for Mixer {
-    ghost write = { λ m bytes. record { state = mixed m.state (number_of bytes) } };
-
-    ghost finish = { λ m. m.state };
-
-    fn finish(&self) -> u64 {
-        self.state
-    }
-
-    fn write(&mut self, bytes: &[u8]) {
-        self.state = mixed(self.state, number_of(bytes));
-    }
-}
 
 /// A hasher for numbers that are hashes already: it answers the number that it was fed last.
 #[derive(Clone, Copy)]

@@ -10,10 +10,12 @@ use Rattle.ceal_mods.specs.Writes.{stamps_of}
 use Rattle.ceal_mods.specs.Cell.{untouched, Rises}
 use Rattle.ceal_mods.specs.declared.cell.Cell.{Cell}
 
--- what a caller sees: the cells of the places that were touched, and how often a value was looked up
+-- what a caller sees: the cells of the places that were touched, how often a value was looked up, and how often it differed
+-- from what had been recorded of it
 pub record Contents : Type 0 where
   pub cells : List (Place × Cell)
   pub looked : ℕ
+  pub differed : ℕ
 
 -- the cell of a place
 abbrev pub cell_of : Contents → Place → Cell
@@ -32,6 +34,7 @@ pub record Changes (old new : Contents) (p : Place) (cell : Cell) : Type 0 where
   pub here : cell_of new p ≡ cell
   pub others : (q : Place) → q ≢ p → cell_of new q ≡ cell_of old q
   pub looked : new.looked ≡ old.looked
+  pub differed : new.differed ≡ old.differed
 
 -- modifiables follow an order along which the writes and the reads of each place rise
 abbrev pub Follows : List ℕ → Contents → Type 0

@@ -34,6 +34,7 @@ pub struct Mods {
     cells: Vec<(Place, Cell)>,
     index: Index,
     looked: u64,
+    differed: u64,
     alloc: Global,
 }
 
@@ -44,7 +45,7 @@ impl Model for Mods {
 
     ghost use Rattle.ceal_mods.specs.Index.{Indexes};
 
-    ghost view = { λ m. record { cells = m.cells.items; looked = m.looked } };
+    ghost view = { λ m. record { cells = m.cells.items; looked = m.looked; differed = m.differed } };
 
     ghost invariant = { λ m. Indexes m.index m.cells.items };
 }
@@ -60,6 +61,7 @@ impl Mods {
             cells: Vec::new(alloc),
             index: Index::new(alloc),
             looked: 0,
+            differed: 0,
             alloc,
         })
     }
@@ -190,6 +192,7 @@ impl Mods {
         requires follows { Follows order.now.stamps self.old }
         ensures value { result ≡ value_before order.now.stamps stamp.0 (cell_of self.old place) }
         ensures looked { self.new.looked ≡ min (self.old.looked + 1) (2 ^ 64 - 1) }
+        ensures differed { self.new.differed ≡ self.old.differed }
         ensures cells { self.new.cells ≡ self.old.cells }
         ensures follows { Follows order.now.stamps self.new }
     {
@@ -205,6 +208,22 @@ impl Mods {
         ensures { result ≡ self.now.looked }
     {
         self.looked
+    }
+
+    /// Counts that a value which was looked up differed from what had been recorded of it.
+    pub fn count_differed(&mut self)
+        ensures differed { self.new.differed ≡ min (self.old.differed + 1) (2 ^ 64 - 1) }
+        ensures looked { self.new.looked ≡ self.old.looked }
+        ensures cells { self.new.cells ≡ self.old.cells }
+    {
+        self.differed = self.differed.saturating_add(1);
+    }
+
+    /// How often a value that was looked up differed from what had been recorded of it, at most 2^64 - 1.
+    pub fn differed(&self) -> u64
+        ensures { result ≡ self.now.differed }
+    {
+        self.differed
     }
 
     /// What a place holds at the end.

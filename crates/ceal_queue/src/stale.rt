@@ -1,6 +1,6 @@
 // The queue of stale reads.
 
-ghost use Rattle.std.specs.Prelude.{◌≡◌, ◌↔◌, ◌+◌, ◌<◌, ℕ, List, [], true, false, max, IfSome, IfNone, IfOk, OnOk, OnErr, IsTrue};
+ghost use Rattle.std.specs.Prelude.{◌≡◌, ◌↔◌, ◌+◌, ◌<◌, ℕ, List, [], true, false, max, length, IfSome, IfNone, IfOk, OnOk, OnErr, IsTrue};
 ghost use Rattle.std.specs.Option.{ForSome};
 ghost use Rattle.ceal_order.specs.Stamps.{is_in};
 ghost use Rattle.ceal_queue.specs.Queue.{Follows, IsWith, IsWithout, IsBefore, IsEarliest};
@@ -76,6 +76,8 @@ impl Stale {
         requires follows { Follows order.now.stamps self.old }
         requires room { is_in stamp.0 self.old.stamps ≡ false → 0 < self.old.spare }
         ensures with { IsWith stamp.0 self.old.stamps self.new.stamps }
+        ensures more { is_in stamp.0 self.old.stamps ≡ false
+            → length self.new.stamps ≡ length self.old.stamps + 1 }
         ensures known { is_in stamp.0 self.old.stamps ≡ true → self.new ≡ self.old }
         ensures spare { is_in stamp.0 self.old.stamps ≡ false
             → self.new.spare + 1 ≡ self.old.spare }
@@ -110,6 +112,8 @@ impl Stale {
         ensures before { IfSome result (λ s. IsBefore order.now.stamps limit s.0) }
         ensures here { IfSome result (λ s. IsTrue (is_in s.0 order.now.stamps)) }
         ensures without { IfSome result (λ s. IsWithout s.0 self.old.stamps self.new.stamps) }
+        ensures fewer { IfSome result (λ s.
+            length self.new.stamps + 1 ≡ length self.old.stamps) }
         ensures spare { IfSome result (λ s. self.new.spare ≡ self.old.spare + 1) }
         ensures none { IfNone result
             ((s : ℕ) → is_in s self.old.stamps ≡ true → ¬ IsBefore order.now.stamps limit s) }
@@ -137,6 +141,8 @@ impl Stale {
         requires here { IsTrue (is_in stamp.0 order.now.stamps) }
         requires follows { Follows order.now.stamps self.old }
         ensures without { IsWithout stamp.0 self.old.stamps self.new.stamps }
+        ensures fewer { is_in stamp.0 self.old.stamps ≡ true
+            → length self.new.stamps + 1 ≡ length self.old.stamps }
         ensures spare { is_in stamp.0 self.old.stamps ≡ true → self.new.spare ≡ self.old.spare + 1 }
         ensures absent { is_in stamp.0 self.old.stamps ≡ false → self.new ≡ self.old }
         ensures follows { Follows order.now.stamps self.new }

@@ -4,3 +4,4 @@ pub mod ListChanges
 pub mod PartedLists
 -- what only this crate cites
 pub mod ListsOfNodes
+pub mod KeyedNodes

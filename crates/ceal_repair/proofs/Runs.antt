@@ -13,3 +13,4 @@ pub mod BlockBases
 pub mod InputPlaces
 pub mod NextAct
 pub mod RepeatedTurns
+pub mod Paid

@@ -1,16 +1,17 @@
 -- The nodes of a run that reads a and writes one more to b, in the tables, and what has to be queued after an edit of a.
-use Rattle.std.proofs.Common.{◌≡◌, ℕ, pos, true, false, List, [], ◌∷◌, refl, inr, inl}
+use Rattle.std.proofs.Common.{None, Some, ◌≡◌, ℕ, pos, true, false, List, [], ◌∷◌, refl, inr, inl}
 use Rattle.ceal_base.specs.declared.forest.Item.TheVariants as item
 use Rattle.ceal_base.specs.declared.kind.Shape.TheVariants.{ModInt}
 use Rattle.ceal_base.specs.declared.word.BlockId.TheVariants.{Input}
 use Rattle.ceal_base.specs.declared.word.Place.{Place}
 use Rattle.ceal_base.specs.declared.word.Word.TheVariants.{Num, At}
 use Rattle.ceal_code.specs.Replay.{Store, stored}
-use Rattle.ceal_memo.specs.declared.key.ReadKey.{ReadKey}
+use Rattle.ceal_memo.specs.Keys.{ReadKey, OfRead}
 use Rattle.ceal_repair.specs.AsItems.{nodes_of}
+use Rattle.ceal_repair.specs.Chain.{Chained}
 use Rattle.ceal_repair.specs.Covered.{contents_after, queue_of, with_seen, Covers}
 use Rattle.ceal_repair.specs.Entries.{entry, closing, entries}
-use Rattle.ceal_repair.specs.Lists.{writes_in, stamps_where, reads_at, recalls_at, before, between}
+use Rattle.ceal_repair.specs.Lists.{writes_in, stamps_where, reads_at, entries_in, before, between}
 use Rattle.ceal_repair.specs.Words.{base_of}
 use Rattle.ceal_theory.specs.Cover as cover
 use Rattle.ceal_theory.specs.Groves.{Bare, Put, Got}
@@ -40,11 +41,11 @@ reads_of_b = refl
 abbrev key : Place → ReadKey
 key p = record { place = p; unit = record { 0 = 1 }; var = 2; args = At b ∷ [] }
 
-recalled : recalls_at (key a) 7 increment ≡ true
+recalled : entries_in increment 7 ≡ Some (OfRead (key a))
 recalled = refl
 
-of_another_place : recalls_at (key b) 7 increment ≡ false
-of_another_place = refl
+of_another_key : entries_in increment 3 ≡ None
+of_another_key = refl
 
 inside_the_read : between 7 5 increment ≡ entry 3 (Write b (Num (pos 5))) 0 ∷ []
 inside_the_read = refl
@@ -72,6 +73,19 @@ queued = (tt, (inr refl, (tt, (tt, tt))))
 not_without_it : Covers (queue_of []) (holding 9) (λ p. false) increment → ⊥
 unfolding queue_of
 not_without_it covers = elim covers.1.0 [ inl same ↦ absurd (cc) | inr seen ↦ absurd (cc) ]
+
+-- nor does the read record then what was recorded last
+in_the_chain : Chained (queue_of []) (holding 4) increment
+in_the_chain = (tt, (inl refl, (tt, (tt, tt))))
+
+not_in_the_chain : Chained (queue_of []) (holding 9) increment → ⊥
+unfolding queue_of
+not_in_the_chain chained = elim chained.1.0 [ inl same ↦ absurd (cc) | inr queued ↦ absurd (cc) ]
+
+-- two reads that record the same, of which only the first one is queued
+twice : Chained (queue_of (7 ∷ [])) (holding 9) (entry 7 (Read a (Num (pos 4)) (record { 0 = 1 }) 2 []) 0 ∷ entry 8 (Read a (Num (pos 4)) (record { 0 = 1 }) 2 []) 0 ∷ [])
+unfolding queue_of stored
+twice = (inr refl, (inl refl, tt))
 
 -- the nodes after the root as a grove, and as the theory has them
 of_a_grove : entry 0 Root 1 ∷ entries (Got 7 a (Num (pos 4)) (record { 0 = 1 }) 2 (At b ∷ []) 1 (Put 3 b (Num (pos 5)) 0 Bare) 5 0 Bare) ≡ increment

@@ -1,4 +1,4 @@
--- Each call of the tables keeps them in step and the stale reads covered.
+-- Each call of the tables keeps them in step and the reads chained.
 -- what only this crate cites
 pub mod PutKeepsTables
 pub mod CutKeepsTables
@@ -6,3 +6,4 @@ pub mod CallsKeepCover
 pub mod BaseEdit
 pub mod LookUp
 pub mod ContentAfter
+pub mod FewLooks

@@ -10,6 +10,7 @@ use Rattle.ceal_mods.specs.Mods.{Contents, cell_of, Follows as Mods_follow}
 use Rattle.ceal_mods.specs.declared.cell.Cell.{Cell}
 use Rattle.ceal_order.specs.Stamps.{is_in, place}
 use Rattle.ceal_queue.specs.Queue.{Follows as Queue_follows}
+use Rattle.ceal_repair.specs.Chain.{Chained}
 use Rattle.ceal_repair.specs.Covered.{Queue, queue_of, Covers, contents_after}
 use Rattle.ceal_repair.specs.Lists.{IsTabled, IsKeyed, before}
 use Rattle.ceal_repair.specs.declared.tables.Tables.{Tables}
@@ -40,14 +41,18 @@ pub record InStep (t : Tables) : Type 0 where
   pub memo : Memo_follows (stamps_in t.trace.nodes) t.memo
   pub stale : Queue_follows (stamps_in t.trace.nodes) t.stale
 
+-- each read that is not in this queue records what was recorded last of its place: its base, the last write or read
+abbrev pub ChainedBy : Queue → Tables → Type 0
+ChainedBy q t = Chained q (base_in t.mods) t.trace.nodes
+
 -- each read that has not the content of its moment is covered by this queue
 abbrev pub CoveredBy : Queue → Tables → Type 0
 CoveredBy q t = Covers q (base_in t.mods) (λ p. false) t.trace.nodes
 
--- the tables are in step, and the queue covers each read that has not the content of its moment
+-- the tables are in step, and each read that is not queued records what was recorded last of its place
 pub record Kept (t : Tables) : Type 0 where
   pub step : InStep t
-  pub covered : CoveredBy (queue_of t.stale.stamps) t
+  pub chained : ChainedBy (queue_of t.stale.stamps) t
 
 -- what is queued stands after a node
 abbrev pub QueuedBehind : ℕ → Tables → Type 0

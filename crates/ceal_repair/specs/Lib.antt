@@ -1,7 +1,9 @@
 -- what the crate promises
 pub mod Lists
 pub mod Covered
+pub mod Chain
 pub mod Kept
+pub mod Looks
 pub mod Woken
 pub mod AsItems
 pub mod Words

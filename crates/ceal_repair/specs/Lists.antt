@@ -3,9 +3,8 @@ use Rattle.std.specs.Prelude.{◌≡◌, ℕ, List, [], ◌∷◌, ◌==◌, Boo
 use Rattle.ceal_base.specs.Operators.{same_place}
 use Rattle.ceal_base.specs.declared.forest.Key.{Key}
 use Rattle.ceal_base.specs.declared.word.Place.{Place}
-use Rattle.ceal_memo.specs.Hashes.{read_hash, alloc_hash}
-use Rattle.ceal_memo.specs.Memo.{Entries, entries_of}
-use Rattle.ceal_memo.specs.Keys.{ReadKey}
+use Rattle.ceal_memo.specs.Keys.{EntryKey, OfRead, OfAlloc, ReadKey}
+use Rattle.ceal_memo.specs.Memo.{Contents as Entered, Holds}
 use Rattle.ceal_mods.specs.Mods.{Contents, cell_of}
 use Rattle.ceal_mods.specs.Writes.{Write as WriteOf}
 use Rattle.ceal_theory.specs.Levels.{same_read}
@@ -13,11 +12,6 @@ use Rattle.ceal_theory.specs.Take.{same_key}
 use Rattle.ceal_trace.specs.Nodes.{Entry, node_at}
 use Rattle.ceal_trace.specs.declared.node.Node.{Node}
 use Rattle.ceal_trace.specs.declared.node.Node.TheVariants.{Alloc, Write, Read}
-
--- whether there is a node of which something is true
-abbrev pub is_so : (Node → Bool) → Option Node → Bool
-is_so holds None = false
-is_so holds (Some node) = holds node
 
 -- whether a node is a read of a place
 abbrev pub reads_at : Place → Node → Bool
@@ -29,25 +23,21 @@ abbrev pub allocates : Key → Node → Bool
 allocates key (Alloc block k) = same_key k key
 allocates key _ = false
 
--- whether a node is found by a key with a hash
-abbrev pub is_hashed : ℕ → Node → Bool
-is_hashed hash (Alloc block key) = alloc_hash key == hash
-is_hashed hash (Read p value unit var args) =
-    read_hash (record { place = p; unit = unit; var = var; args = args }) == hash
-is_hashed hash _ = false
-
 -- whether a node is a read with a key: of its place, with its closure
 abbrev pub recalls : ReadKey → Node → Bool
 recalls key (Read q value unit var args) = same_read q unit var args key.place key.unit key.var key.args
 recalls key _ = false
 
--- whether there is an allocation with a key at a stamp
-abbrev pub allocates_at : Key → ℕ → List Entry → Bool
-allocates_at key s nodes = is_so (allocates key) (node_at s nodes)
+-- the key of an entry that a node has
+abbrev pub key_of : Option Node → Option EntryKey
+key_of (Some (Alloc block key)) = Some (OfAlloc key)
+key_of (Some (Read p value unit var args)) =
+    Some (OfRead (record { place = p; unit = unit; var = var; args = args }))
+key_of _ = None
 
--- whether there is a read with a key at a stamp
-abbrev pub recalls_at : ReadKey → ℕ → List Entry → Bool
-recalls_at key s nodes = is_so (recalls key) (node_at s nodes)
+-- the entries of a memo of nodes: the reads and the allocations, with their keys
+abbrev pub entries_in : List Entry → ℕ → Option EntryKey
+entries_in nodes s = key_of (node_at s nodes)
 
 -- the stamps of the nodes of which something is true, in the order of time
 abbrev pub stamps_where : (Node → Bool) → List Entry → List ℕ
@@ -69,9 +59,9 @@ pub record IsTabled (nodes : List Entry) (mods : Contents) : Type 0 where
   pub writes : (p : Place) → (cell_of mods p).writes ≡ writes_in p nodes
   pub reads : (p : Place) → (cell_of mods p).reads ≡ stamps_where (reads_at p) nodes
 
--- the memo has the allocations and the reads of the nodes, under the hashes of their keys
-pub record IsKeyed (nodes : List Entry) (memo : Entries) : Type 0 where
-  pub stamps : (hash : ℕ) → entries_of memo hash ≡ stamps_where (is_hashed hash) nodes
+-- the memo has the allocations and the reads of the nodes, by their keys
+pub record IsKeyed (nodes : List Entry) (memo : Entered) : Type 0 where
+  pub entries : Holds memo (entries_in nodes)
 
 -- the nodes before one
 abbrev pub before : ℕ → List Entry → List Entry

@@ -11,6 +11,7 @@ ghost use Rattle.ceal_order.specs.Stamps.{is_in};
 ghost use Rattle.ceal_code.specs.Replay.{content_in};
 ghost use Rattle.ceal_repair.specs.Words.{base_of, cleared};
 ghost use Rattle.ceal_repair.specs.Kept.{Kept, base_in};
+ghost use Rattle.ceal_repair.specs.Looks.{NoneDiffers};
 
 use crate::tables::Tables;
 use ceal_base::kind::{FieldKind, Shape};
@@ -43,6 +44,8 @@ pub fn set_bases(
     requires kept { Kept tables.old }
     ensures trace { tables.new.trace ≡ tables.old.trace }
     ensures memo { tables.new.memo ≡ tables.old.memo }
+    ensures looked { tables.new.mods.looked ≡ tables.old.mods.looked }
+    ensures differed { NoneDiffers tables.old tables.new }
     ensures here { OnOk result ((p : PlaceOf) → same_block p.block id ≡ true
         → base_in tables.new.mods p
         ≡ base_of structs.now shape words.now p.field (base_in tables.old.mods p)) }
@@ -78,6 +81,8 @@ fn clear_bases(
     requires kept { Kept tables.old }
     ensures trace { tables.new.trace ≡ tables.old.trace }
     ensures memo { tables.new.memo ≡ tables.old.memo }
+    ensures looked { tables.new.mods.looked ≡ tables.old.mods.looked }
+    ensures differed { NoneDiffers tables.old tables.new }
     ensures here { OnOk result ((p : PlaceOf) → same_block p.block id ≡ true
         → base_in tables.new.mods p
         ≡ cleared structs.now (Some before) p.field (base_in tables.old.mods p)) }
@@ -113,6 +118,8 @@ fn clear_others(
     requires kept { Kept tables.old }
     ensures trace { tables.new.trace ≡ tables.old.trace }
     ensures memo { tables.new.memo ≡ tables.old.memo }
+    ensures looked { tables.new.mods.looked ≡ tables.old.mods.looked }
+    ensures differed { NoneDiffers tables.old tables.new }
     ensures here { OnOk result ((p : PlaceOf) → same_block p.block id ≡ true
         → base_of structs.now shape [] p.field (base_in tables.new.mods p)
         ≡ base_of structs.now shape [] p.field
@@ -144,6 +151,8 @@ pub fn renew_bases(
     requires kept { Kept tables.old }
     ensures trace { tables.new.trace ≡ tables.old.trace }
     ensures memo { tables.new.memo ≡ tables.old.memo }
+    ensures looked { tables.new.mods.looked ≡ tables.old.mods.looked }
+    ensures differed { NoneDiffers tables.old tables.new }
     ensures here { OnOk result ((p : PlaceOf) → same_block p.block id ≡ true
         → base_in tables.new.mods p ≡ base_of structs.now shape [] p.field
         (cleared structs.now before p.field (base_in tables.old.mods p))) }

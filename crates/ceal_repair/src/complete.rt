@@ -2,7 +2,8 @@
 
 ghost use Rattle.std.specs.Prelude.{IfOk, OnOk};
 ghost use Rattle.ceal_repair.specs.Moment.{Start};
-ghost use Rattle.ceal_repair.specs.Repairs.{Runs, Completed, SameCall};
+ghost use Rattle.ceal_repair.specs.Looks.{Pays};
+ghost use Rattle.ceal_repair.specs.Repairs.{Runs, Completed, SameCall, running_of};
 
 use crate::repair::Repair;
 use ceal_base::no_memory::NoMemory;
@@ -12,6 +13,7 @@ use ceal_base::no_memory::NoMemory;
 pub fn complete(repair: &mut Repair<'_>, fuel: u32) -> Result<bool, NoMemory>
     requires runs { (start : Start) × Runs start repair.old }
     ensures call { OnOk result (SameCall repair.old repair.new) }
+    ensures pays { OnOk result (Pays (running_of repair.old) (running_of repair.new)) }
     ensures done { IfOk result
         (λ done. (start : Start) → Runs start repair.old → Completed done fuel start repair.new) }
 {

@@ -1,6 +1,6 @@
 // Nodes that are left over are revoked.
 
-ghost use Rattle.std.specs.Prelude.{◌≡◌, ◌≢◌, ℕ, List, [], Some, true, false, OnOk, IsSome, IfSome, IfNone};
+ghost use Rattle.std.specs.Prelude.{◌≡◌, ◌≢◌, ◌≤◌, ℕ, List, [], Some, true, false, OnOk, IsSome, IfSome, IfNone};
 ghost use Rattle.ceal_base.specs.Block.{Block};
 ghost use Rattle.ceal_base.specs.declared.word.BlockId.{BlockId as Id};
 ghost use Rattle.ceal_base.specs.declared.word.Place.{Place as PlaceOf};
@@ -10,6 +10,7 @@ ghost use Rattle.ceal_order.specs.Stamps.{is_in, successor};
 ghost use Rattle.ceal_repair.specs.Blocks.{HasBlocks};
 ghost use Rattle.ceal_repair.specs.Entries.{CutTo, IsNoneOr, IsUntil, Lies, Revokes, starts, first_in, first_stamp};
 ghost use Rattle.ceal_repair.specs.Kept.{Kept, base_in};
+ghost use Rattle.ceal_repair.specs.Looks.{due, NoneDiffers};
 ghost use Rattle.ceal_theory.specs.Groves.{Grove, Bare, cut};
 ghost use Rattle.ceal_trace.specs.Nodes.{Entry, stamps_in, has_node, node_at, is_plain};
 ghost use Rattle.ceal_trace.specs.declared.node.Node.{Node as NodeOf};
@@ -62,6 +63,8 @@ impl Running {
             → HasBlocks code inputs self.old.heap self.old.tables
             → HasBlocks code inputs self.new.heap self.new.tables) }
         ensures spent { self.new.spent ≡ self.old.spent }
+        ensures looks { OnOk result (due self.new.tables ≤ due self.old.tables) }
+        ensures differed { OnOk result (NoneDiffers self.old.tables self.new.tables) }
         ensures kept { OnOk result (Kept self.new.tables) }
     {
         match cut_of(&self.tables.trace, node) {
@@ -106,6 +109,8 @@ impl Running {
             → HasBlocks code inputs self.old.heap self.old.tables
             → HasBlocks code inputs self.new.heap self.new.tables) }
         ensures spent { self.new.spent ≡ self.old.spent }
+        ensures looks { OnOk result (due self.new.tables ≤ due self.old.tables) }
+        ensures differed { OnOk result (NoneDiffers self.old.tables self.new.tables) }
         ensures kept { OnOk result (Kept self.new.tables) }
     {
         for _revoked in 0..u64::MAX {

@@ -9,6 +9,7 @@ ghost use Rattle.ceal_code.specs.Replay.{stored};
 ghost use Rattle.ceal_code.specs.Value.{field_kind as kind_of};
 ghost use Rattle.ceal_mods.specs.Mods.{HasCell, cell_of};
 ghost use Rattle.ceal_repair.specs.Kept.{Kept, base_in};
+ghost use Rattle.ceal_repair.specs.Looks.{NoneDiffers};
 ghost use Rattle.ceal_repair.specs.Words.{base_of, IsTouched, NONE_BEHIND};
 
 use crate::bases::word_or_default;
@@ -71,6 +72,8 @@ fn set_unread(tables: &mut Tables, place: Place, value: Word)
     ensures trace { tables.new.trace ≡ tables.old.trace }
     ensures memo { tables.new.memo ≡ tables.old.memo }
     ensures queue { tables.new.stale ≡ tables.old.stale }
+    ensures looked { tables.new.mods.looked ≡ tables.old.mods.looked }
+    ensures differed { NoneDiffers tables.old tables.new }
     ensures base { (p : PlaceOf)
         → base_in tables.new.mods p ≡ stored (base_in tables.old.mods) place value p }
     ensures others { (p : PlaceOf) → HasCell tables.old.mods p → HasCell tables.new.mods p }

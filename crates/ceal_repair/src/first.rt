@@ -12,6 +12,7 @@ use ceal_base::memory::Inputs;
 use ceal_base::no_memory::NoMemory;
 use ceal_base::word::Word;
 use ceal_code::code::Code;
+use ceal_memo::seed::Seed;
 use ceal_theory::names::chosen_law;
 use ceal_theory::walks::known_law;
 use std::alloc::Global;
@@ -25,6 +26,7 @@ pub fn first(
     args: &[Word],
     inputs: &Inputs,
     fuel: u32,
+    seed: &Seed,
 ) -> Result<Outcome, NoMemory>
     requires fits { Fits code.now inputs.now function args.now }
     requires few { length inputs.now < 2 ^ 32 }
@@ -35,7 +37,7 @@ pub fn first(
     chosen_law();
     known_law();
     let mut room = Room::of_call(alloc, code, function, args)?;
-    let mut running = Running::begin(alloc, code, inputs)?;
+    let mut running = Running::begin(alloc, code, inputs, seed)?;
     let mut repair = Repair::at_root(code, inputs, &mut running, &mut room);
     match complete(&mut repair, fuel) {
         Ok(true) => {

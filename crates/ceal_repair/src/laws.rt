@@ -5,8 +5,8 @@ ghost use Rattle.ceal_code.specs.Program.{Code};
 ghost use Rattle.ceal_code.specs.Replay.{Store};
 ghost use Rattle.ceal_order.specs.Stamps.{is_in};
 ghost use Rattle.ceal_repair.specs.AsItems.{nodes_of, StartsAll};
-ghost use Rattle.ceal_repair.specs.Covered.{Queue, Covers};
-ghost use Rattle.ceal_repair.specs.Kept.{Kept, QueuedBehind, QueuedFrom, IsHonestRecord};
+ghost use Rattle.ceal_repair.specs.Covered.{Queue, queue_of, Covers};
+ghost use Rattle.ceal_repair.specs.Kept.{Kept, CoveredBy, QueuedBehind, QueuedFrom, IsHonestRecord};
 ghost use Rattle.ceal_repair.specs.declared.tables.Tables.{Tables};
 ghost use Rattle.ceal_theory.specs.Cover.{Covered, none_waits};
 ghost use Rattle.ceal_trace.specs.Nodes.{Entry, position};
@@ -20,6 +20,12 @@ pub fn unqueued_reads_are_honest()
         → position r t.trace.nodes < position s t.trace.nodes → IsHonestRecord r t }
     ensures none { (t : Tables) → Kept t → ((s : ℕ) → is_in s t.stale.stamps ≡ false) → (r : ℕ)
         → IsHonestRecord r t }
+{}
+
+/// A law: wherever a read has not the content of its moment, a queued read of its place stands there or before it, with no
+/// write of the place between.
+pub fn stale_reads_are_covered()
+    ensures { (t : Tables) → Kept t → CoveredBy (queue_of t.stale.stamps) t }
 {}
 
 /// A law: what is covered is so in the words of the theory of repair, where each allocation stands where the modifiables of

@@ -1,12 +1,13 @@
 // Change propagation.
 
-ghost use Rattle.std.specs.Prelude.{◌≡◌, ◌<◌, ◌^◌, ℕ, List, length, IfOk, IsOk};
+ghost use Rattle.std.specs.Prelude.{◌≡◌, ◌<◌, ◌^◌, ℕ, List, length, IfOk, IsOk, OnOk};
 ghost use Rattle.ceal_base.specs.Block.{Block};
 ghost use Rattle.ceal_base.specs.Trace.{Trace};
 ghost use Rattle.ceal_base.specs.declared.word.Word.{Word};
 ghost use Rattle.ceal_code.specs.Fitting.{Fits};
 ghost use Rattle.ceal_code.specs.Replay.{IsHonest, Replays};
 ghost use Rattle.ceal_code.specs.Program.{Code as CodeOf};
+ghost use Rattle.ceal_repair.specs.Looks.{Borrows};
 ghost use Rattle.ceal_repair.specs.Answers.{IsKeptRun, IsRepaired};
 ghost use Rattle.ceal_repair.specs.Propagation.{IsUpToDate};
 ghost use Rattle.ceal_repair.specs.Turning.{later, since_begun};
@@ -46,6 +47,7 @@ pub fn propagate(
     ensures repaired { IfOk result (λ o. (f : ℕ) (args : List Word) (l : Trace)
         → IsKeptRun code.now inputs.now f args fuel l running.old
         → IsRepaired code.now inputs.now f args fuel l running.old running.new o) }
+    ensures pays { OnOk result (Borrows (record running.old { spent = 0 }) running.new) }
     ensures sure { (f : ℕ) (args : List Word) (l : Trace)
         → IsKeptRun code.now inputs.now f args fuel l running.old
         → IsHonest code.now inputs.now l → IsOk result }
@@ -68,6 +70,8 @@ impl Running {
             → (n : ℕ) (before : RunningOf)
             → IsUpToDate code inputs f args (later n (since_begun code inputs l)) before self.old
             → IsRepaired code inputs f args fuel l before self.new result }
+        ensures tables { self.new.tables ≡ self.old.tables }
+        ensures spent { self.new.spent ≡ self.old.spent }
     {
         if self.tables.trace.steps() > u64::from(fuel) {
             Propagation::OutOfFuel

@@ -6,6 +6,7 @@ ghost use Rattle.ceal_code.specs.declared.step.Step.TheVariants.{Makes as IsMaki
 ghost use Rattle.ceal_code.specs.declared.step.Act.TheVariants as does;
 ghost use Rattle.ceal_repair.specs.Moment.{Start};
 ghost use Rattle.ceal_repair.specs.Reads.{closure_in};
+ghost use Rattle.ceal_repair.specs.Looks.{Pays};
 ghost use Rattle.ceal_repair.specs.Repairs.{code_of, inputs_of, running_of, stack_of, arguments_of, view, next_in, step_of, Runs, Acts, IsOver, Turned, SameCall};
 ghost use Rattle.ceal_repair.specs.Kept.{Kept};
 ghost use Rattle.ceal_order.specs.Stamps.{head_of};
@@ -173,6 +174,7 @@ impl<'a> Repair<'a> {
     pub fn act(&mut self) -> Result<bool, NoMemory>
         requires runs { (start : Start) × Runs start self.old }
         ensures call { OnOk result (SameCall self.old self.new) }
+        ensures pays { OnOk result (Pays (running_of self.old) (running_of self.new)) }
         ensures runs { IfOk result
             (λ more. (start : Start) → Runs start self.old → Turned more start self.new) }
         ensures spent { IfOk result
@@ -205,6 +207,7 @@ impl<'a> Repair<'a> {
     fn close(&mut self) -> Result<bool, NoMemory>
         requires over { (start : Start) × Acts start does.Over self.old }
         ensures call { OnOk result (SameCall self.old self.new) }
+        ensures pays { OnOk result (Pays (running_of self.old) (running_of self.new)) }
         ensures runs { IfOk result
             (λ more. (start : Start) → Acts start does.Over self.old → Turned more start self.new) }
         ensures spent { IfOk result

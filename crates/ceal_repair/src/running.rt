@@ -11,6 +11,7 @@ ghost use Rattle.ceal_order.specs.Stamps.{is_in};
 ghost use Rattle.ceal_mods.specs.Mods.{cell_of};
 ghost use Rattle.ceal_repair.specs.Words.{words_of, HasBases};
 ghost use Rattle.ceal_repair.specs.Kept.{Kept, base_in};
+ghost use Rattle.ceal_repair.specs.Looks.{NoneDiffers};
 ghost use Rattle.ceal_trace.specs.Nodes.{new_entry};
 ghost use Rattle.ceal_trace.specs.declared.node.Node.TheVariants.{Root};
 
@@ -24,6 +25,7 @@ use ceal_base::word::{BlockId, Word};
 use ceal_code::code::Code;
 use ceal_code::initialise::{made_shape, make_block};
 use ceal_heap::heap::Heap;
+use ceal_memo::seed::Seed;
 use std::alloc::Global;
 
 /// What a run keeps: the tables of its trace, its core blocks, and how many steps were re-executed for it.
@@ -58,7 +60,12 @@ fn few_words(block: &BlockWords) -> Result<&[Word], NoMemory>
 
 impl Running {
     /// Before the first step: only the root, the inputs with their bases, and no core block.
-    pub fn begin(alloc: Global, code: &Code, inputs: &Inputs) -> Result<Running, NoMemory>
+    pub fn begin(
+        alloc: Global,
+        code: &Code,
+        inputs: &Inputs,
+        seed: &Seed,
+    ) -> Result<Running, NoMemory>
         requires few { length inputs.now < 2 ^ 32 }
         ensures nodes { IfOk result (λ r. r.tables.trace.nodes ≡ new_entry 0 Root ∷ []) }
         ensures queue { IfOk result (λ r. r.tables.stale.stamps ≡ []) }
@@ -68,7 +75,7 @@ impl Running {
         ensures spent { IfOk result (λ r. r.spent ≡ 0) }
         ensures kept { IfOk result (λ r. Kept r.tables) }
     {
-        let mut tables = Tables::new(alloc)?;
+        let mut tables = Tables::new(alloc, seed)?;
         if let Err(error) = set_inputs(&mut tables, code.structs.items(), inputs) {
             drop(tables);
             return Err(error);
@@ -108,6 +115,8 @@ impl Running {
             → base_in self.new.tables.mods p ≡ base_in self.old.tables.mods p) }
         ensures trace { self.new.tables.trace ≡ self.old.tables.trace }
         ensures spent { self.new.spent ≡ self.old.spent }
+        ensures looked { self.new.tables.mods.looked ≡ self.old.tables.mods.looked }
+        ensures differed { NoneDiffers self.old.tables self.new.tables }
         ensures only { IfOk result (λ block. (s : ℕ)
             → is_in s self.new.tables.stale.stamps ≡ true
             → is_in s self.old.tables.stale.stamps ≡ false

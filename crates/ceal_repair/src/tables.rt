@@ -1,6 +1,6 @@
 // The tables of a trace, kept in step with its nodes.
 
-ghost use Rattle.std.specs.Prelude.{◌≡◌, ◌<◌, ◌≤◌, ℕ, [], ◌∷◌, Some, None, false, IfOk, OnOk, OnErr, IsTrue};
+ghost use Rattle.std.specs.Prelude.{◌≡◌, ◌<◌, ◌≤◌, ◌+◌, ℕ, [], ◌∷◌, Some, None, false, IfOk, OnOk, OnErr, IsTrue};
 ghost use Rattle.ceal_base.specs.declared.word.Place.{Place as PlaceOf};
 ghost use Rattle.ceal_code.specs.Replay.{stored};
 ghost use Rattle.ceal_mods.specs.Mods.{cell_of, IsUntouched};
@@ -8,6 +8,7 @@ ghost use Rattle.ceal_order.specs.Stamps.{is_in};
 ghost use Rattle.ceal_repair.specs.Covered.{contents_after};
 ghost use Rattle.ceal_repair.specs.Kept.{Kept, QueuedBehind, base_in};
 ghost use Rattle.ceal_repair.specs.Lists.{up_to, between};
+ghost use Rattle.ceal_repair.specs.Looks.{owed, NoneDiffers};
 ghost use Rattle.ceal_trace.specs.Nodes.{has_node, node_at, position, is_read, end_in, with_entry_after, with_steps, new_entry, Inserted};
 ghost use Rattle.ceal_trace.specs.declared.node.Node.TheVariants.{Root, Alloc, Write, Read, End};
 
@@ -15,10 +16,10 @@ use ceal_base::forest::Key;
 use ceal_base::no_memory::NoMemory;
 use ceal_base::word::{BlockId, Place, Word};
 use ceal_base::words::Words;
-use ceal_memo::hashes::{hash_of_alloc, hash_of_read};
 use ceal_memo::key::ReadKey;
 use ceal_memo::laws::follows_still as memo_follows;
 use ceal_memo::memo::Memo;
+use ceal_memo::seed::Seed;
 use ceal_mods::laws::follows_still as mods_follow;
 use ceal_mods::mods::Mods;
 use ceal_order::stamp::Stamp;
@@ -49,8 +50,8 @@ pub struct Begun {
 }
 
 impl Tables {
-    /// The tables of a trace of only the root.
-    pub fn new(alloc: Global) -> Result<Tables, NoMemory>
+    /// The tables of a trace of only the root. Any seed is right.
+    pub fn new(alloc: Global, seed: &Seed) -> Result<Tables, NoMemory>
         ensures nodes { IfOk result (λ t. t.trace.nodes ≡ new_entry 0 Root ∷ []) }
         ensures bases { IfOk result (λ t. IsUntouched t.mods) }
         ensures queue { IfOk result (λ t. t.stale.stamps ≡ []) }
@@ -60,7 +61,7 @@ impl Tables {
             trace: Trace::new(alloc)?,
             mods: Mods::new(alloc)?,
             stale: Stale::new(alloc)?,
-            memo: Memo::new(alloc)?,
+            memo: Memo::seeded(alloc, *seed)?,
         })
     }
 
@@ -78,6 +79,9 @@ impl Tables {
         ensures only { (s : ℕ) → IsTrue (is_in s self.new.stale.stamps)
             → is_in s self.old.stale.stamps ≡ false
             → IsTrue (is_in s (cell_of self.old.mods place).reads) }
+        ensures looks { owed self.new ≤ owed self.old + 2 }
+        ensures looked { self.new.mods.looked ≡ self.old.mods.looked }
+        ensures differed { NoneDiffers self.old self.new }
         ensures kept { Kept self.new }
     {
         let root = self.trace.root();
@@ -111,9 +115,9 @@ impl Tables {
         queue_follows();
         memo_follows();
         self.trace.reserve(1)?;
-        let hash = hash_of_alloc(&key);
+        let hashed = self.memo.of_alloc(&key);
         let alloc = self.trace.insert_alloc(after, block, key);
-        self.memo.add(self.trace.order(), hash, alloc)?;
+        self.memo.add(self.trace.order(), hashed, alloc)?;
         Ok(alloc)
     }
 
@@ -127,6 +131,8 @@ impl Tables {
         ensures inserted { IfOk result
             (λ s. Inserted after.0 s.0
             (Write place value) self.old.trace.nodes self.new.trace.nodes) }
+        ensures looks { OnOk result (owed self.new ≤ owed self.old + 2) }
+        ensures differed { OnOk result (NoneDiffers self.old self.new) }
         ensures bases { OnOk result
             ((p : PlaceOf) → base_in self.new.mods p ≡ base_in self.old.mods p) }
         ensures behind { IfOk result
@@ -151,6 +157,8 @@ impl Tables {
         requires here { IsTrue (has_node after.0 self.old.trace.nodes) }
         ensures value { result
             ≡ contents_after (base_in self.old.mods) (up_to after.0 self.old.trace.nodes) place }
+        ensures looks { owed self.new ≤ owed self.old + 1 }
+        ensures differed { NoneDiffers self.old self.new }
         ensures trace { self.new.trace ≡ self.old.trace }
         ensures cells { self.new.mods.cells ≡ self.old.mods.cells }
         ensures queue { self.new.stale ≡ self.old.stale }
@@ -163,7 +171,7 @@ impl Tables {
         }
     }
 
-    /// Puts a read directly after a node, with what its place holds there. It has no end yet.
+    /// Puts a read directly after a node up to which none is queued, with what its place holds there. It has no end yet.
     pub fn begin_read(
         &mut self,
         alloc: Global,
@@ -172,6 +180,7 @@ impl Tables {
     ) -> Result<Begun, NoMemory>
         requires kept { Kept self.old }
         requires here { IsTrue (has_node after.0 self.old.trace.nodes) }
+        requires late { QueuedBehind after.0 self.old }
         ensures value { IfOk result (λ b.
             b.value ≡ contents_after (base_in self.old.mods)
             (up_to after.0 self.old.trace.nodes) key.now.place) }
@@ -184,6 +193,8 @@ impl Tables {
             (Read key.now.place b.value key.now.unit key.now.var key.now.args) self.old.trace.nodes
             self.new.trace.nodes) }
         ensures open { IfOk result (λ b. end_in b.read.0 self.new.trace.nodes ≡ None) }
+        ensures looks { OnOk result (owed self.new ≤ owed self.old + 1) }
+        ensures differed { OnOk result (NoneDiffers self.old self.new) }
         ensures bases { OnOk result
             ((p : PlaceOf) → base_in self.new.mods p ≡ base_in self.old.mods p) }
         ensures queue { OnOk result (self.new.stale ≡ self.old.stale) }
@@ -195,7 +206,6 @@ impl Tables {
         queue_follows();
         memo_follows();
         self.trace.reserve(1)?;
-        let hash = hash_of_read(key);
         let args = Words::from_slice(alloc, key.args)?;
         let place = key.place;
         let value = self.value_behind(place, after);
@@ -203,7 +213,7 @@ impl Tables {
             .trace
             .begin_read(after, place, value, key.unit, key.var, args);
         self.mods.add_read(self.trace.order(), place, read)?;
-        self.memo.add(self.trace.order(), hash, read)?;
+        self.memo.add_read(self.trace.order(), key, read)?;
         Ok(Begun { read, value })
     }
 

@@ -17,7 +17,7 @@ ghost use Rattle.ceal_traceck.specs.declared.verdict.Verdict.TheVariants.{Yes};
 
 use crate::journal::Journal;
 use crate::session::{LARGEST_FUEL, RestoreError};
-use crate::state::State;
+use crate::state::{State, memo_seed};
 use ceal_base::forest::Item;
 use ceal_base::no_memory::NoMemory;
 use ceal_base::recorded::Record;
@@ -25,6 +25,7 @@ use ceal_base::text::Text;
 use ceal_code::code::Code;
 use ceal_compile::program::Program;
 use ceal_engine::engine::Engine;
+use ceal_memo::seed::Seed as MemoSeed;
 use ceal_snap::are_names;
 use ceal_snap::saved::Saved;
 use ceal_traceck::check::check_trace;
@@ -136,7 +137,7 @@ fn names_held(
 }
 
 /// The engine that has run the call of a save that holds. No engine has 2^32 inputs.
-fn engine_of(alloc: Global, code: Code, saved: &Saved) -> Result<Engine, NoMemory>
+fn engine_of(alloc: Global, code: Code, saved: &Saved, seed: MemoSeed) -> Result<Engine, NoMemory>
     requires valid { valid code ≡ true }
     requires holds { Holding code saved.now }
     ensures code { IfOk result (λ e. e.code ≡ code) }
@@ -162,11 +163,18 @@ fn engine_of(alloc: Global, code: Code, saved: &Saved) -> Result<Engine, NoMemor
         kept.args.items(),
         &kept.forest,
         saved.work,
+        seed,
     )
 }
 
 /// The state that goes on from a save that holds.
-fn resume(alloc: Global, program: Program, names: Names, saved: &Saved) -> Result<State, NoMemory>
+fn resume(
+    alloc: Global,
+    program: Program,
+    names: Names,
+    saved: &Saved,
+    seed: MemoSeed,
+) -> Result<State, NoMemory>
     requires compiled { IsCompiled program }
     requires names { names ≡ saved.now.names }
     requires holds { Holding program.code saved.now }
@@ -180,7 +188,7 @@ fn resume(alloc: Global, program: Program, names: Names, saved: &Saved) -> Resul
             return Err(NoMemory);
         }
     };
-    let engine = engine_of(alloc, code, saved)?;
+    let engine = engine_of(alloc, code, saved, seed)?;
     // for the proof: it is an engine, by the clause `whole`
     let _phase = engine.phase();
     let journal = Journal::told(alloc, saved.bound);
@@ -201,7 +209,7 @@ pub fn restored(
 {
     let held = names_held(alloc, &program.code, saved, seed);
     match held {
-        Ok(Some(names)) => match resume(alloc, program, names, saved) {
+        Ok(Some(names)) => match resume(alloc, program, names, saved, memo_seed(&seed)) {
             Ok(state) => Ok(state),
             Err(NoMemory) => Err(RestoreError::Memory),
         },

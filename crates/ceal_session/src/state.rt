@@ -31,6 +31,7 @@ use ceal_compile::program::Program;
 use ceal_engine::engine::Engine;
 use ceal_engine::phase::{Came, Phase};
 use ceal_engine::run_error::RunError;
+use ceal_memo::seed::Seed as MemoSeed;
 use ceal_record::record::record;
 use ceal_types::names::Names;
 use ceal_types::numbers::Numbered;
@@ -68,6 +69,11 @@ impl Model for State {
     ghost invariant = { λ s. Holds s.program s.names s.engine s.journal s.pending };
 }
 
+/// What the memo tables of an engine begin with, beside names that begin with a seed.
+pub fn memo_seed(seed: &Seed) -> MemoSeed {
+    MemoSeed::of(seed.number(0), seed.number(1))
+}
+
 impl State {
     /// A state without inputs and without a run.
     pub fn new(alloc: Global, program: Program, fuel: u32, seed: Seed) -> Result<State, NoMemory>
@@ -83,7 +89,7 @@ impl State {
                 return Err(NoMemory);
             }
         };
-        let engine = Engine::new(alloc, code, fuel)?;
+        let engine = Engine::seeded(alloc, code, fuel, memo_seed(&seed))?;
         // for the proof: it is an engine, by the clause `whole`
         let _phase = engine.phase();
         Ok(State {

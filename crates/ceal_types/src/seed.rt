@@ -63,13 +63,23 @@ impl Fed {
 
     /// A whole word, so that each hash goes on after a word.
     pub fn seed(&self) -> Seed {
+        let mut more = self.all;
+        more.write_u8(1);
         let mut start = DefaultHasher::new();
         start.write_u64(self.all.finish());
+        start.write_u64(more.finish());
         Seed { start }
     }
 }
 
 impl Seed {
+    /// A number that another table may begin with.
+    pub fn number(&self, at: u64) -> u64 {
+        let mut more = self.start;
+        more.write_u64(at);
+        more.finish()
+    }
+
     /// A whole text, for the names that will be read in it.
     pub fn of_text(text: &[u8]) -> Seed {
         let mut fed = Fed::new();

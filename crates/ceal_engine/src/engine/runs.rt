@@ -72,6 +72,7 @@ impl Engine {
                     args,
                     &self.inputs,
                     self.fuel,
+                    &self.seed,
                 )?;
                 match outcome {
                     Outcome::OutOfFuel => Err(RunError::OutOfFuel),

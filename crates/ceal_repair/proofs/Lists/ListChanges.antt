@@ -16,7 +16,7 @@ use Rattle.ceal_trace.specs.declared.node.Node.TheVariants.{Root, Alloc, Write, 
 use Rattle.ceal_mods.specs.Cell.{value_before}
 use Rattle.ceal_mods.specs.Writes.{Write as WriteOf, stamps_of, last_of, those_before, with_one}
 use Rattle.ceal_mods.specs.declared.cell.Cell.{Cell}
-use Rattle.ceal_repair.proofs.QueueCover.Cover.{place-sym}
+use Rattle.ceal_repair.proofs.QueueCover.Chain.{place-sym}
 use Rattle.ceal_repair.proofs.Lists.PartedLists.{before-part, behind-part, count-all, count-none, insert-after, writes-append, where-append, writes-among, where-among, out-one, out-none, false-of, where-skip}
 use Rattle.ceal_repair.specs.Covered.{content_after, contents_after}
 use Rattle.ceal_repair.specs.Lists.{write_of, writes_in, stamps_where}

@@ -1,7 +1,5 @@
 -- The lists of the modifiables and of the memo stay those of the nodes.
-use Rattle.std.proofs.Common.{◌≡◌, ◌≢◌, ℕ, Bool, inl, inr, true, false, ◌==◌, ◌&&◌, List, [], ◌∷◌, ◌++◌, insert, refl, sym, ap, subst, ◌∙◌}
-use Rattle.std.proofs.lemmas.Bool.{eq-eqb}
-use Rattle.std.proofs.lemmas.Bool.Decides.{eqb_tells}
+use Rattle.std.proofs.Common.{◌≡◌, ◌≢◌, ℕ, Bool, true, false, ◌==◌, ◌&&◌, List, [], ◌∷◌, ◌++◌, insert, refl, sym, ap, subst, ◌∙◌}
 use Rattle.ceal_base.specs.Operators.{same_place}
 use Rattle.ceal_base.specs.declared.forest.Key.{Key}
 use Rattle.ceal_base.specs.declared.forest.Key.TheVariants.{Init, ModInt, ModPtr}
@@ -10,8 +8,6 @@ use Rattle.ceal_base.specs.declared.word.BlockId.{BlockId}
 use Rattle.ceal_base.specs.declared.word.Place.{Place}
 use Rattle.ceal_base.specs.declared.word.Word.{Word}
 use Rattle.ceal_code.proofs.Words.SameIsEqual.{both, both-true, nat-same, nat-refl, place-refl, place-same, word-refl}
-use Rattle.ceal_memo.specs.Lists.{with_stamp}
-use Rattle.ceal_memo.specs.Memo.{Entries, HasNone, EntriesChange, entries_of}
 use Rattle.ceal_memo.specs.declared.key.ReadKey.{ReadKey}
 use Rattle.ceal_mods.specs.Cell.{with_write, without_write, with_read, without_read}
 use Rattle.ceal_mods.specs.Mods.{Contents, cell_of, Changes, IsFree}
@@ -21,10 +17,10 @@ use Rattle.ceal_order.proofs.Places.{in_head}
 use Rattle.ceal_order.specs.Rising.{count_before}
 use Rattle.ceal_order.specs.Stamps.{Distinct, is_in, without}
 use Rattle.ceal_order.specs.declared.stamp.Stamp.{Stamp}
-use Rattle.ceal_repair.proofs.QueueCover.Cover.{place-sym}
+use Rattle.ceal_repair.proofs.QueueCover.Chain.{place-sym}
 use Rattle.ceal_repair.proofs.Lists.PartedLists.{writes-append, where-append, writes-among, where-among, where-skip, writes-skip, out-write, false-of}
 use Rattle.ceal_repair.proofs.Lists.ListChanges.{write-put, where-put, where-cut, own-apart, in-back, stamps_of-append}
-use Rattle.ceal_repair.specs.Lists.{IsTabled, IsKeyed, is_hashed, reads_at, write_of, writes_in, stamps_where}
+use Rattle.ceal_repair.specs.Lists.{IsTabled, reads_at, write_of, writes_in, stamps_where}
 use Rattle.ceal_theory.proofs.Reuse.TakenItems.{words-same, unit-same}
 use Rattle.ceal_theory.specs.Levels.{same_read}
 use Rattle.ceal_theory.specs.Take.{same_key, same_words}
@@ -90,13 +86,6 @@ module _ (front : List Entry) (e : Entry) (back : List Entry) where
     writes = λ p. t.writes p ∙ writes-skip p front e back (w p);
     reads = λ p. t.reads p ∙ where-skip (reads_at p) front e back (r p);
   }
-
-  -- and one that is no read and no allocation in the memo
-  pub keyed-in : (memo : Entries) → ((hash : ℕ) → is_hashed hash e.node ≡ false) → IsKeyed (front ++ back) memo → IsKeyed (front ++ e ∷ back) memo
-  keyed-in memo h t = record { stamps = λ hash. t.stamps hash ∙ sym (where-skip (is_hashed hash) front e back (h hash)) }
-
-  pub keyed-out : (memo : Entries) → ((hash : ℕ) → is_hashed hash e.node ≡ false) → IsKeyed (front ++ e ∷ back) memo → IsKeyed (front ++ back) memo
-  keyed-out memo h t = record { stamps = λ hash. t.stamps hash ∙ where-skip (is_hashed hash) front e back (h hash) }
 
   -- what is in the lists
   pub write-listed : (p : Place) (v : Word) → e.node ≡ Write p v → (mods : Contents) → IsTabled (front ++ e ∷ back) mods → is_in e.stamp (stamps_of (cell_of mods p).writes) ≡ true
@@ -192,29 +181,9 @@ module _ (front : List Entry) (e : Entry) (back : List Entry) where
         reads q true k = rw (place-same q p k) (ap (λ (x : Cell). x.reads) c.here ∙ (ap (without e.stamp) (t.reads p) ∙ where-cut front e back distinct (reads_at p)))
         reads q false k = ap (λ (x : Cell). x.reads) (c.others q (other-place q p k)) ∙ (t.reads q ∙ where-skip (reads_at q) front e back (rw (is, place-sym q p k) refl))
 
-    -- a read or an allocation is entered under its hash
-    pub keyed-entered : (own : ℕ) → ((hash : ℕ) → is_hashed hash e.node ≡ (own == hash)) → (memo new : Entries) → IsKeyed (front ++ back) memo
-        → EntriesChange own (with_stamp (stamps_in (front ++ e ∷ back)) e.stamp (entries_of memo own)) memo new → IsKeyed (front ++ e ∷ back) new
-    keyed-entered own is memo new t c = record {
-      stamps = λ hash. elim (eqb_tells own hash) [
-        | inl p ↦ subst (λ h. entries_of new h ≡ stamps_where (is_hashed h) (front ++ e ∷ back)) p.1
-            (c.here ∙ (ap (λ (l : List ℕ). with_stamp (stamps_in (front ++ e ∷ back)) e.stamp l) (t.stamps own) ∙ where-put front e back distinct (is_hashed own) (is own ∙ eq-eqb own own refl)))
-        | inr p ↦ c.others hash (λ same. p.1 (sym same)) ∙ (t.stamps hash ∙ sym (where-skip (is_hashed hash) front e back (is hash ∙ p.0)))
-      ];
-    }
-
-    -- an entry is taken out
-    pub keyed-cut : (memo new : Entries) → IsKeyed (front ++ e ∷ back) memo → ((hash : ℕ) → entries_of new hash ≡ without e.stamp (entries_of memo hash)) → IsKeyed (front ++ back) new
-    keyed-cut memo new t c = record { stamps = λ hash. c hash ∙ (ap (without e.stamp) (t.stamps hash) ∙ where-cut front e back distinct (is_hashed hash)) }
-
 -- a stamp that no node has stands in no list
 pub free-of : (s : ℕ) (nodes : List Entry) (mods : Contents) → IsTabled nodes mods → has_node s nodes ≡ false → IsFree s mods
 free-of s nodes mods t h q = (
   false-of (is_in s (stamps_of (cell_of mods q).writes)) (λ k. sym (writes-among q nodes s (subst (λ (l : List WriteOf). is_in s (stamps_of l) ≡ true) (t.writes q) k)) ∙ h),
   false-of (is_in s (cell_of mods q).reads) (λ k. sym (where-among (reads_at q) nodes s (subst (λ (l : List ℕ). is_in s l ≡ true) (t.reads q) k)) ∙ h),
 )
-
-pub none-of : (s : ℕ) (nodes : List Entry) (memo : Entries) → IsKeyed nodes memo → has_node s nodes ≡ false → HasNone s memo
-none-of s nodes memo t h = record {
-  none = λ hash. false-of (is_in s (entries_of memo hash)) (λ k. sym (where-among (is_hashed hash) nodes s (subst (λ (l : List ℕ). is_in s l ≡ true) (t.stamps hash) k)) ∙ h);
-}

@@ -16,6 +16,8 @@ use Rattle.ceal_repair.proofs.Nodes.AroundRead.{spot-items}
 use Rattle.ceal_repair.proofs.TableCalls.CutKeepsTables.{unqueued-honest}
 use Rattle.ceal_repair.proofs.Propagation.TurnCourse.{turn-over}
 use Rattle.ceal_repair.proofs.Propagation.UpToDateHonest.{come-now, up-to-date}
+use Rattle.ceal_repair.proofs.Runs.Paid.{stays}
+use Rattle.ceal_repair.specs.Looks.{Pays}
 use Rattle.ceal_repair.specs.Entries.{entry, entries, closing}
 use Rattle.ceal_repair.specs.Kept.{Kept, IsStale, IsHonestRecord, QueuedBehind, Records, contents_at}
 use Rattle.ceal_repair.proofs.TableCalls.BaseEdit.{stale-same}
@@ -144,9 +146,10 @@ pub record TurningIn (old now : Repair) (turns : ℕ) (reads : Option ℕ) (fuel
   pub turning : Turning old now turns
   pub few : IsWithin turns reads
   pub within : old.running.now.spent ≤ fuel → now.running.now.spent ≤ fuel
+  pub pays : Pays old.running.now now.running.now
 
 pub no-turns-in : (r : Repair) → r.frames.now.items ≡ [] → (reads : Option ℕ) (fuel : ℕ) → TurningIn r r 0 reads fuel
-no-turns-in r idle reads fuel = record { turning = no-turns r idle; few = of reads; within = λ h. h }
+no-turns-in r idle reads fuel = record { turning = no-turns r idle; few = of reads; within = λ h. h; pays = stays r.running.now r.running.now (omega arith) refl refl }
   where
     of : (reads : Option ℕ) → IsWithin 0 reads
     of None = tt

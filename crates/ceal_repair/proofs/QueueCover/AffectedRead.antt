@@ -11,7 +11,7 @@ use Rattle.ceal_trace.specs.declared.node.Node.TheVariants.{Root, Alloc, Write, 
 use Rattle.ceal_mods.specs.Cell.{Sees}
 use Rattle.ceal_mods.specs.Writes.{Write as WriteOf, stamps_of}
 use Rattle.ceal_mods.specs.declared.cell.Cell.{Cell}
-use Rattle.ceal_repair.proofs.QueueCover.Cover.{FirstQueued, FirstQueuedBy, FirstQueuedIf}
+use Rattle.ceal_repair.proofs.QueueCover.Chain.{FirstQueued, FirstQueuedBy, FirstQueuedIf}
 use Rattle.ceal_repair.proofs.Lists.PartedLists.{place-front, place-back, writes-among, where-among}
 use Rattle.ceal_repair.proofs.Lists.ListChanges.{back-apart, in-back}
 use Rattle.ceal_repair.specs.Covered.{Queue}

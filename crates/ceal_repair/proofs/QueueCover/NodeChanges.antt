@@ -11,11 +11,12 @@ use Rattle.ceal_mods.specs.Writes.{Write as WriteOf, stamps_of}
 use Rattle.ceal_mods.specs.declared.cell.Cell.{Cell}
 use Rattle.ceal_order.proofs.Places.{in_head, in_tail, place_below}
 use Rattle.ceal_order.specs.Stamps.{Distinct, is_in, place, OneMore}
-use Rattle.ceal_repair.proofs.QueueCover.Cover.{FirstQueued, Keeps, covers-still}
+use Rattle.ceal_repair.proofs.QueueCover.Chain.{FirstQueued, Keeps, keeps-own, chained-still}
 use Rattle.ceal_repair.proofs.Lists.PartedLists.{place-front, place-back, writes-append, where-append, writes-among, where-among, where-holds, false-of}
 use Rattle.ceal_repair.proofs.Lists.ListChanges.{in-back, in-parts, not-front, stamps_of-append, value-there, last-contents}
 use Rattle.ceal_repair.proofs.QueueCover.AffectedRead.{first-woken}
-use Rattle.ceal_repair.specs.Covered.{Queue, Seen, queue_of, and_one, Covers, contents_after}
+use Rattle.ceal_repair.specs.Chain.{Chained}
+use Rattle.ceal_repair.specs.Covered.{Queue, queue_of, and_one, contents_after}
 use Rattle.ceal_repair.specs.Kept.{IsAwake, AreReads, base_in}
 use Rattle.ceal_repair.specs.Lists.{IsTabled, reads_at, writes_in, stamps_where, before, up_to, behind}
 use Rattle.ceal_trace.proofs.Parts.{split_at, after-part, without-part, entry-part}
@@ -46,6 +47,27 @@ module _ (e : Entry) (back : List Entry) where
     | inl p ↦ absurd (let no : true ≡ false = rw p.0 at none in cc)
     | inr p ↦ rw p.0 (behind-node xs (rw p.0 at none))
   ]
+
+-- what stands up to a node does not stand after it
+pub up-to-places : (s : ℕ) (es : List Entry) (z : ℕ) → is_in z (stamps_in (up_to s es)) ≡ true → place z (stamps_in es) ≤ place s (stamps_in es)
+up-to-places s [] z h = absurd (let no : false ≡ true = h in cc)
+up-to-places s (e ∷ es) z h = elim (eqb_tells e.stamp s) [
+  | inl p ↦ rw p.0 (own (rw p.0 at h))
+  | inr p ↦ rw p.0 (later (up-to-places s es z) (rw p.0 at h))
+]
+  where
+    own : is_in z (e.stamp ∷ []) ≡ true → place z (e.stamp ∷ stamps_in es) ≤ 0
+    own i = elim (eqb_tells e.stamp z) [
+      | inl q ↦ rw q.0 (omega arith)
+      | inr q ↦ absurd (let no : false ≡ true = rw q.0 at i in cc)
+    ]
+
+    later : (is_in z (stamps_in (up_to s es)) ≡ true → place z (stamps_in es) ≤ place s (stamps_in es))
+        → is_in z (e.stamp ∷ stamps_in (up_to s es)) ≡ true → place z (e.stamp ∷ stamps_in es) ≤ 1 + place s (stamps_in es)
+    later on i = elim (eqb_tells e.stamp z) [
+      | inl q ↦ rw q.0 (omega arith)
+      | inr q ↦ rw q.0 (let a = on (rw q.0 at i) in omega (arith, a))
+    ]
 
 -- a new node directly after another one
 pub record PutAfter (after : ℕ) (new : Entry) (old nodes : List Entry) : Type 0 where
@@ -164,17 +186,13 @@ keeps-but s q q' (e ∷ es) h k = elim (eqb_tells e.stamp s) [
   | inr p ↦ (λ i. k e.stamp (rw p.0 at i), keeps-but s q q' es (rw p.0 at h) k)
 ]
 
-keeps-own : (q : Queue) (es : List Entry) → Keeps q q es
-keeps-own q [] = tt
-keeps-own q (e ∷ es) = (λ i. i, keeps-own q es)
-
--- what is covered over contents is so over the same contents
-pub covers-base : (q : Queue) (s s' : Store) (g : Seen) (es : List Entry) → ((p : Place) → s p ≡ s' p) → Covers q s g es → Covers q s' g es
-covers-base q s s' g es h c = covers-still q q es (keeps-own q es) s s' g g (record { store = h; seen = λ x e. e }) c
+-- what is chained over bases is so over the same bases
+pub chained-base : (q : Queue) (s s' : Store) (es : List Entry) → ((p : Place) → s p ≡ s' p) → Chained q s es → Chained q s' es
+chained-base q s s' es h c = chained-still q q es (keeps-own q es) s s' h c
 
 -- and so under a queue that has more
-pub covers-more : (q q' : List ℕ) (s : Store) (es : List Entry) → ((t : ℕ) → is_in t q ≡ true → is_in t q' ≡ true) → Covers (queue_of q) s (λ p. false) es → Covers (queue_of q') s (λ p. false) es
-covers-more q q' s es h c = covers-still (queue_of q) (queue_of q') es (keeps-among q q' es (λ t i. h t)) s s (λ p. false) (λ p. false) (record { store = λ p. refl; seen = λ x e. e }) c
+pub chained-more : (q q' : List ℕ) (s : Store) (es : List Entry) → ((t : ℕ) → is_in t q ≡ true → is_in t q' ≡ true) → Chained (queue_of q) s es → Chained (queue_of q') s es
+chained-more q q' s es h c = chained-still (queue_of q) (queue_of q') es (keeps-among q q' es (λ t i. h t)) s s (λ p. refl) c
 
 and-more : (r : ℕ) (q m : List ℕ) → ((t : ℕ) → t ≢ r → is_in t m ≡ is_in t q) → (t : ℕ) → queue_of q t ≡ true → and_one r m t ≡ true
 unfolding queue_of and_one
@@ -187,8 +205,8 @@ pub is-queued : (s : ℕ) (q : List ℕ) (b : Bool) → is_in s q ≡ b → queu
 unfolding queue_of
 is-queued s q b e = e
 
-pub covers-and : (r : ℕ) (q m : List ℕ) (s : Store) (es : List Entry) → ((t : ℕ) → t ≢ r → is_in t m ≡ is_in t q) → Covers (queue_of q) s (λ p. false) es → Covers (and_one r m) s (λ p. false) es
-covers-and r q m s es h c = covers-still (queue_of q) (and_one r m) es (keep es) s s (λ p. false) (λ p. false) (record { store = λ p. refl; seen = λ x e. e }) c
+pub chained-and : (r : ℕ) (q m : List ℕ) (s : Store) (es : List Entry) → ((t : ℕ) → t ≢ r → is_in t m ≡ is_in t q) → Chained (queue_of q) s es → Chained (and_one r m) s es
+chained-and r q m s es h c = chained-still (queue_of q) (and_one r m) es (keep es) s s (λ p. refl) c
   where
     keep : (es : List Entry) → Keeps (queue_of q) (and_one r m) es
     keep [] = tt

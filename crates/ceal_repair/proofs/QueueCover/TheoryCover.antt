@@ -7,7 +7,7 @@ use Rattle.ceal_base.specs.declared.word.Place.{Place}
 use Rattle.ceal_base.specs.declared.word.Word.{Word}
 use Rattle.ceal_code.specs.Program.{Code}
 use Rattle.ceal_code.specs.Replay.{Store, cleared, stored}
-use Rattle.ceal_repair.proofs.QueueCover.Cover.{stored-same}
+use Rattle.ceal_repair.proofs.QueueCover.Chain.{stored-same}
 use Rattle.ceal_repair.specs.AsItems.{nodes_of, StartsAt, StartsAll}
 use Rattle.ceal_repair.specs.Covered.{Queue, Seen, content_after, with_seen, seen_after, Covers}
 use Rattle.ceal_theory.specs.Cover.{Covered, Waiting, none_waits, closed, opened}

@@ -1,5 +1,5 @@
 -- Nodes that are left over are revoked one after another, up to a node.
-use Rattle.std.proofs.Common.{◌≡◌, ◌≢◌, ℕ, inl, inr, true, Some, List, ◌∙◌}
+use Rattle.std.proofs.Common.{◌≡◌, ◌≢◌, ◌≤◌, ℕ, inl, inr, true, Some, List, ◌∙◌, arith}
 use Rattle.ceal_base.specs.Block.{Block}
 use Rattle.ceal_base.specs.declared.word.BlockId.{BlockId}
 use Rattle.ceal_base.specs.declared.word.Place.{Place}
@@ -11,6 +11,7 @@ use Rattle.ceal_repair.specs.Blocks.{HasBlocks}
 use Rattle.ceal_repair.specs.Entries.{first_stamp, first_in, starts, CutTo, IsNoneOr, IsUntil, Lies}
 use Rattle.ceal_repair.specs.declared.running.Running.{Running}
 use Rattle.ceal_repair.specs.Kept.{Kept, base_in}
+use Rattle.ceal_repair.specs.Looks.{due, NoneDiffers}
 use Rattle.ceal_theory.specs.Groves.{Grove, Bare, cut}
 use Rattle.ceal_trace.specs.Nodes.{Entry, stamps_in, has_node}
 
@@ -21,6 +22,8 @@ pub record Revoking (cursor until : ℕ) (old now : Running) : Type 0 where
   pub blocks : (b : BlockId) → block_of now.heap b ≡ block_of old.heap b
   pub has : (code : Code) (inputs : List Block) → HasBlocks code inputs old.heap old.tables → HasBlocks code inputs now.heap now.tables
   pub spent : now.spent ≡ old.spent
+  pub looks : due now.tables ≤ due old.tables
+  pub differed : NoneDiffers old.tables now.tables
 
 module _ (cursor until : ℕ) (old now : Running) (r : Revoking cursor until old now) where
   pub cursor-is : (front : List Entry) (left : Grove) (tail : List Entry) → Lies cursor front left tail old.tables → IsUntil until left tail → has_node cursor now.tables.trace.nodes ≡ true
@@ -35,9 +38,9 @@ module _ (cursor until : ℕ) (old now : Running) (r : Revoking cursor until old
   pub one-revoked : (s : ℕ) (new : Running) → successor cursor (stamps_in now.tables.trace.nodes) ≡ Some s → s ≢ until
       → ((front : List Entry) (left : Grove) (tail : List Entry) → Lies cursor front left tail now.tables → first_stamp left ≡ Some s → Lies cursor front (cut left) tail new.tables)
       → ((p : Place) → base_in new.tables.mods p ≡ base_in now.tables.mods p) → ((b : BlockId) → block_of new.heap b ≡ block_of now.heap b)
-      → ((code : Code) (inputs : List Block) → HasBlocks code inputs now.heap now.tables → HasBlocks code inputs new.heap new.tables) → new.spent ≡ now.spent → Kept new.tables
+      → ((code : Code) (inputs : List Block) → HasBlocks code inputs now.heap now.tables → HasBlocks code inputs new.heap new.tables) → new.spent ≡ now.spent → due new.tables ≤ due now.tables → NoneDiffers now.tables new.tables → Kept new.tables
       → Revoking cursor until old new
-  one-revoked s new n other lies bases blocks has spent kept = record {
+  one-revoked s new n other lies bases blocks has spent looks differed kept = record {
     kept = kept;
     left = λ front left tail l u.
         let k = r.left front left tail l u in
@@ -47,6 +50,8 @@ module _ (cursor until : ℕ) (old now : Running) (r : Revoking cursor until old
     blocks = λ b. blocks b ∙ r.blocks b;
     has = λ code inputs h. has code inputs (r.has code inputs h);
     spent = spent ∙ r.spent;
+    looks = omega (arith, looks, r.looks);
+    differed = differed ∙ r.differed;
   }
 
   the-until : (front : List Entry) (left : Grove) (tail : List Entry) → Lies cursor front left tail old.tables → IsUntil until left tail

@@ -50,6 +50,8 @@ module _ (structs : List StructInfo) (id : BlockId) (shape : Shape) (value : ℕ
   pub record Setting (old t : Tables) (n : ℕ) : Type 0 where
     pub trace : t.trace ≡ old.trace
     pub memo : t.memo ≡ old.memo
+    pub looked : t.mods.looked ≡ old.mods.looked
+    pub differed : t.mods.differed ≡ old.mods.differed
     pub here : (p : Place) → same_block p.block id ≡ true → p.field < n → base_in t.mods p ≡ (if is_cell (field_kind structs shape p.field) then value p.field else base_in old.mods p)
     pub later : (p : Place) → same_block p.block id ≡ true → n ≤ p.field → base_in t.mods p ≡ base_in old.mods p
     pub others : (p : Place) → same_block p.block id ≡ false → base_in t.mods p ≡ base_in old.mods p
@@ -61,6 +63,8 @@ module _ (structs : List StructInfo) (id : BlockId) (shape : Shape) (value : ℕ
   setting-plain old t n s kind is_kind not_cell = record {
     trace = s.trace;
     memo = s.memo;
+    looked = s.looked;
+    differed = s.differed;
     here = here-too;
     later = λ p e l. s.later p e (omega (arith, l));
     others = s.others;
@@ -80,14 +84,16 @@ module _ (structs : List StructInfo) (id : BlockId) (shape : Shape) (value : ℕ
   -- a field that is one
   pub setting-more : (old t t' : Tables) (n : ℕ) (word : Word) → Kept old → Setting old t n → (kind : FieldKind) → Some kind ≡ field_kind structs shape n → is_cell (Some kind) ≡ true
       → word ≡ value n
-      → t'.trace ≡ t.trace → t'.memo ≡ t.memo
+      → t'.trace ≡ t.trace → t'.memo ≡ t.memo → t'.mods.looked ≡ t.mods.looked → t'.mods.differed ≡ t.mods.differed
       → ((p : Place) → base_in t'.mods p ≡ stored (base_in t.mods) (record { block = id; field = n }) word p)
       → ((s : ℕ) → is_in s t'.stale.stamps ≡ true → is_in s t.stale.stamps ≡ false → is_in s (cell_of t.mods (record { block = id; field = n })).reads ≡ true)
       → Kept t' → Setting old t' (n + 1)
   unfolding stored
-  setting-more old t t' n word ko s kind is_kind is_cell_kind is trace memo base only kept = record {
+  setting-more old t t' n word ko s kind is_kind is_cell_kind is trace memo looked differed base only kept = record {
     trace = trace ∙ s.trace;
     memo = memo ∙ s.memo;
+    looked = looked ∙ s.looked;
+    differed = differed ∙ s.differed;
     here = here-too;
     later = λ p e l. elim (eqb_tells p.field n) [
       | inl q ↦ absurd (omega (arith, l, q.1))

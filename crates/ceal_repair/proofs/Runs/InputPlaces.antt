@@ -23,7 +23,8 @@ use Rattle.ceal_repair.proofs.Runs.BlockBases.{reads-same, field-word, set-word,
 use Rattle.ceal_repair.proofs.TableCalls.BaseEdit.{edit-tabled, edit-reads, edit-kept}
 use Rattle.ceal_repair.proofs.TableCalls.PutKeepsTables.{tables}
 use Rattle.ceal_repair.proofs.Lists.ListsOfNodes.{other-place}
-use Rattle.ceal_repair.specs.Covered.{queue_of, Covers}
+use Rattle.ceal_repair.specs.Chain.{Chained}
+use Rattle.ceal_repair.specs.Covered.{queue_of}
 use Rattle.ceal_repair.specs.Kept.{Kept, IsAwake, base_in}
 use Rattle.ceal_repair.specs.Words.{IsTouched}
 use Rattle.ceal_repair.specs.declared.tables.Tables.{Tables}
@@ -62,7 +63,7 @@ kept-cells old k mods cells follows = record {
     memo = k.step.memo;
     stale = k.step.stale;
   };
-  covered = subst (λ s. Covers (queue_of old.stale.stamps) s (λ p. false) old.trace.nodes) (sym base) k.covered;
+  chained = subst (λ s. Chained (queue_of old.stale.stamps) s old.trace.nodes) (sym base) k.chained;
 }
   where
     base : base_in mods ≡ base_in old.mods
@@ -121,18 +122,18 @@ unread-kept old k p v mods change unread follows = record {
     memo = k.step.memo;
     stale = k.step.stale;
   };
-  covered = go old.trace.nodes refl;
+  chained = go old.trace.nodes refl;
 }
   where
     -- no read is affected
     awake : (root : ℕ) → IsAwake (stamps_in old.trace.nodes) (cell_of mods p) root old.stale.stamps
     awake root r sees earliest = absurd (none-in r (cell_of mods p).reads (edit-reads old k p v mods change p ∙ unread) sees.there)
 
-    go : (nodes : List Entry) → old.trace.nodes ≡ nodes → Covers (queue_of old.stale.stamps) (base_in mods) (λ q. false) old.trace.nodes
+    go : (nodes : List Entry) → old.trace.nodes ≡ nodes → Chained (queue_of old.stale.stamps) (base_in mods) old.trace.nodes
     go [] e = rw e tt
     go (x ∷ xs) e =
         let first : head_of (stamps_in old.trace.nodes) ≡ Some x.stamp = rw e refl in
-        (edit-kept old k p v mods change x.stamp first (k.step.whole.first_root x.stamp first) old.stale (λ t i. i) (λ t a b. absurd (let no : true ≡ false = sym b ∙ a in cc)) (awake x.stamp) follows k.step.stale).covered
+        (edit-kept old k p v mods change x.stamp first (k.step.whole.first_root x.stamp first) old.stale (λ t i. i) (λ t a b. absurd (let no : true ≡ false = sym b ∙ a in cc)) (awake x.stamp) follows k.step.stale).chained
 
 -- how far the bases are set
 pub record Placing (structs : List StructInfo) (input : ℕ) (shape : Shape) (words : List Word) (old t : Tables) (n : ℕ) : Type 0 where
@@ -148,11 +149,11 @@ module _ (structs : List StructInfo) (input : ℕ) (shape : Shape) (words : List
 
   pub placing-more : (old t t' : Tables) (n : ℕ) (value : Word) → Kept old → Placing structs input shape words old t n → (kind : FieldKind) → Some kind ≡ field_kind structs shape n → is_cell (Some kind) ≡ true
       → value ≡ unwrap_or (slice_get words n) (default_of_field kind)
-      → t'.trace ≡ t.trace → t'.memo ≡ t.memo → t'.stale ≡ t.stale
+      → t'.trace ≡ t.trace → t'.memo ≡ t.memo → t'.mods.looked ≡ t.mods.looked → t'.mods.differed ≡ t.mods.differed → t'.stale ≡ t.stale
       → ((p : Place) → base_in t'.mods p ≡ stored (base_in t.mods) (record { block = Input input; field = n }) value p)
       → ((p : Place) → HasCell t.mods p → HasCell t'.mods p) → Kept t' → Placing structs input shape words old t' (n + 1)
-  placing-more old t t' n value ko s kind is cell is_value trace memo queue base others kept = record {
-    setting = setting-more structs (Input input) shape (field-word structs shape words) old t t' n value ko s.setting kind is cell (set-word structs shape words n kind value is is_value) trace memo base
+  placing-more old t t' n value ko s kind is cell is_value trace memo looked differed queue base others kept = record {
+    setting = setting-more structs (Input input) shape (field-word structs shape words) old t t' n value ko s.setting kind is cell (set-word structs shape words n kind value is is_value) trace memo looked differed base
         (λ r a b. absurd (let no : true ≡ false = sym a ∙ (ap (λ (q : Waiting). is_in r q.stamps) queue ∙ b) in cc)) kept;
     touched = λ field c. others (record { block = Input input; field = field }) (s.touched field c);
     unread = λ field. reads-same t t' s.setting.kept kept trace (record { block = Input input; field = field }) ∙ s.unread field;

@@ -270,12 +270,12 @@ module _ (code : Code) (inputs : List Block) (b : ℕ) (key : Key) (heap heap' :
       reads = reads-new;
     }
 
-  -- nothing is queued up to the cursor: no read of the new block's places is there
-  pub late-made : HasBlocks code inputs heap old → (cursor : ℕ) → Kept old → QueuedBehind cursor old → QueuedBehind cursor new
-  late-made has cursor kept late r i = subst (λ (z : _). position cursor z.nodes < position r z.nodes) (sym h.trace) (elim (cases_Bool (is_in r old.stale.stamps)) [
-    | inl e ↦ late r e
+  -- nothing is queued that was not: no read of the new block's places is there
+  pub none-made : HasBlocks code inputs heap old → Kept old → (r : ℕ) → is_in r new.stale.stamps ≡ true → is_in r old.stale.stamps ≡ true
+  none-made has kept r i = elim (cases_Bool (is_in r old.stale.stamps)) [
+    | inl e ↦ e
     | inr e ↦ absurd (go (h.only r i e))
-  ])
+  ]
     where
       reads-one : (p : Place) (n : Node) → reads_at p n ≡ true → node_at r old.trace.nodes ≡ Some n → p.block ≡ Core b → ⊥
       reads-one p Root e k own = absurd (cc)
@@ -290,6 +290,9 @@ module _ (code : Code) (inputs : List Block) (b : ℕ) (key : Key) (heap heap' :
       go (p, own, j) =
           let w = where-holds (reads_at p) old.trace.nodes r kept.step.whole.order.distinct (subst (λ rs. is_in r rs ≡ true) (kept.step.tabled.reads p) j) in
           reads-one p w.0 w.2 w.1 own
+
+  pub late-made : HasBlocks code inputs heap old → (cursor : ℕ) → Kept old → QueuedBehind cursor old → QueuedBehind cursor new
+  late-made has cursor kept late r i = subst (λ (z : _). position cursor z.nodes < position r z.nodes) (sym h.trace) (late r (none-made has kept r i))
 
   -- the numbers that were chosen
   pub given-made : (firsts chosen : List ℕ) → Given firsts chosen heap → Given firsts (chosen ++ b ∷ []) heap'

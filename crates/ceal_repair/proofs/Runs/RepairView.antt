@@ -8,8 +8,9 @@ use Rattle.ceal_code.specs.Stacks.{stack_in}
 use Rattle.ceal_code.specs.Step.{Stack}
 use Rattle.ceal_code.specs.declared.stack.Stack.{Stack as CodeStack}
 use Rattle.ceal_heap.specs.Heap.{Contents}
-use Rattle.ceal_repair.proofs.Runs.UnitSteps.{StepMore, NodeMore, cursor-here, here-next}
+use Rattle.ceal_repair.proofs.Runs.UnitSteps.{StepMore, NodeMore, cursor-here, here-next, late-next}
 use Rattle.ceal_repair.specs.Entries.{entries}
+use Rattle.ceal_repair.specs.Kept.{QueuedBehind}
 use Rattle.ceal_repair.specs.Moment.{View, Start, RunningNow}
 use Rattle.ceal_repair.specs.Repairs.{code_of, inputs_of, view, RunsAt}
 use Rattle.ceal_repair.specs.declared.frame.Frame.{Frame}
@@ -58,6 +59,11 @@ pub stepped-here : (start : Start) (st : Stack) (old new : Repair) → RunsAt st
 stepped-here start st old new now h =
     subst (λ s. has_node s new.running.now.tables.trace.nodes ≡ true) (sym (cursor-kept old new h))
     (here-next (code_of old) (inputs_of old) start st (view old) now new.running.now.tables h.more)
+
+pub stepped-late : (start : Start) (st : Stack) (old new : Repair) → RunsAt start st old → IsStepped old new → QueuedBehind new.cursor.0 new.running.now.tables
+stepped-late start st old new now h =
+    subst (λ s. QueuedBehind s new.running.now.tables) (sym (cursor-kept old new h))
+    (late-next (code_of old) (inputs_of old) start st (view old) now new.running.now.tables h.more)
 
 -- a node that was put in after the cursor
 pub node-behind : (old new : Repair) → IsStepped old new → (s : ℕ) (node : Node) (t : Tables) → NodeMore new.cursor.0 s node new.running.now.tables t → NodeMore old.cursor.0 s node new.running.now.tables t

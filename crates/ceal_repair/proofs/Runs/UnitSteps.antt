@@ -214,6 +214,9 @@ module _ (code : Code) (inputs : List Block) (start : Start) (st : Stack) (v : V
   pub here-next : (t : Tables) → StepMore v.cursor v.tables t → has_node v.cursor t.trace.nodes ≡ true
   here-next t h = cursor-here start (record v { tables = t; spent = v.spent + 1 }) now.reads (entries now.left ++ now.tail) (placed-step start v now.reads (entries now.left ++ now.tail) now.placed t (v.spent + 1) h)
 
+  pub late-next : (t : Tables) → StepMore v.cursor v.tables t → QueuedBehind v.cursor t
+  late-next t h = step-late start v now.reads (entries now.left ++ now.tail) now.placed t h
+
   -- a step and a node after all in front
   pub items-next : (s : ℕ) (node : Node) → forest_of (through (through now.placed.done (more now.placed.last)) (new_entry s node)) ≡ forest_of (through now.placed.done now.placed.last) ++ (item.Step ∷ item_of node)
   items-next s node = forest-put (through now.placed.done (more now.placed.last)) s node

@@ -17,16 +17,17 @@ use Rattle.ceal_order.specs.Rising.{IsRising}
 use Rattle.ceal_order.specs.Stamps.{is_in, place, head_of}
 use Rattle.ceal_order.specs.declared.stamp.Stamp.{Stamp}
 use Rattle.ceal_queue.specs.Queue.{Waiting, IsWithout, IsEarliest, IsBefore, Follows as Queue_follows}
-use Rattle.ceal_repair.proofs.QueueCover.NodeChanges.{are-reads, keeps-among, covers-and}
-use Rattle.ceal_repair.proofs.QueueCover.Cover.{FirstQueued}
+use Rattle.ceal_repair.proofs.QueueCover.NodeChanges.{are-reads, keeps-among, chained-and}
+use Rattle.ceal_repair.proofs.QueueCover.Chain.{FirstQueued}
 use Rattle.ceal_repair.proofs.TableCalls.PutKeepsTables.{tables}
 use Rattle.ceal_repair.proofs.Lists.PartedLists.{false-of}
-use Rattle.ceal_repair.proofs.QueueCover.QueueChanges.{base-edited}
+use Rattle.ceal_repair.proofs.QueueCover.ChainChanges.{base-edited}
 use Rattle.ceal_repair.proofs.TableCalls.CallsKeepCover.{awake-behind}
 use Rattle.ceal_repair.proofs.Lists.ListsOfNodes.{other-place}
 use Rattle.ceal_repair.specs.Covered.{queue_of, and_one}
-use Rattle.ceal_repair.specs.Kept.{InStep, Kept, CoveredBy, IsAwake, IsStale, IsHonestRecord, QueuedBehind, Records, base_in, contents_at}
+use Rattle.ceal_repair.specs.Kept.{InStep, Kept, ChainedBy, IsAwake, IsStale, IsHonestRecord, QueuedBehind, Records, base_in, contents_at}
 use Rattle.ceal_repair.specs.Lists.{IsTabled}
+use Rattle.ceal_repair.specs.Looks.{owed, NoneDiffers}
 use Rattle.ceal_repair.specs.declared.tables.Tables.{Tables}
 use Rattle.ceal_trace.specs.Nodes.{Entry, Timeline, stamps_in, node_at, position, is_read, with_value}
 use Rattle.ceal_trace.specs.declared.node.Node.TheVariants.{Root}
@@ -77,8 +78,8 @@ module _ (old : Tables) (k : Kept old) (p : Place) (v : Word) (mods : Contents) 
       memo = k.step.memo;
       stale = qf;
     };
-    covered = base-edited (queue_of old.stale.stamps) (queue_of stale.stamps) old.trace.nodes (base_in old.mods) (base_in mods) (λ q. false) p base-away (keeps-among old.stale.stamps stale.stamps old.trace.nodes (λ t i. more t))
-        (woken old.trace.nodes refl first is_root) k.covered;
+    chained = base-edited (queue_of old.stale.stamps) (queue_of stale.stamps) old.trace.nodes (base_in old.mods) (base_in mods) p base-away (keeps-among old.stale.stamps stale.stamps old.trace.nodes (λ t i. more t))
+        (woken old.trace.nodes refl first is_root) k.chained;
   }
     where
       woken : (nodes : List Entry) → old.trace.nodes ≡ nodes → head_of (stamps_in nodes) ≡ Some root → node_at root nodes ≡ Some Root → FirstQueued (queue_of stale.stamps) p nodes
@@ -97,9 +98,11 @@ pub record Looking (old t : Tables) (n : ℕ) : Type 0 where
   pub cells : t.mods.cells ≡ old.mods.cells
   pub memo : t.memo ≡ old.memo
   pub late : (s : ℕ) → is_in s t.stale.stamps ≡ true → n ≤ position s t.trace.nodes
+  pub looks : owed t ≤ owed old
+  pub differed : NoneDiffers old t
 
 pub looking-first : (old : Tables) → Kept old → Looking old old 0
-looking-first old k = record { kept = k; trace = refl; cells = refl; memo = refl; late = λ s i. omega arith }
+looking-first old k = record { kept = k; trace = refl; cells = refl; memo = refl; late = λ s i. omega arith; looks = omega arith; differed = refl }
 
 -- no place is that far on
 pub none-late : (old t : Tables) (n : ℕ) → Looking old t n → 2 ^ 32 ≤ n → (s : ℕ) → is_in s t.stale.stamps ≡ true → ⊥
@@ -126,20 +129,22 @@ module _ (t : Tables) (k : Kept t) (s : ℕ) (stale : Waiting) (first : IsEarlie
     stale = qf;
   }
 
-  pub popped-covered : CoveredBy (and_one s stale.stamps) (tables t.trace t.mods stale t.memo)
-  popped-covered = covers-and s t.stale.stamps stale.stamps (base_in t.mods) t.trace.nodes out.others k.covered
+  pub popped-chained : ChainedBy (and_one s stale.stamps) (tables t.trace t.mods stale t.memo)
+  popped-chained = chained-and s t.stale.stamps stale.stamps (base_in t.mods) t.trace.nodes out.others k.chained
 
   pub popped-read : is_read (node_at s t.trace.nodes) ≡ true
   popped-read = k.step.queued s first.there
 
 -- one that was not stale
-pub looked-more : (old t t' : Tables) (n s : ℕ) → Looking old t n → is_in s t.stale.stamps ≡ true → Kept t' → t'.trace ≡ t.trace → t'.mods.cells ≡ t.mods.cells → t'.memo ≡ t.memo → QueuedBehind s t' → Looking old t' (n + 1)
-looked-more old t t' n s l i kept trace cells memo behind = record {
+pub looked-more : (old t t' : Tables) (n s : ℕ) → Looking old t n → is_in s t.stale.stamps ≡ true → Kept t' → t'.trace ≡ t.trace → t'.mods.cells ≡ t.mods.cells → t'.memo ≡ t.memo → QueuedBehind s t' → owed t' ≤ owed t → NoneDiffers t t' → Looking old t' (n + 1)
+looked-more old t t' n s l i kept trace cells memo behind looks differed = record {
   kept = kept;
   trace = trace ∙ l.trace;
   cells = cells ∙ l.cells;
   memo = memo ∙ l.memo;
   late = λ z j. let a = behind z j in let b = l.late s i in omega (arith, a, b, ap (λ (w : Timeline). position s w.nodes) trace);
+  looks = omega (arith, looks, l.looks);
+  differed = differed ∙ l.differed;
 }
 
 -- what is said of a read goes by the nodes and the cells

@@ -3,7 +3,8 @@ use Rattle.std.proofs.Common.{◌≡◌, ℕ, inl, inr, true, false, List, [], �
 use Rattle.std.proofs.lemmas.Bool.Decides.{eqb_tells}
 use Rattle.ceal_base.specs.declared.word.Place.{Place}
 use Rattle.ceal_code.proofs.Words.SameIsEqual.{some-same, none-some}
-use Rattle.ceal_memo.specs.Memo.{entries_of, Follows as Memo_follows}
+use Rattle.ceal_memo.proofs.Holding.{holds_as}
+use Rattle.ceal_memo.specs.Memo.{Holds, no_entries, Follows as Memo_follows}
 use Rattle.ceal_mods.specs.Cell.{value_before, latest_value}
 use Rattle.ceal_mods.specs.Mods.{cell_of, IsUntouched, Follows as Mods_follow}
 use Rattle.ceal_mods.specs.Writes.{Write as WriteOf, last_of}
@@ -14,7 +15,7 @@ use Rattle.ceal_repair.proofs.QueueCover.NodeChanges.{looked-up}
 use Rattle.ceal_repair.proofs.Lists.ListChanges.{last-contents}
 use Rattle.ceal_repair.specs.Covered.{contents_after}
 use Rattle.ceal_repair.specs.Kept.{InStep, Kept, base_in}
-use Rattle.ceal_repair.specs.Lists.{up_to}
+use Rattle.ceal_repair.specs.Lists.{up_to, entries_in}
 use Rattle.ceal_repair.specs.declared.tables.Tables.{Tables}
 use Rattle.ceal_trace.specs.Nodes.{Entry, IsTrace, NoLooseEnd, stamps_in, has_node, new_entry}
 use Rattle.ceal_trace.specs.declared.node.Node.TheVariants.{Root}
@@ -55,22 +56,25 @@ value-next old k p s n next =
     let r = up-to-next s n old.trace.nodes next in
     looked-up n (up_to s old.trace.nodes) r.0 r.1 old.trace.nodes old.mods p r.2 r.3 k.whole.order.distinct k.tabled
 
+root-none : (s : ℕ) → entries_in (new_entry 0 Root ∷ []) s ≡ None
+root-none s = elim (eqb_tells 0 s) [ inl p ↦ rw p.0 refl | inr p ↦ rw p.0 refl ]
+
 -- the tables of only the root
 pub first-kept : (t : Tables) → t.trace.nodes ≡ new_entry 0 Root ∷ [] → IsTrace t.trace → NoLooseEnd t.trace.nodes → IsUntouched t.mods → t.stale.stamps ≡ []
-    → ((hash : ℕ) → entries_of t.memo hash ≡ [])
+    → Holds t.memo no_entries
     → Mods_follow (stamps_in t.trace.nodes) t.mods → Memo_follows (stamps_in t.trace.nodes) t.memo → Queue_follows (stamps_in t.trace.nodes) t.stale → Kept t
 first-kept t nodes whole closed bare none entries mf ef qf = record {
   step = record {
     whole = whole;
     closed = closed;
     tabled = record { writes = λ p. rw nodes (ap (λ (c : Cell). c.writes) (bare p)); reads = λ p. rw nodes (ap (λ (c : Cell). c.reads) (bare p)) };
-    keyed = record { stamps = λ hash. rw nodes (entries hash) };
+    keyed = record { entries = holds_as t.memo no_entries (entries_in t.trace.nodes) (λ s. sym (ap (λ l. entries_in l s) nodes ∙ root-none s)) entries };
     queued = λ s i. absurd (let no : false ≡ true = rw none at i in cc);
     mods = mf;
     memo = ef;
     stale = qf;
   };
-  covered = rw nodes (tt, tt);
+  chained = rw nodes (tt, tt);
 }
 
 pub value-over : (a b : Tables) (s : ℕ) → a.trace ≡ b.trace → a.mods.cells ≡ b.mods.cells → (p : Place) → contents_after (base_in a.mods) (up_to s a.trace.nodes) p ≡ contents_after (base_in b.mods) (up_to s b.trace.nodes) p

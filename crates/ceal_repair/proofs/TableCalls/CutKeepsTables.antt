@@ -1,4 +1,4 @@
--- Each call that takes nodes out, and each look at a read, keeps the tables in step and the stale reads covered.
+-- Each call that takes nodes out, and each look at a read, keeps the tables in step and the reads chained.
 use Rattle.std.proofs.Common.{◌≡◌, ◌≢◌, ◌<◌, ◌≤◌, ℕ, inl, inr, ◌⊎◌, Bool, true, false, List, ◌∷◌, ◌++◌, refl, sym, ap, subst, ◌∙◌, arith, Option, Some, None}
 use Rattle.std.proofs.lemmas.Bool.Decides.{eqb_tells}
 use Rattle.std.specs.Prelude.{option_map}
@@ -8,26 +8,29 @@ use Rattle.ceal_base.specs.declared.word.Place.{Place}
 use Rattle.ceal_base.specs.declared.word.Word.{Word}
 use Rattle.ceal_base.specs.Operators.{same_place}
 use Rattle.ceal_code.proofs.Words.SameIsEqual.{some-same, place-same}
-use Rattle.ceal_memo.specs.Memo.{Entries, HasNone, entries_of, Follows as Memo_follows}
+use Rattle.ceal_memo.specs.Memo.{Contents as Entered, HasNone, Holds, without_key, Follows as Memo_follows}
+use Rattle.ceal_memo.proofs.Holding.{follows_deleted}
 use Rattle.ceal_mods.specs.Cell.{without_write, without_read, value_before}
 use Rattle.ceal_mods.specs.Mods.{Contents, cell_of, Changes, IsFree, Follows as Mods_follow}
 use Rattle.ceal_mods.specs.Writes.{Write as WriteOf, stamps_of}
 use Rattle.ceal_mods.specs.declared.cell.Cell.{Cell}
 use Rattle.ceal_order.proofs.Places.{place_below, place_tells}
 use Rattle.ceal_order.proofs.RisingLemmas.{rising_deleted, in_order}
-use Rattle.ceal_order.specs.Stamps.{Distinct, is_in, place, without, OneMore}
+use Rattle.ceal_order.specs.Stamps.{Distinct, is_in, place, OneMore}
 use Rattle.ceal_order.specs.declared.stamp.Stamp.{Stamp}
 use Rattle.ceal_queue.specs.Queue.{Waiting, IsWithout, Follows as Queue_follows}
-use Rattle.ceal_repair.proofs.QueueCover.NodeChanges.{PartAt, part-at, part-without, node-has, are-reads, fewer-reads, no-read, cell-same, tabled-same, before-node, looked-up, covers-base, covers-more, is-queued}
+use Rattle.ceal_repair.proofs.QueueCover.NodeChanges.{PartAt, part-at, part-without, node-has, are-reads, fewer-reads, no-read, cell-same, tabled-same, before-node, looked-up, chained-base, chained-more, chained-and, is-queued}
 use Rattle.ceal_repair.proofs.Lists.PartedLists.{false-of}
 use Rattle.ceal_repair.proofs.Lists.ListChanges.{own-gone}
-use Rattle.ceal_repair.proofs.QueueCover.QueueChanges.{IsQuiet, quiet-cut, read-honest}
-use Rattle.ceal_repair.proofs.TableCalls.CallsKeepCover.{there-before, behind-cut, alloc-quiet, end-quiet, tabled-with, keyed-with, write-cut-covered, read-cut-covered, settled-covered}
-use Rattle.ceal_repair.proofs.Lists.ListsOfNodes.{alloc-no-write, end-no-write, other-place, write-listed, read-listed, tabled-out, keyed-out, tabled-cut-write, tabled-cut-read, keyed-cut, free-of, none-of}
+use Rattle.ceal_repair.proofs.QueueCover.ChainChanges.{IsQuiet, quiet-cut, read-honest}
+use Rattle.ceal_repair.proofs.TableCalls.CallsKeepCover.{there-before, behind-cut, alloc-quiet, end-quiet, tabled-with, write-cut-chained, read-cut-chained, settled-chained, honest-chained, none-in-front}
+use Rattle.ceal_repair.proofs.Lists.ListsOfNodes.{alloc-no-write, end-no-write, other-place, write-listed, read-listed, tabled-out, tabled-cut-write, tabled-cut-read, free-of}
+use Rattle.ceal_repair.proofs.Lists.KeyedNodes.{keyed-as, keyed-out, keyed-cut, none-of}
 use Rattle.ceal_repair.proofs.TableCalls.PutKeepsTables.{tables}
-use Rattle.ceal_repair.specs.Covered.{queue_of, and_one, Covers, contents_after}
-use Rattle.ceal_repair.specs.Kept.{InStep, Kept, CoveredBy, AreReads, IsAwake, Records, IsHonestRecord, IsStale, base_in, contents_at}
-use Rattle.ceal_repair.specs.Lists.{IsTabled, IsKeyed, is_hashed, reads_at, write_of, writes_in, before}
+use Rattle.ceal_repair.specs.Chain.{Chained}
+use Rattle.ceal_repair.specs.Covered.{queue_of, and_one, contents_after}
+use Rattle.ceal_repair.specs.Kept.{InStep, Kept, ChainedBy, AreReads, IsAwake, Records, IsHonestRecord, IsStale, base_in, contents_at}
+use Rattle.ceal_repair.specs.Lists.{IsTabled, IsKeyed, key_of, entries_in, reads_at, write_of, writes_in, before}
 use Rattle.ceal_repair.specs.declared.tables.Tables.{Tables}
 use Rattle.ceal_trace.proofs.Parts.{changed-part}
 use Rattle.ceal_trace.specs.Nodes.{Entry, Timeline, IsTrace, NoLooseEnd, OneMoreNode, stamps_in, has_node, node_at, is_read, end_in, without_entry, value_set, with_value, valued, SameBut, held_by}
@@ -42,8 +45,8 @@ mods-deleted s mods old new f more free = λ p. record {
   reads = rising_deleted s (cell_of mods p).reads old new (f p).reads more (free p).1;
 }
 
-pub memo-deleted : (s : ℕ) (memo : Entries) (old new : List ℕ) → Memo_follows old memo → OneMore s new old → HasNone s memo → Memo_follows new memo
-memo-deleted s memo old new f more none = record { rising = λ hash. rising_deleted s (entries_of memo hash) old new (f.rising hash) more (none.none hash) }
+pub memo-deleted : (s : ℕ) (memo : Entered) (old new : List ℕ) → Memo_follows old memo → OneMore s new old → HasNone s memo → Memo_follows new memo
+memo-deleted = follows_deleted
 
 -- a node that is no read has no end
 pub no-end : (s : ℕ) (n : Node) (t : Timeline) → IsTrace t → node_at s t.nodes ≡ Some n → is_read (Some n) ≡ false → end_in s t.nodes ≡ None
@@ -108,30 +111,26 @@ module _ (old : Tables) (k : Kept old) (s : ℕ) (n : Node) (at_it : node_at s o
   tabled-old : (mods : Contents) → IsTabled old.trace.nodes mods → IsTabled (cutting.front ++ cutting.e ∷ cutting.back) mods
   tabled-old mods t = subst (λ (l : List Entry). IsTabled l mods) cutting.was t
 
-  keyed-old : IsKeyed (cutting.front ++ cutting.e ∷ cutting.back) old.memo
-  keyed-old = subst (λ (l : List Entry). IsKeyed l old.memo) cutting.was k.step.keyed
-
   unqueued : is_read (Some n) ≡ false → is_in s old.stale.stamps ≡ false
   unqueued plain = no-read s old.trace.nodes old.stale.stamps k.step.queued (ap is_read at_it ∙ plain)
 
   -- an allocation
-  pub alloc-cut-kept : (b : BlockId) (key : Key) → n ≡ Alloc b key → (memo : Entries) → ((hash : ℕ) → entries_of memo hash ≡ without s (entries_of old.memo hash))
+  pub alloc-cut-kept : (b : BlockId) (key : Key) → n ≡ Alloc b key → (memo : Entered) → Holds memo (without_key s (entries_in old.trace.nodes))
       → HasNone s memo → Memo_follows (stamps_in old.trace.nodes) memo → Kept (tables tr old.mods old.stale memo)
   alloc-cut-kept b key e memo entries none ef = record {
     step = record {
       whole = whole;
       closed = closed;
       tabled = tabled;
-      keyed = subst (λ (l : List Entry). IsKeyed l memo) (sym left) (keyed-cut cutting.front cutting.e cutting.back parted old.memo memo keyed-old
-          (λ hash. subst (λ z. entries_of memo hash ≡ without z (entries_of old.memo hash)) (sym cutting.stamp) (entries hash)));
+      keyed = keyed-cut s old.trace.nodes tr.nodes is gone memo entries;
       queued = fewer-reads s old.trace.nodes tr.nodes old.stale.stamps more.stamps more.entries (unqueued plain) k.step.queued;
       mods = mods-deleted s old.mods (stamps_in old.trace.nodes) (stamps_in tr.nodes) k.step.mods more.stamps (free-of s tr.nodes old.mods tabled gone);
       memo = memo-deleted s memo (stamps_in old.trace.nodes) (stamps_in tr.nodes) ef more.stamps none;
       stale = rising_deleted s old.stale.stamps (stamps_in old.trace.nodes) (stamps_in tr.nodes) k.step.stale more.stamps (unqueued plain);
     };
-    covered = subst (λ (l : List Entry). Covers (queue_of old.stale.stamps) (base_in old.mods) (λ p. false) l) (sym left)
-        (quiet-cut (queue_of old.stale.stamps) (base_in old.mods) (λ p. false) cutting.front cutting.e cutting.back (quiet-as cutting.e.node (cutting.node ∙ e))
-        (subst (λ (l : List Entry). Covers (queue_of old.stale.stamps) (base_in old.mods) (λ p. false) l) cutting.was k.covered));
+    chained = subst (λ (l : List Entry). Chained (queue_of old.stale.stamps) (base_in old.mods) l) (sym left)
+        (quiet-cut (queue_of old.stale.stamps) (base_in old.mods) cutting.front cutting.e cutting.back (quiet-as cutting.e.node (cutting.node ∙ e))
+        (subst (λ (l : List Entry). Chained (queue_of old.stale.stamps) (base_in old.mods) l) cutting.was k.chained));
   }
     where
       plain : is_read (Some n) ≡ false
@@ -180,9 +179,10 @@ module _ (old : Tables) (k : Kept old) (s : ℕ) (n : Node) (at_it : node_at s o
 
     pub write-cut-kept : (stale : Waiting) → ((t : ℕ) → is_in t old.stale.stamps ≡ true → is_in t stale.stamps ≡ true)
         → ((t : ℕ) → is_in t old.stale.stamps ≡ false → is_in t stale.stamps ≡ true → is_in t (cell_of mods p).reads ≡ true)
+        → ((r : ℕ) → is_in r old.stale.stamps ≡ true → place s (stamps_in old.trace.nodes) ≤ place r (stamps_in old.trace.nodes))
         → (v ≡ contents_at s old p) ⊎ IsAwake (stamps_in old.trace.nodes) (cell_of mods p) s stale.stamps
         → Mods_follow (stamps_in old.trace.nodes) mods → Queue_follows (stamps_in old.trace.nodes) stale → Kept (tables tr mods stale old.memo)
-    write-cut-kept stale keep only awake mf qf = record {
+    write-cut-kept stale keep only first awake mf qf = record {
       step = record {
         whole = whole;
         closed = closed;
@@ -194,10 +194,11 @@ module _ (old : Tables) (k : Kept old) (s : ℕ) (n : Node) (at_it : node_at s o
         memo = memo-deleted s old.memo (stamps_in old.trace.nodes) (stamps_in tr.nodes) k.step.memo more.stamps (none-of s tr.nodes old.memo keyed gone);
         stale = rising_deleted s stale.stamps (stamps_in old.trace.nodes) (stamps_in tr.nodes) qf more.stamps now-none;
       };
-      covered = subst (λ (l : List Entry). Covers (queue_of stale.stamps) (base_in mods) (λ p. false) l) (sym left)
-          (write-cut-covered cutting.front cutting.e cutting.back old.trace.nodes p v cutting.was (cutting.node ∙ e) k.step.whole.order.distinct old.mods mods write-cut-bases
+      chained = subst (λ (l : List Entry). Chained (queue_of stale.stamps) (base_in mods) l) (sym left)
+          (write-cut-chained cutting.front cutting.e cutting.back old.trace.nodes p v cutting.was (cutting.node ∙ e) k.step.whole.order.distinct old.mods mods write-cut-bases
           (subst (λ (l : List Entry). IsTabled l mods) left write-cut-tabled) old.stale.stamps stale.stamps keep
-          (told awake) k.covered);
+          (subst (λ z. (r : ℕ) → is_in r old.stale.stamps ≡ true → place z (stamps_in old.trace.nodes) ≤ place r (stamps_in old.trace.nodes)) (sym cutting.stamp) first)
+          (told awake) k.chained);
     }
       where
         told : (v ≡ contents_at s old p) ⊎ IsAwake (stamps_in old.trace.nodes) (cell_of mods p) s stale.stamps
@@ -208,11 +209,8 @@ module _ (old : Tables) (k : Kept old) (s : ℕ) (n : Node) (at_it : node_at s o
         none : is_in s old.stale.stamps ≡ false
         none = unqueued (rw e refl)
 
-        no-write-key : (hash : ℕ) (i : Node) → i ≡ Write p v → is_hashed hash i ≡ false
-        no-write-key hash i h = rw h refl
-
         keyed : IsKeyed tr.nodes old.memo
-        keyed = subst (λ (l : List Entry). IsKeyed l old.memo) (sym left) (keyed-out cutting.front cutting.e cutting.back old.memo (λ hash. no-write-key hash cutting.e.node (cutting.node ∙ e)) keyed-old)
+        keyed = keyed-out s old.trace.nodes tr.nodes is gone n at_it (rw e refl) old.memo k.step.keyed
 
         now-none : is_in s stale.stamps ≡ false
         now-none = false-of (is_in s stale.stamps) (λ i. sym (only s none i) ∙ (write-cut-free p).1)
@@ -224,9 +222,6 @@ stamp-of s = record { 0 = s }
 
 end-no-read : (p : Place) (y : Stamp) (i : Node) → i ≡ End y → reads_at p i ≡ false
 end-no-read p y i h = rw h refl
-
-end-no-key : (hash : ℕ) (y : Stamp) (i : Node) → i ≡ End y → is_hashed hash i ≡ false
-end-no-key hash y i h = rw h refl
 
 end-as : (y : Stamp) (i : Node) → i ≡ End y → IsQuiet i
 end-as y i h = rw h (end-quiet y)
@@ -241,7 +236,7 @@ tells (Write q w) = false
 module _ (old : Tables) (k : Kept old) (s z : ℕ) (p : Place) (v : Word) (r : Records p v (node_at s old.trace.nodes)) (fin : end_in s old.trace.nodes ≡ Some z)
     (one two : Timeline) (is1 : one.nodes ≡ without_entry s old.trace.nodes) (more1 : OneMoreNode s one.nodes old.trace.nodes) (is2 : two.nodes ≡ without_entry z one.nodes) (more2 : OneMoreNode z two.nodes one.nodes)
     (whole1 : IsTrace one) (mods : Contents) (change : Changes old.mods mods p (without_read s (cell_of old.mods p)))
-    (memo : Entries) (entered : (hash : ℕ) → entries_of memo hash ≡ without s (entries_of old.memo hash)) where
+    (memo : Entered) (entered : Holds memo (without_key s (entries_in old.trace.nodes))) where
   read-part : PartAt s (Read p v r.unit r.var r.args) old.trace.nodes
   read-part = part-at s (Read p v r.unit r.var r.args) old.trace.nodes r.is
 
@@ -283,14 +278,13 @@ module _ (old : Tables) (k : Kept old) (s z : ℕ) (p : Place) (v : Word) (r : R
       (subst (λ (l : List Entry). IsTabled l old.mods) read-part.was k.step.tabled) (subst (λ y. Changes old.mods mods p (without_read y (cell_of old.mods p))) (sym read-part.stamp) change))
 
   keyed1 : IsKeyed one.nodes memo
-  keyed1 = subst (λ (l : List Entry). IsKeyed l memo) (sym left1) (keyed-cut read-part.front read-part.e read-part.back parted1 old.memo memo (subst (λ (l : List Entry). IsKeyed l old.memo) read-part.was k.step.keyed)
-      (λ hash. subst (λ y. entries_of memo hash ≡ without y (entries_of old.memo hash)) (sym read-part.stamp) (entered hash)))
+  keyed1 = keyed-cut s old.trace.nodes one.nodes is1 gone1 memo entered
 
   tabled2 : IsTabled two.nodes mods
   tabled2 = subst (λ (l : List Entry). IsTabled l mods) (sym left2) (tabled-out end-part.front end-part.e end-part.back mods (λ q. end-no-read q (stamp-of s) end-part.e.node end-part.node) (λ q. end-no-write q end-part.e.stamp end-part.e.node (writes_in q end-part.back) (stamp-of s) end-part.node) (subst (λ (l : List Entry). IsTabled l mods) end-part.was tabled1))
 
   keyed2 : IsKeyed two.nodes memo
-  keyed2 = subst (λ (l : List Entry). IsKeyed l memo) (sym left2) (keyed-out end-part.front end-part.e end-part.back memo (λ hash. end-no-key hash (stamp-of s) end-part.e.node end-part.node) (subst (λ (l : List Entry). IsKeyed l memo) end-part.was keyed1))
+  keyed2 = keyed-out z one.nodes two.nodes is2 gone2 (End (stamp-of s)) end-is refl memo keyed1
 
   pub read-cut-bases : (q : Place) → base_in mods q ≡ base_in old.mods q
   read-cut-bases q = go (same_place q p) refl
@@ -344,16 +338,20 @@ module _ (old : Tables) (k : Kept old) (s z : ℕ) (p : Place) (v : Word) (r : R
         stale = rising_deleted z stale.stamps (stamps_in one.nodes) (stamps_in two.nodes)
             (rising_deleted s stale.stamps (stamps_in old.trace.nodes) (stamps_in one.nodes) qf more1.stamps none) more2.stamps end-none;
       };
-      covered = covers-base (queue_of stale.stamps) (base_in old.mods) (base_in mods) (λ q. false) two.nodes (λ q. sym (read-cut-bases q))
-          (subst (λ (l : List Entry). Covers (queue_of stale.stamps) (base_in old.mods) (λ q. false) l) (sym left2)
-          (quiet-cut (queue_of stale.stamps) (base_in old.mods) (λ q. false) end-part.front end-part.e end-part.back (end-as (stamp-of s) end-part.e.node end-part.node)
-          (subst (λ (l : List Entry). Covers (queue_of stale.stamps) (base_in old.mods) (λ q. false) l) (sym left1 ∙ end-part.was)
-          (read-cut-covered read-part.front read-part.e read-part.back old.trace.nodes p v r.unit r.var r.args read-part.was read-part.node k.step.whole.order.distinct old.mods k.step.tabled old.stale.stamps stale.stamps
+      chained = chained-base (queue_of stale.stamps) (base_in old.mods) (base_in mods) two.nodes (λ q. sym (read-cut-bases q))
+          (subst (λ (l : List Entry). Chained (queue_of stale.stamps) (base_in old.mods) l) (sym left2)
+          (quiet-cut (queue_of stale.stamps) (base_in old.mods) end-part.front end-part.e end-part.back (end-as (stamp-of s) end-part.e.node end-part.node)
+          (subst (λ (l : List Entry). Chained (queue_of stale.stamps) (base_in old.mods) l) (sym left1 ∙ end-part.was)
+          (read-cut-chained read-part.front read-part.e read-part.back old.trace.nodes p v r.unit r.var r.args read-part.was read-part.node k.step.whole.order.distinct old.mods k.step.tabled old.stale.stamps stale.stamps
           (λ t ne. keep t (λ e. ne (e ∙ sym read-part.stamp)))
-          (λ i. subst (λ y. IsAwake (stamps_in old.trace.nodes) (cell_of old.mods p) y stale.stamps) (sym read-part.stamp) (awake (subst (λ y. is_in y old.stale.stamps ≡ true) read-part.stamp i))) k.covered))));
+          (λ i. subst (λ y. IsAwake (stamps_in old.trace.nodes) (cell_of old.mods p) y stale.stamps) (sym read-part.stamp) (awake (subst (λ y. is_in y old.stale.stamps ≡ true) read-part.stamp i))) k.chained))));
     }
 
 -- ---- a read is looked at
+
+-- lists of the same cells follow the same order
+pub follows-same : (order : List ℕ) (a b : Contents) → b.cells ≡ a.cells → Mods_follow order a → Mods_follow order b
+follows-same order a b cells f = λ q. subst (λ (c : Cell). Rattle.ceal_mods.specs.Cell.Rises order c) (sym (cell-same q b a cells)) (f q)
 
 records-same : (p q : Place) (v w : Word) (n : Option Node) → Records p v n → Records q w n → (p ≡ q) × (v ≡ w)
 records-same p q v w n a b = same (some-same (Read p v a.unit a.var a.args) (Read q w b.unit b.var b.args) (sym a.is ∙ b.is))
@@ -379,68 +377,68 @@ module _ (old : Tables) (k : InStep old) (s : ℕ) (p : Place) (v now : Word) (r
   pub stale-read : v ≢ now → IsStale s old
   stale-read differ = record { place = p; value = v; read = r; differs = λ e. differ (e ∙ sym now-is) }
 
-  module _ (covered : CoveredBy (and_one s old.stale.stamps) old) (mods : Contents) (cells : mods.cells ≡ old.mods.cells) (stale : Waiting)
-      (more : (t : ℕ) → is_in t old.stale.stamps ≡ true → is_in t stale.stamps ≡ true)
-      (only : (t : ℕ) → is_in t old.stale.stamps ≡ false → is_in t stale.stamps ≡ true → is_in t (cell_of old.mods p).reads ≡ true)
-      (awake : IsAwake (stamps_in old.trace.nodes) (cell_of old.mods p) s stale.stamps) (qf : Queue_follows (stamps_in old.trace.nodes) stale) where
+  module _ (chained : ChainedBy (and_one s old.stale.stamps) old) (first : (r : ℕ) → is_in r old.stale.stamps ≡ true → place s (stamps_in old.trace.nodes) ≤ place r (stamps_in old.trace.nodes))
+      (mods : Contents) (cells : mods.cells ≡ old.mods.cells) where
     bases : (q : Place) → base_in old.mods q ≡ base_in mods q
     bases q = ap (λ (c : Cell). c.base) (sym (cell-same q mods old.mods cells))
 
     mods-now : Mods_follow (stamps_in old.trace.nodes) mods
-    mods-now = λ q. subst (λ (c : Cell). Rattle.ceal_mods.specs.Cell.Rises (stamps_in old.trace.nodes) c) (sym (cell-same q mods old.mods cells)) (k.mods q)
+    mods-now = follows-same (stamps_in old.trace.nodes) old.mods mods cells k.mods
 
-    queued : AreReads old.trace.nodes stale.stamps
-    queued = are-reads p old.trace.nodes old.mods old.stale.stamps stale.stamps k.whole.order.distinct k.tabled k.queued only
+    own-chained : ChainedBy (and_one look-part.e.stamp old.stale.stamps) old
+    own-chained = subst (λ z. ChainedBy (and_one z old.stale.stamps) old) (sym look-part.stamp) chained
 
-    settled : (w : Word) → w ≡ now → Covers (queue_of stale.stamps) (base_in mods) (λ q. false) (look-part.front ++ record { stamp = look-part.e.stamp; node = Read p w r.unit r.var r.args; steps = look-part.e.steps } ∷ look-part.back)
-    settled w is = covers-base (queue_of stale.stamps) (base_in old.mods) (base_in mods) (λ q. false) (look-part.front ++ record { stamp = look-part.e.stamp; node = Read p w r.unit r.var r.args; steps = look-part.e.steps } ∷ look-part.back) bases
-        (settled-covered look-part.front look-part.e look-part.back old.trace.nodes p v w r.unit r.var r.args look-part.was look-part.node k.whole.order.distinct old.mods k.tabled old.stale.stamps stale.stamps more
-        (subst (λ z. IsAwake (stamps_in old.trace.nodes) (cell_of old.mods p) z stale.stamps) (sym look-part.stamp) awake) (now-front ∙ sym is)
-        (subst (λ z. CoveredBy (and_one z old.stale.stamps) old) (sym look-part.stamp) covered))
-
-    own : look-part.e ≡ record { stamp = look-part.e.stamp; node = Read p v r.unit r.var r.args; steps = look-part.e.steps }
-    own = whole-entry look-part.e (Read p v r.unit r.var r.args) look-part.node
-      where
-        whole-entry : (e : Entry) (n : Node) → e.node ≡ n → e ≡ record { stamp = e.stamp; node = n; steps = e.steps }
-        whole-entry e n is = rw is refl
+    own-first : (r : ℕ) → is_in r old.stale.stamps ≡ true → place look-part.e.stamp (stamps_in old.trace.nodes) ≤ place r (stamps_in old.trace.nodes)
+    own-first = subst (λ z. (r : ℕ) → is_in r old.stale.stamps ≡ true → place z (stamps_in old.trace.nodes) ≤ place r (stamps_in old.trace.nodes)) (sym look-part.stamp) first
 
     -- it has the content of its moment
-    pub honest-kept : v ≡ now → Kept (tables old.trace mods stale old.memo)
+    pub honest-kept : v ≡ now → Kept (tables old.trace mods old.stale old.memo)
     honest-kept same = record {
       step = record {
         whole = k.whole;
         closed = k.closed;
         tabled = tabled-same old.trace.nodes old.mods mods (sym cells) k.tabled;
         keyed = k.keyed;
-        queued = queued;
+        queued = k.queued;
         mods = mods-now;
         memo = k.memo;
-        stale = qf;
+        stale = k.stale;
       };
-      covered = subst (λ (l : List Entry). Covers (queue_of stale.stamps) (base_in mods) (λ q. false) l) (sym (look-part.was ∙ ap (λ x. look-part.front ++ x ∷ look-part.back) own)) (settled v same);
+      chained = chained-base (queue_of old.stale.stamps) (base_in old.mods) (base_in mods) old.trace.nodes bases
+          (honest-chained look-part.front look-part.e look-part.back old.trace.nodes p v r.unit r.var r.args look-part.was look-part.node k.whole.order.distinct old.stale.stamps (base_in old.mods) own-first (now-front ∙ sym same) own-chained);
     }
 
     -- or gets it
-    pub settled-kept : (tr : Timeline) → tr.nodes ≡ with_value s now old.trace.nodes → node_at s tr.nodes ≡ option_map (valued now) (node_at s old.trace.nodes) → SameBut s old.trace.nodes tr.nodes → IsTrace tr → NoLooseEnd tr.nodes
+    pub settled-kept : (stale : Waiting) → ((t : ℕ) → is_in t old.stale.stamps ≡ true → is_in t stale.stamps ≡ true)
+        → ((t : ℕ) → is_in t old.stale.stamps ≡ false → is_in t stale.stamps ≡ true → is_in t (cell_of old.mods p).reads ≡ true)
+        → IsAwake (stamps_in old.trace.nodes) (cell_of old.mods p) s stale.stamps → Queue_follows (stamps_in old.trace.nodes) stale
+        → (tr : Timeline) → tr.nodes ≡ with_value s now old.trace.nodes → node_at s tr.nodes ≡ option_map (valued now) (node_at s old.trace.nodes) → SameBut s old.trace.nodes tr.nodes → IsTrace tr → NoLooseEnd tr.nodes
         → Kept (tables tr mods stale old.memo)
-    settled-kept tr is at_s others whole closed = record {
+    settled-kept stale more only awake qf tr is at_s others whole closed = record {
       step = record {
         whole = whole;
         closed = closed;
         tabled = subst (λ (l : List Entry). IsTabled l mods) (sym there) (tabled-with look-part.front look-part.e new look-part.back refl mods (λ q. reads-as q look-part.e.node look-part.node) (λ q. writes-as q look-part.e.stamp (writes_in q look-part.back) look-part.e.node look-part.node)
             (subst (λ (l : List Entry). IsTabled l mods) look-part.was (tabled-same old.trace.nodes old.mods mods (sym cells) k.tabled)));
-        keyed = subst (λ (l : List Entry). IsKeyed l old.memo) (sym there) (keyed-with look-part.front look-part.e new look-part.back refl old.memo (λ hash. hashed-as hash look-part.e.node look-part.node)
-            (subst (λ (l : List Entry). IsKeyed l old.memo) look-part.was k.keyed));
+        keyed = keyed-as old.trace.nodes tr.nodes old.memo key-still k.keyed;
         queued = λ z i. read-still z (queued z i);
         mods = subst (λ (l : List ℕ). Mods_follow l mods) (sym others.stamps) mods-now;
         memo = subst (λ (l : List ℕ). Memo_follows l old.memo) (sym others.stamps) k.memo;
         stale = subst (λ (l : List ℕ). Queue_follows l stale) (sym others.stamps) qf;
       };
-      covered = subst (λ (l : List Entry). Covers (queue_of stale.stamps) (base_in mods) (λ q. false) l) (sym there) (settled now refl);
+      chained = subst (λ (l : List Entry). Chained (queue_of stale.stamps) (base_in mods) l) (sym there) settled;
     }
       where
         new : Entry
         new = record { stamp = look-part.e.stamp; node = Read p now r.unit r.var r.args; steps = look-part.e.steps }
+
+        queued : AreReads old.trace.nodes stale.stamps
+        queued = are-reads p old.trace.nodes old.mods old.stale.stamps stale.stamps k.whole.order.distinct k.tabled k.queued only
+
+        settled : Chained (queue_of stale.stamps) (base_in mods) (look-part.front ++ record { stamp = look-part.e.stamp; node = Read p now r.unit r.var r.args; steps = look-part.e.steps } ∷ look-part.back)
+        settled = chained-base (queue_of stale.stamps) (base_in old.mods) (base_in mods) (look-part.front ++ record { stamp = look-part.e.stamp; node = Read p now r.unit r.var r.args; steps = look-part.e.steps } ∷ look-part.back) bases
+            (settled-chained look-part.front look-part.e look-part.back old.trace.nodes p v now r.unit r.var r.args look-part.was look-part.node k.whole.order.distinct old.mods k.tabled old.stale.stamps stale.stamps more
+            (subst (λ z. IsAwake (stamps_in old.trace.nodes) (cell_of old.mods p) z stale.stamps) (sym look-part.stamp) awake) own-first now-front own-chained)
 
         reads-as : (q : Place) (i : Node) → i ≡ Read p v r.unit r.var r.args → reads_at q (Read p now r.unit r.var r.args) ≡ reads_at q i
         reads-as q i h = rw h refl
@@ -448,8 +446,11 @@ module _ (old : Tables) (k : InStep old) (s : ℕ) (p : Place) (v now : Word) (r
         writes-as : (q : Place) (st : ℕ) (l : List WriteOf) (i : Node) → i ≡ Read p v r.unit r.var r.args → write_of q st (Read p now r.unit r.var r.args) l ≡ write_of q st i l
         writes-as q st l i h = rw h refl
 
-        hashed-as : (hash : ℕ) (i : Node) → i ≡ Read p v r.unit r.var r.args → is_hashed hash (Read p now r.unit r.var r.args) ≡ is_hashed hash i
-        hashed-as hash i h = rw h refl
+        key-still : (z : ℕ) → entries_in tr.nodes z ≡ entries_in old.trace.nodes z
+        key-still z = elim (eqb_tells z s) [
+          | inl q ↦ rw (q.1, at_s, r.is) refl
+          | inr q ↦ ap (λ (o : Option Entry). key_of (held_by o)) (others.entries z q.1)
+        ]
 
         set-own : (e : Entry) → e.node ≡ Read p v r.unit r.var r.args → value_set now e ≡ record { stamp = e.stamp; node = Read p now r.unit r.var r.args; steps = e.steps }
         set-own e h = rw h refl
@@ -471,7 +472,7 @@ unqueued-honest t k s none first p v r =
     sym (moment s (Read p v r.unit r.var r.args) t at p
     ∙ read-honest (queue_of t.stale.stamps) (base_in t.mods) at.front at.e.stamp at.e.steps p v r.unit r.var r.args at.back none-front
     (is-queued at.e.stamp t.stale.stamps false (ap (λ z. is_in z t.stale.stamps) at.stamp ∙ none))
-    (subst (λ (l : List Entry). Covers (queue_of t.stale.stamps) (base_in t.mods) (λ q. false) l) (at.was ∙ ap (λ x. at.front ++ x ∷ at.back) (own at.e at.node)) k.covered))
+    (subst (λ (l : List Entry). Chained (queue_of t.stale.stamps) (base_in t.mods) l) (at.was ∙ ap (λ x. at.front ++ x ∷ at.back) (own at.e at.node)) k.chained))
   where
     at : PartAt s (Read p v r.unit r.var r.args) t.trace.nodes
     at = part-at s (Read p v r.unit r.var r.args) t.trace.nodes r.is
@@ -479,14 +480,47 @@ unqueued-honest t k s none first p v r =
     own : (e : Entry) → e.node ≡ Read p v r.unit r.var r.args → e ≡ record { stamp = e.stamp; node = Read p v r.unit r.var r.args; steps = e.steps }
     own e is = rw is refl
 
-    parted : Distinct (stamps_in (at.front ++ at.e ∷ at.back))
-    parted = subst (λ (l : List Entry). Distinct (stamps_in l)) at.was k.step.whole.order.distinct
-
     none-front : (z : ℕ) → is_in z (stamps_in at.front) ≡ true → queue_of t.stale.stamps z ≡ false
-    none-front z i = is-queued z t.stale.stamps false (false-of (is_in z t.stale.stamps) (λ j.
-        let a : place z (stamps_in t.trace.nodes) < place s (stamps_in t.trace.nodes) = subst (λ y. place z (stamps_in t.trace.nodes) < place y (stamps_in t.trace.nodes)) at.stamp
-        (subst (λ (l : List Entry). place z (stamps_in l) < place at.e.stamp (stamps_in l)) (sym at.was) (Rattle.ceal_repair.proofs.Lists.ListChanges.front-before at.front at.e at.back parted z i)) in
-        let b = first z j in absurd (omega (arith, a, b))))
+    none-front z i = is-queued z t.stale.stamps false (none-in-front at.front at.e at.back t.trace.nodes at.was k.step.whole.order.distinct t.stale.stamps
+        (subst (λ y. (r : ℕ) → is_in r t.stale.stamps ≡ true → place y (stamps_in t.trace.nodes) ≤ place r (stamps_in t.trace.nodes)) (sym at.stamp) first) z i)
+
+-- what a node that is a read records
+pub read-recorded : (n : Option Node) → is_read n ≡ true → (p : Place) × (v : Word) × Records p v n
+read-recorded None h = absurd (let no : false ≡ true = h in cc)
+read-recorded (Some Root) h = absurd (let no : false ≡ true = h in cc)
+read-recorded (Some (Alloc b key)) h = absurd (let no : false ≡ true = h in cc)
+read-recorded (Some (Write p v)) h = absurd (let no : false ≡ true = h in cc)
+read-recorded (Some (End r)) h = absurd (let no : false ≡ true = h in cc)
+read-recorded (Some (Read p v u x args)) h = (p, v, record { unit = u; var = x; args = args; is = refl })
+
+-- a read that is honest, with none queued before it, may leave the queue
+pub dismissed-kept : (t : Tables) → Kept t → (s : ℕ) → is_read (node_at s t.trace.nodes) ≡ true
+    → ((r : ℕ) → is_in r t.stale.stamps ≡ true → place s (stamps_in t.trace.nodes) ≤ place r (stamps_in t.trace.nodes)) → IsHonestRecord s t
+    → (stale : Waiting) → IsWithout s t.stale.stamps stale.stamps → Queue_follows (stamps_in t.trace.nodes) stale → Kept (tables t.trace t.mods stale t.memo)
+dismissed-kept t k s here first honest stale out qf =
+    let f = read-recorded (node_at s t.trace.nodes) here in
+    honest-kept (tables t.trace t.mods stale t.memo) in-step s f.0 f.1 (value_before (stamps_in t.trace.nodes) s (cell_of t.mods f.0)) f.2 refl
+    (chained-and s t.stale.stamps stale.stamps (base_in t.mods) t.trace.nodes out.others k.chained)
+    (still-first (stamps_in t.trace.nodes) t.stale.stamps stale.stamps s out first) t.mods refl
+    (honest f.0 f.1 f.2 ∙ sym (now-is (tables t.trace t.mods stale t.memo) in-step s f.0 f.1 (value_before (stamps_in t.trace.nodes) s (cell_of t.mods f.0)) f.2 refl))
+  where
+    same : (z : ℕ) → is_in z stale.stamps ≡ true → is_in z t.stale.stamps ≡ true
+    same z i = elim (eqb_tells z s) [
+      | inl q ↦ absurd (let no : true ≡ false = sym i ∙ (ap (λ w. is_in w stale.stamps) q.1 ∙ out.gone) in cc)
+      | inr q ↦ sym (out.others z q.1) ∙ i
+    ]
+
+    in-step : InStep (tables t.trace t.mods stale t.memo)
+    in-step = record {
+      whole = k.step.whole;
+      closed = k.step.closed;
+      tabled = k.step.tabled;
+      keyed = k.step.keyed;
+      queued = λ z i. k.step.queued z (same z i);
+      mods = k.step.mods;
+      memo = k.step.memo;
+      stale = qf;
+    }
 
 -- a queue of the same stamps will do
 pub same-queue : (old : Tables) → Kept old → (s : ℕ) → is_in s old.stale.stamps ≡ false → (stale : Waiting) → IsWithout s old.stale.stamps stale.stamps → Queue_follows (stamps_in old.trace.nodes) stale
@@ -502,7 +536,7 @@ same-queue old k s none stale out qf = record {
     memo = k.step.memo;
     stale = qf;
   };
-  covered = covers-more old.stale.stamps stale.stamps (base_in old.mods) old.trace.nodes more k.covered;
+  chained = chained-more old.stale.stamps stale.stamps (base_in old.mods) old.trace.nodes more k.chained;
 }
   where
     same : (z : ℕ) → is_in z stale.stamps ≡ true → is_in z old.stale.stamps ≡ true
@@ -517,7 +551,7 @@ same-queue old k s none stale out qf = record {
       | inr q ↦ out.others z q.1 ∙ i
     ]
 
-pub as-tables : (t : Tables) (tr : Timeline) (mods : Contents) (memo : Entries) → t.trace ≡ tr → t.mods ≡ mods → t.memo ≡ memo → Kept (tables tr mods t.stale memo) → Kept t
+pub as-tables : (t : Tables) (tr : Timeline) (mods : Contents) (memo : Entered) → t.trace ≡ tr → t.mods ≡ mods → t.memo ≡ memo → Kept (tables tr mods t.stale memo) → Kept t
 as-tables t tr mods memo e f g k =
     subst (λ a. Kept (tables a t.mods t.stale t.memo)) (sym e) (subst (λ a. Kept (tables tr a t.stale t.memo)) (sym f) (subst (λ a. Kept (tables tr mods t.stale a)) (sym g) k))
 
@@ -544,5 +578,5 @@ room-kept old stale k e qf = record {
     memo = k.step.memo;
     stale = qf;
   };
-  covered = rw e k.covered;
+  chained = rw e k.chained;
 }

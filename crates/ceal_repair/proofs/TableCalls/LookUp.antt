@@ -1,26 +1,29 @@
 -- What a look-up between two nodes answers.
-use Rattle.std.proofs.Common.{◌≡◌, ◌<◌, ◌≤◌, ◌+◌, ℕ, Bool, true, false, List, [], ◌∷◌, ◌++◌, length, refl, sym, ap, subst, ◌∙◌, arith, append_assoc, Option, Some, None, IfSome, IfNone}
+use Rattle.std.proofs.Common.{◌≡◌, ◌<◌, ◌≤◌, ◌+◌, ℕ, Bool, inl, inr, true, false, ◌==◌, List, [], ◌∷◌, ◌++◌, length, refl, sym, ap, subst, ◌∙◌, arith, append_assoc, Option, Some, None, IfSome, IfNone}
 use Rattle.std.specs.Prelude.{option_map}
 use Rattle.ceal_order.specs.declared.stamp.Stamp.{Stamp}
 use Rattle.std.proofs.lemmas.Bool.{eq-eqb}
+use Rattle.std.proofs.lemmas.Bool.Decides.{eqb_tells}
 use Rattle.ceal_base.specs.declared.forest.Key.{Key}
-use Rattle.ceal_memo.specs.Hashes.{read_hash, alloc_hash}
-use Rattle.ceal_memo.specs.Lists.{NoneBetween, those}
-use Rattle.ceal_memo.specs.Memo.{Entries, entries_of, entries_with}
-use Rattle.ceal_memo.specs.declared.key.ReadKey.{ReadKey}
+use Rattle.ceal_memo.specs.Keys.{EntryKey, OfRead, OfAlloc, ReadKey}
+use Rattle.ceal_memo.specs.Memo.{IsFirstWith, NoneWith}
 use Rattle.ceal_order.proofs.Places.{in_head, place_below, place_tells, place_head, place_tail}
 use Rattle.ceal_order.specs.Rising.{IsFirstAfter}
 use Rattle.ceal_order.specs.Stamps.{Distinct, is_in, place, head_of}
 use Rattle.ceal_repair.proofs.QueueCover.NodeChanges.{before-node, behind-node}
-use Rattle.ceal_repair.proofs.Lists.PartedLists.{place-front, place-back, where-append, where-among}
+use Rattle.ceal_repair.proofs.Lists.PartedLists.{place-front, place-back, where-append, where-among, where-holds}
 use Rattle.ceal_repair.proofs.Lists.ListChanges.{back-apart, in-back, in-front, in-parts}
-use Rattle.ceal_repair.proofs.Lists.ListsOfNodes.{read-key-same}
-use Rattle.ceal_repair.specs.Lists.{IsKeyed, is_so, is_hashed, allocates, recalls, allocates_at, recalls_at, stamps_where, before, behind, between}
+use Rattle.ceal_repair.proofs.Lists.ListsOfNodes.{read-key-same, read-key-refl, key-refl}
+use Rattle.ceal_repair.specs.Lists.{key_of, entries_in, allocates, recalls, stamps_where, before, behind, between}
 use Rattle.ceal_theory.proofs.Reuse.TakenItems.{key-same}
-use Rattle.ceal_trace.proofs.Parts.{stamps-append, split_at, entry-part, not_before}
-use Rattle.ceal_trace.specs.Nodes.{Entry, stamps_in, has_node, node_at, held_by, position}
+use Rattle.ceal_trace.proofs.Parts.{stamps-append, split_at}
+use Rattle.ceal_trace.specs.Nodes.{Entry, stamps_in, has_node, node_at, position}
 use Rattle.ceal_trace.specs.declared.node.Node.{Node}
 use Rattle.ceal_trace.specs.declared.node.Node.TheVariants.{Root, Alloc, Write, Read, End}
+
+-- none of these stands between two stamps
+abbrev NoneBetween : List ℕ → List ℕ → ℕ → ℕ → Type 0
+NoneBetween order stamps after until = (s : ℕ) → is_in s stamps ≡ true → place after order < place s order → place until order ≤ place s order
 
 -- the first of a list stands before the others of it
 where-first : (f : Node → Bool) (es : List Entry) (x : ℕ) (xs : List ℕ) → Distinct (stamps_in es) → stamps_where f es ≡ x ∷ xs
@@ -228,56 +231,101 @@ module _ (f : Node → Bool) (after until : ℕ) (nodes : List Entry) (distinct 
   found-as None a b c = sym (none-between c)
   found-as (Some s) a b c = sym (found-between s.0 a b)
 
--- ---- nodes with a hash, and those of them with a key
+-- ---- nodes with a key
 
--- those of the nodes with a hash that have a key are all that have it, where what has the key has the hash
-module _ (has hashed : Node → Bool) (covered : (n : Node) → has n ≡ true → hashed n ≡ true) (nodes : List Entry) (distinct : Distinct (stamps_in nodes)) where
-  keyed-from : (front es : List Entry) → nodes ≡ front ++ es → those (λ s. is_so has (node_at s nodes)) (stamps_where hashed es) ≡ stamps_where has es
-  keyed-from front [] was = refl
-  keyed-from front (e ∷ es) was = go (has e.node) (hashed e.node) refl refl (keyed-from (front ++ e ∷ []) es (was ∙ sym (append_assoc front (e ∷ []) es)))
-    where
-      here : node_at e.stamp nodes ≡ Some e.node
-      here = subst (λ l. node_at e.stamp l ≡ Some e.node) (sym was) (ap held_by (entry-part e es front (not_before front e es (subst (λ l. Distinct (stamps_in l)) was distinct))))
+-- a node of which something is true is one of those
+where-there : (f : Node → Bool) (es : List Entry) (t : ℕ) (n : Node) → node_at t es ≡ Some n → f n ≡ true → is_in t (stamps_where f es) ≡ true
+where-there f [] t n at_it so = absurd (let no : None ≡ Some n = at_it in cc)
+where-there f (e ∷ es) t n at_it so = elim (eqb_tells e.stamp t) [
+  | inl p ↦ (let same : e.node ≡ n = some-node e.node n (rw p.0 at at_it) in rw (same, so, p.0) refl)
+  | inr p ↦ by (f e.node) refl p.0 (where-there f es t n (rw p.0 at at_it) so)
+]
+  where
+    some-node : (a b : Node) → Some a ≡ Some b → a ≡ b
+    some-node a b same = cc
 
-      there : is_so has (node_at e.stamp nodes) ≡ has e.node
-      there = ap (is_so has) here
+    by : (b : Bool) → f e.node ≡ b → (e.stamp == t) ≡ false → is_in t (stamps_where f es) ≡ true → is_in t (stamps_where f (e ∷ es)) ≡ true
+    by true p q rest = rw (p, q) rest
+    by false p q rest = rw p rest
 
-      go : (b c : Bool) → has e.node ≡ b → hashed e.node ≡ c → those (λ s. is_so has (node_at s nodes)) (stamps_where hashed es) ≡ stamps_where has es
-          → those (λ s. is_so has (node_at s nodes)) (stamps_where hashed (e ∷ es)) ≡ stamps_where has (e ∷ es)
-      go true true h k rest = rw (k, there, h) (ap (λ (l : List ℕ). e.stamp ∷ l) rest)
-      go true false h k rest = absurd (let no : false ≡ true = sym k ∙ covered e.node h in cc)
-      go false true h k rest = rw (k, there, h) rest
-      go false false h k rest = rw (k, h) rest
+-- what tells a key
+pub record Tells (f : Node → Bool) (key : EntryKey) : Type 0 where
+  pub has : (n : Node) → f n ≡ true → key_of (Some n) ≡ Some key
+  pub all : (o : Option Node) → key_of o ≡ Some key → (n : Node) × (o ≡ Some n) × (f n ≡ true)
 
-  pub keyed-all : those (λ s. is_so has (node_at s nodes)) (stamps_where hashed nodes) ≡ stamps_where has nodes
-  keyed-all = keyed-from [] nodes refl
+same-key : (a b : EntryKey) → Some a ≡ Some b → a ≡ b
+same-key a b same = cc
 
--- what has the key of a read has its hash
-pub recalled-hash : (key : ReadKey) (n : Node) → recalls key n ≡ true → is_hashed (read_hash key) n ≡ true
-recalled-hash key (Read p v u x args) h =
-    eq-eqb _ _ (ap read_hash (read-key-same (record { place = p; unit = u; var = x; args = args }) key h))
-recalled-hash key (Alloc b k) h = absurd (let no : false ≡ true = h in cc)
-recalled-hash key (Write p v) h = absurd (let no : false ≡ true = h in cc)
-recalled-hash key (End r) h = absurd (let no : false ≡ true = h in cc)
-recalled-hash key Root h = absurd (let no : false ≡ true = h in cc)
+same-read-key : (a b : ReadKey) → OfRead a ≡ OfRead b → a ≡ b
+same-read-key a b same = cc
 
--- and what has the key of an allocation
-pub allocated-hash : (key : Key) (n : Node) → allocates key n ≡ true → is_hashed (alloc_hash key) n ≡ true
-allocated-hash key (Alloc b k) h = eq-eqb _ _ (ap alloc_hash (key-same k key h))
-allocated-hash key (Read p v u x args) h = absurd (let no : false ≡ true = h in cc)
-allocated-hash key (Write p v) h = absurd (let no : false ≡ true = h in cc)
-allocated-hash key (End r) h = absurd (let no : false ≡ true = h in cc)
-allocated-hash key Root h = absurd (let no : false ≡ true = h in cc)
+same-alloc-key : (a b : Key) → OfAlloc a ≡ OfAlloc b → a ≡ b
+same-alloc-key a b same = cc
 
-module _ (nodes : List Entry) (memo : Entries) (keyed : IsKeyed nodes memo) (distinct : Distinct (stamps_in nodes)) where
-  pub reads-listed : (key : ReadKey) → entries_with memo (read_hash key) (λ s. recalls_at key s nodes) ≡ stamps_where (recalls key) nodes
-  reads-listed key =
-      ap (those (λ s. recalls_at key s nodes)) (keyed.stamps (read_hash key)) ∙ keyed-all (recalls key) (is_hashed (read_hash key)) (recalled-hash key) nodes distinct
+pub read-tells : (key : ReadKey) → Tells (recalls key) (OfRead key)
+read-tells key = record { has = has; all = all }
+  where
+    has : (n : Node) → recalls key n ≡ true → key_of (Some n) ≡ Some (OfRead key)
+    has (Read p v u x args) h = ap (λ k. Some (OfRead k)) (read-key-same (record { place = p; unit = u; var = x; args = args }) key h)
+    has (Alloc b k) h = absurd (let no : false ≡ true = h in cc)
+    has (Write p v) h = absurd (let no : false ≡ true = h in cc)
+    has (End r) h = absurd (let no : false ≡ true = h in cc)
+    has Root h = absurd (let no : false ≡ true = h in cc)
 
-  pub allocs-listed : (key : Key) → entries_with memo (alloc_hash key) (λ s. allocates_at key s nodes) ≡ stamps_where (allocates key) nodes
-  allocs-listed key =
-      ap (those (λ s. allocates_at key s nodes)) (keyed.stamps (alloc_hash key)) ∙ keyed-all (allocates key) (is_hashed (alloc_hash key)) (allocated-hash key) nodes distinct
+    all : (o : Option Node) → key_of o ≡ Some (OfRead key) → (n : Node) × (o ≡ Some n) × (recalls key n ≡ true)
+    all None h = absurd (let no : None ≡ Some (OfRead key) = h in cc)
+    all (Some (Read p v u x args)) h =
+        let same = same-read-key (record { place = p; unit = u; var = x; args = args }) key (same-key _ _ h) in
+        (Read p v u x args, refl, subst (λ k. recalls k (Read p v u x args) ≡ true) same (read-key-refl (record { place = p; unit = u; var = x; args = args })))
+    all (Some (Alloc b k)) h = absurd (let no : OfAlloc k ≡ OfRead key = same-key _ _ h in cc)
+    all (Some (Write p v)) h = absurd (let no : None ≡ Some (OfRead key) = h in cc)
+    all (Some (End r)) h = absurd (let no : None ≡ Some (OfRead key) = h in cc)
+    all (Some Root) h = absurd (let no : None ≡ Some (OfRead key) = h in cc)
 
-  -- each entry is that of a node
-  pub entries-there : (hash s : ℕ) → is_in s (entries_of memo hash) ≡ true → has_node s nodes ≡ true
-  entries-there hash s i = where-among (is_hashed hash) nodes s (subst (λ (l : List ℕ). is_in s l ≡ true) (keyed.stamps hash) i)
+pub alloc-tells : (key : Key) → Tells (allocates key) (OfAlloc key)
+alloc-tells key = record { has = has; all = all }
+  where
+    has : (n : Node) → allocates key n ≡ true → key_of (Some n) ≡ Some (OfAlloc key)
+    has (Alloc b k) h = ap (λ i. Some (OfAlloc i)) (key-same k key h)
+    has (Read p v u x args) h = absurd (let no : false ≡ true = h in cc)
+    has (Write p v) h = absurd (let no : false ≡ true = h in cc)
+    has (End r) h = absurd (let no : false ≡ true = h in cc)
+    has Root h = absurd (let no : false ≡ true = h in cc)
+
+    all : (o : Option Node) → key_of o ≡ Some (OfAlloc key) → (n : Node) × (o ≡ Some n) × (allocates key n ≡ true)
+    all None h = absurd (let no : None ≡ Some (OfAlloc key) = h in cc)
+    all (Some (Alloc b k)) h =
+        let same = same-alloc-key k key (same-key _ _ h) in
+        (Alloc b k, refl, subst (λ i. allocates i (Alloc b k) ≡ true) same (key-refl k))
+    all (Some (Read p v u x args)) h = absurd (let no : OfRead (record { place = p; unit = u; var = x; args = args }) ≡ OfAlloc key = same-key _ _ h in cc)
+    all (Some (Write p v)) h = absurd (let no : None ≡ Some (OfAlloc key) = h in cc)
+    all (Some (End r)) h = absurd (let no : None ≡ Some (OfAlloc key) = h in cc)
+    all (Some Root) h = absurd (let no : None ≡ Some (OfAlloc key) = h in cc)
+
+module _ (f : Node → Bool) (key : EntryKey) (tells : Tells f key) (nodes : List Entry) (distinct : Distinct (stamps_in nodes)) where
+  of-key : (t : ℕ) → is_in t (stamps_where f nodes) ≡ true → entries_in nodes t ≡ Some key
+  of-key t there =
+      let n = where-holds f nodes t distinct there in
+      ap key_of n.1 ∙ tells.has n.0 n.2
+
+  with-key : (t : ℕ) → entries_in nodes t ≡ Some key → is_in t (stamps_where f nodes) ≡ true
+  with-key t is =
+      let n = tells.all (node_at t nodes) is in
+      where-there f nodes t n.0 n.1 n.2
+
+  first-as : (after s : ℕ) → IsFirstWith (stamps_in nodes) (entries_in nodes) key after s → IsFirstAfter (stamps_in nodes) (stamps_where f nodes) after s
+  first-as after s first = record {
+    there = with-key s first.entry;
+    behind = first.behind;
+    nearest = λ t there later. first.earliest t (of-key t there) later;
+  }
+
+  none-as : (after until : ℕ) → NoneWith (stamps_in nodes) (entries_in nodes) key after until → NoneBetween (stamps_in nodes) (stamps_where f nodes) after until
+  none-as after until none t there later = none t (of-key t there) later
+
+  -- what the memo answers
+  pub looked-up : (after until : ℕ) → has_node after nodes ≡ true → has_node until nodes ≡ true → position after nodes < position until nodes → (o : Option Stamp)
+      → IfSome o (λ s. IsFirstWith (stamps_in nodes) (entries_in nodes) key after s.0) → IfSome o (λ s. place s.0 (stamps_in nodes) < place until (stamps_in nodes))
+      → IfNone o (NoneWith (stamps_in nodes) (entries_in nodes) key after until) → option_map (λ (s : Stamp). s.0) o ≡ head_of (stamps_where f (between after until nodes))
+  looked-up after until h k lt None a b c = found-as f after until nodes distinct h k lt None tt tt (none-as after until c)
+  looked-up after until h k lt (Some s) a b c = found-as f after until nodes distinct h k lt (Some s) (first-as after s.0 a) b tt

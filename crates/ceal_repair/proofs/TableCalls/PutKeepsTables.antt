@@ -1,33 +1,35 @@
--- Each call keeps the tables in step and the stale reads covered.
-use Rattle.std.proofs.Common.{◌≡◌, ℕ, inl, inr, Bool, true, false, List, ◌∷◌, ◌++◌, refl, sym, ap, subst, ◌∙◌}
+-- Each call keeps the tables in step and the reads chained.
+use Rattle.std.proofs.Common.{◌≡◌, ◌<◌, ℕ, inl, inr, Bool, true, false, List, ◌∷◌, ◌++◌, refl, sym, ap, subst, ◌∙◌, arith}
 use Rattle.ceal_base.specs.declared.forest.Key.{Key}
 use Rattle.ceal_base.specs.declared.word.BlockId.{BlockId}
 use Rattle.ceal_base.specs.declared.word.Place.{Place}
 use Rattle.ceal_base.specs.declared.word.Word.{Word}
-use Rattle.ceal_memo.specs.Lists.{with_stamp}
-use Rattle.ceal_memo.specs.Hashes.{read_hash, alloc_hash}
-use Rattle.ceal_memo.specs.Memo.{Entries, HasNone, EntriesChange, entries_of, Follows as Memo_follows}
+use Rattle.ceal_memo.specs.Keys.{OfRead, OfAlloc}
+use Rattle.ceal_memo.specs.Memo.{Contents as Entered, HasNone, Holds, with_key, Follows as Memo_follows}
 use Rattle.ceal_memo.specs.declared.key.ReadKey.{ReadKey}
 use Rattle.ceal_mods.specs.Cell.{with_write, with_read}
 use Rattle.ceal_mods.specs.Mods.{Contents, cell_of, Changes, IsFree, Follows as Mods_follow}
 use Rattle.ceal_mods.specs.declared.cell.Cell.{Cell}
-use Rattle.ceal_order.specs.Stamps.{Distinct, is_in}
+use Rattle.ceal_order.specs.Stamps.{Distinct, is_in, place}
 use Rattle.ceal_order.specs.declared.stamp.Stamp.{Stamp}
 use Rattle.ceal_queue.specs.Queue.{Waiting, Follows as Queue_follows}
-use Rattle.ceal_repair.proofs.QueueCover.NodeChanges.{PutAfter, put-after, read-has, are-reads, still-reads, covers-base, is-queued}
-use Rattle.ceal_repair.proofs.QueueCover.QueueChanges.{quiet-put, read-put}
-use Rattle.ceal_repair.proofs.TableCalls.CallsKeepCover.{alloc-quiet, end-quiet, tabled-with, keyed-with, steps-covered, write-put-covered}
-use Rattle.ceal_repair.proofs.Lists.ListsOfNodes.{alloc-no-write, end-no-write, other-place, tabled-in, keyed-in, tabled-write, tabled-read, keyed-entered, free-of, none-of}
-use Rattle.ceal_repair.specs.Covered.{queue_of, Covers, contents_after}
+use Rattle.ceal_repair.proofs.QueueCover.NodeChanges.{PutAfter, put-after, up-to-places, are-reads, still-reads, chained-base, is-queued}
+use Rattle.ceal_repair.proofs.Lists.PartedLists.{false-of}
+use Rattle.ceal_repair.proofs.QueueCover.ChainChanges.{quiet-put, read-put, front-held}
+use Rattle.ceal_repair.proofs.TableCalls.CallsKeepCover.{alloc-quiet, end-quiet, tabled-with, steps-chained, write-put-chained}
+use Rattle.ceal_repair.proofs.Lists.ListsOfNodes.{alloc-no-write, end-no-write, other-place, tabled-in, tabled-write, tabled-read, free-of}
+use Rattle.ceal_repair.proofs.Lists.KeyedNodes.{keyed-as, keyed-in, keyed-entered, none-of}
+use Rattle.ceal_repair.specs.Chain.{Chained}
+use Rattle.ceal_repair.specs.Covered.{queue_of, contents_after}
 use Rattle.ceal_repair.specs.Kept.{InStep, Kept, AreReads, IsAwake, base_in}
-use Rattle.ceal_repair.specs.Lists.{IsTabled, IsKeyed, writes_in, up_to}
+use Rattle.ceal_repair.specs.Lists.{IsTabled, writes_in, up_to, key_of, entries_in}
 use Rattle.ceal_repair.specs.declared.tables.Tables.{Tables}
 use Rattle.ceal_trace.proofs.Parts.{changed-part}
 use Rattle.ceal_trace.specs.Nodes.{Entry, Timeline, IsTrace, NoLooseEnd, Inserted, stamps_in, has_node, node_at, is_read, new_entry, with_entry_after, steps_set, with_steps, SameBut, held_by}
 use Rattle.ceal_trace.specs.declared.node.Node.{Node}
 use Rattle.ceal_trace.specs.declared.node.Node.TheVariants.{Alloc, Write, Read, End}
 
-abbrev pub tables : Timeline → Contents → Waiting → Entries → Tables
+abbrev pub tables : Timeline → Contents → Waiting → Entered → Tables
 tables trace mods stale memo = record { trace = trace; mods = mods; stale = stale; memo = memo }
 
 -- a change that leaves a place's base leaves all
@@ -57,30 +59,26 @@ module _ (old : Tables) (k : Kept old) (after s : ℕ) (n : Node) (tr : Timeline
   tabled-old : IsTabled (putting.front ++ putting.back) old.mods
   tabled-old = subst (λ (l : List Entry). IsTabled l old.mods) putting.was k.step.tabled
 
-  keyed-old : IsKeyed (putting.front ++ putting.back) old.memo
-  keyed-old = subst (λ (l : List Entry). IsKeyed l old.memo) putting.was k.step.keyed
-
   still-queued : AreReads tr.nodes old.stale.stamps
   still-queued = still-reads old.trace.nodes tr.nodes old.stale.stamps ins.others.entries k.step.queued
 
   -- an allocation
-  pub alloc-kept : (b : BlockId) (key : Key) → n ≡ Alloc b key → (memo : Entries) → EntriesChange (alloc_hash key) (with_stamp (stamps_in tr.nodes) s (entries_of old.memo (alloc_hash key))) old.memo memo
+  pub alloc-kept : (b : BlockId) (key : Key) → n ≡ Alloc b key → (memo : Entered) → Holds memo (with_key s (OfAlloc key) (entries_in old.trace.nodes))
       → Mods_follow (stamps_in tr.nodes) old.mods → Memo_follows (stamps_in tr.nodes) memo → Queue_follows (stamps_in tr.nodes) old.stale → Kept (tables tr old.mods old.stale memo)
   alloc-kept b key e memo change mf ef qf = record {
     step = record {
       whole = whole;
       closed = closed;
       tabled = subst (λ (l : List Entry). IsTabled l old.mods) (sym putting.is) (tabled-in putting.front (new_entry s n) putting.back old.mods (λ p. rw e refl) (λ p. alloc-no-write p s n (writes_in p putting.back) b key e) tabled-old);
-      keyed = subst (λ (l : List Entry). IsKeyed l memo) (sym putting.is) (keyed-entered putting.front (new_entry s n) putting.back parted (alloc_hash key) (λ h. rw e refl) old.memo memo keyed-old
-          (subst (λ (l : List Entry). EntriesChange (alloc_hash key) (with_stamp (stamps_in l) s (entries_of old.memo (alloc_hash key))) old.memo memo) putting.is change));
+      keyed = keyed-entered after s n old.trace.nodes tr.nodes is ins.new ins.node (OfAlloc key) (rw e refl) memo change;
       queued = still-queued;
       mods = mf;
       memo = ef;
       stale = qf;
     };
-    covered = subst (λ (l : List Entry). Covers (queue_of old.stale.stamps) (base_in old.mods) (λ p. false) l) (sym putting.is)
-        (quiet-put (queue_of old.stale.stamps) (base_in old.mods) (λ p. false) putting.front (new_entry s n) putting.back (rw e (alloc-quiet b key))
-        (subst (λ (l : List Entry). Covers (queue_of old.stale.stamps) (base_in old.mods) (λ p. false) l) putting.was k.covered));
+    chained = subst (λ (l : List Entry). Chained (queue_of old.stale.stamps) (base_in old.mods) l) (sym putting.is)
+        (quiet-put (queue_of old.stale.stamps) (base_in old.mods) putting.front (new_entry s n) putting.back (rw e (alloc-quiet b key))
+        (subst (λ (l : List Entry). Chained (queue_of old.stale.stamps) (base_in old.mods) l) putting.was k.chained));
   }
 
   -- the end of a read
@@ -90,15 +88,15 @@ module _ (old : Tables) (k : Kept old) (after s : ℕ) (n : Node) (tr : Timeline
       whole = whole;
       closed = closed;
       tabled = subst (λ (l : List Entry). IsTabled l old.mods) (sym putting.is) (tabled-in putting.front (new_entry s n) putting.back old.mods (λ p. rw e refl) (λ p. end-no-write p s n (writes_in p putting.back) r e) tabled-old);
-      keyed = subst (λ (l : List Entry). IsKeyed l old.memo) (sym putting.is) (keyed-in putting.front (new_entry s n) putting.back old.memo (λ h. rw e refl) keyed-old);
+      keyed = keyed-in after s n old.trace.nodes tr.nodes is ins.new ins.node (rw e refl) old.memo k.step.keyed;
       queued = still-queued;
       mods = mf;
       memo = ef;
       stale = qf;
     };
-    covered = subst (λ (l : List Entry). Covers (queue_of old.stale.stamps) (base_in old.mods) (λ p. false) l) (sym putting.is)
-        (quiet-put (queue_of old.stale.stamps) (base_in old.mods) (λ p. false) putting.front (new_entry s n) putting.back (rw e (end-quiet r))
-        (subst (λ (l : List Entry). Covers (queue_of old.stale.stamps) (base_in old.mods) (λ p. false) l) putting.was k.covered));
+    chained = subst (λ (l : List Entry). Chained (queue_of old.stale.stamps) (base_in old.mods) l) (sym putting.is)
+        (quiet-put (queue_of old.stale.stamps) (base_in old.mods) putting.front (new_entry s n) putting.back (rw e (end-quiet r))
+        (subst (λ (l : List Entry). Chained (queue_of old.stale.stamps) (base_in old.mods) l) putting.was k.chained));
   }
 
   -- a write, with what it affects woken
@@ -123,39 +121,39 @@ module _ (old : Tables) (k : Kept old) (after s : ℕ) (n : Node) (tr : Timeline
       whole = whole;
       closed = closed;
       tabled = write-tabled p v e mods change;
-      keyed = subst (λ (l : List Entry). IsKeyed l old.memo) (sym putting.is) (keyed-in putting.front (new_entry s n) putting.back old.memo (λ h. rw e refl) keyed-old);
+      keyed = keyed-in after s n old.trace.nodes tr.nodes is ins.new ins.node (rw e refl) old.memo k.step.keyed;
       queued = are-reads p tr.nodes mods old.stale.stamps stale.stamps whole.order.distinct (write-tabled p v e mods change) still-queued only;
       mods = mf;
       memo = ef;
       stale = qf;
     };
-    covered = write-put-covered after s p v old.trace.nodes tr.nodes (subst (λ i. PutAfter after (new_entry s i) old.trace.nodes tr.nodes) e putting) whole.order.distinct old.mods mods (write-bases p v mods change)
-        (write-tabled p v e mods change) old.stale.stamps stale.stamps more awake k.covered;
+    chained = write-put-chained after s p v old.trace.nodes tr.nodes (subst (λ i. PutAfter after (new_entry s i) old.trace.nodes tr.nodes) e putting) whole.order.distinct old.mods mods (write-bases p v mods change)
+        (write-tabled p v e mods change) old.stale.stamps stale.stamps more awake k.chained;
   }
 
   -- a read with what its place holds there
-  pub read-kept : (key : ReadKey) (v : Word) → n ≡ Read key.place v key.unit key.var key.args → (mods : Contents) (memo : Entries)
+  pub read-kept : (key : ReadKey) (v : Word) → n ≡ Read key.place v key.unit key.var key.args → (mods : Contents) (memo : Entered)
       → Changes old.mods mods key.place (with_read (stamps_in tr.nodes) s (cell_of old.mods key.place))
-      → EntriesChange (read_hash key) (with_stamp (stamps_in tr.nodes) s (entries_of old.memo (read_hash key))) old.memo memo
+      → Holds memo (with_key s (OfRead key) (entries_in old.trace.nodes))
       → v ≡ contents_after (base_in old.mods) (up_to after old.trace.nodes) key.place
+      → ((r : ℕ) → is_in r old.stale.stamps ≡ true → place after (stamps_in old.trace.nodes) < place r (stamps_in old.trace.nodes))
       → Mods_follow (stamps_in tr.nodes) mods → Memo_follows (stamps_in tr.nodes) memo → Queue_follows (stamps_in tr.nodes) old.stale → Kept (tables tr mods old.stale memo)
-  read-kept key v e mods memo change entry value mf ef qf = record {
+  read-kept key v e mods memo change entry value late mf ef qf = record {
     step = record {
       whole = whole;
       closed = closed;
       tabled = subst (λ (l : List Entry). IsTabled l mods) (sym putting.is) (tabled-read putting.front (new_entry s n) putting.back parted key.place v key.unit key.var key.args e old.mods mods tabled-old
           (subst (λ (l : List Entry). Changes old.mods mods key.place (with_read (stamps_in l) s (cell_of old.mods key.place))) putting.is change));
-      keyed = subst (λ (l : List Entry). IsKeyed l memo) (sym putting.is) (keyed-entered putting.front (new_entry s n) putting.back parted (read_hash key) (λ h. rw e refl) old.memo memo keyed-old
-          (subst (λ (l : List Entry). EntriesChange (read_hash key) (with_stamp (stamps_in l) s (entries_of old.memo (read_hash key))) old.memo memo) putting.is entry));
+      keyed = keyed-entered after s n old.trace.nodes tr.nodes is ins.new ins.node (OfRead key) (rw e refl) memo entry;
       queued = still-queued;
       mods = mf;
       memo = ef;
       stale = qf;
     };
-    covered = covers-base (queue_of old.stale.stamps) (base_in old.mods) (base_in mods) (λ p. false) tr.nodes (λ q. sym (read-bases q))
-        (subst (λ (l : List Entry). Covers (queue_of old.stale.stamps) (base_in old.mods) (λ p. false) l) (sym (putting.is ∙ ap (λ i. putting.front ++ new_entry s i ∷ putting.back) e))
-        (read-put (queue_of old.stale.stamps) (base_in old.mods) (λ p. false) putting.front putting.back s 0 key.place v key.unit key.var key.args unqueued (ap (λ (l : List Entry). contents_after (base_in old.mods) l key.place) (sym putting.front_is) ∙ sym value)
-        (subst (λ (l : List Entry). Covers (queue_of old.stale.stamps) (base_in old.mods) (λ p. false) l) putting.was k.covered)));
+    chained = chained-base (queue_of old.stale.stamps) (base_in old.mods) (base_in mods) tr.nodes (λ q. sym (read-bases q))
+        (subst (λ (l : List Entry). Chained (queue_of old.stale.stamps) (base_in old.mods) l) (sym (putting.is ∙ ap (λ i. putting.front ++ new_entry s i ∷ putting.back) e))
+        (read-put (queue_of old.stale.stamps) (base_in old.mods) putting.front putting.back s 0 key.place v key.unit key.var key.args
+        (front-held (queue_of old.stale.stamps) (base_in old.mods) putting.front putting.back none was key.place ∙ (ap (λ (l : List Entry). contents_after (base_in old.mods) l key.place) (sym putting.front_is) ∙ sym value)) was));
   }
     where
       read-bases : (q : Place) → base_in mods q ≡ base_in old.mods q
@@ -165,8 +163,14 @@ module _ (old : Tables) (k : Kept old) (after s : ℕ) (n : Node) (tr : Timeline
           go true e = rw (Rattle.ceal_code.proofs.Words.SameIsEqual.place-same q key.place e) (ap (λ (c : Cell). c.base) change.here)
           go false e = ap (λ (c : Cell). c.base) (change.others q (other-place q key.place e))
 
-      unqueued : queue_of old.stale.stamps s ≡ false
-      unqueued = is-queued s old.stale.stamps false (Rattle.ceal_repair.proofs.Lists.PartedLists.false-of (is_in s old.stale.stamps) (λ i. sym (read-has s old.trace.nodes (k.step.queued s i)) ∙ ins.new))
+      was : Chained (queue_of old.stale.stamps) (base_in old.mods) (putting.front ++ putting.back)
+      was = subst (λ (l : List Entry). Chained (queue_of old.stale.stamps) (base_in old.mods) l) putting.was k.chained
+
+      -- what is queued stands after the nodes in front
+      none : (z : ℕ) → is_in z (stamps_in putting.front) ≡ true → queue_of old.stale.stamps z ≡ false
+      none z i = is-queued z old.stale.stamps false (false-of (is_in z old.stale.stamps) (λ j.
+          let a = up-to-places after old.trace.nodes z (subst (λ (l : List Entry). is_in z (stamps_in l) ≡ true) (sym putting.front_is) i) in
+          let b = late z j in absurd (omega (arith, a, b))))
 
 -- what is not there has no entry
 pub no-entry : (s : ℕ) (old : Tables) → InStep old → has_node s old.trace.nodes ≡ false → HasNone s old.memo
@@ -196,13 +200,13 @@ steps-kept old k s n tr here is same others whole closed = go (Rattle.ceal_trace
             whole = whole;
             closed = closed;
             tabled = subst (λ (l : List Entry). IsTabled l old.mods) (sym at) (tabled-with x.0 x.1 (steps_set n x.1) x.2 refl old.mods (λ p. refl) (λ p. refl) (subst (λ (l : List Entry). IsTabled l old.mods) x.3 k.step.tabled));
-            keyed = subst (λ (l : List Entry). IsKeyed l old.memo) (sym at) (keyed-with x.0 x.1 (steps_set n x.1) x.2 refl old.memo (λ h. refl) (subst (λ (l : List Entry). IsKeyed l old.memo) x.3 k.step.keyed));
+            keyed = keyed-as old.trace.nodes tr.nodes old.memo (λ z. ap key_of (node-same z)) k.step.keyed;
             queued = λ z i. ap is_read (node-same z) ∙ k.step.queued z i;
             mods = subst (λ (l : List ℕ). Mods_follow l old.mods) (sym others.stamps) k.step.mods;
             memo = subst (λ (l : List ℕ). Memo_follows l old.memo) (sym others.stamps) k.step.memo;
             stale = subst (λ (l : List ℕ). Queue_follows l old.stale) (sym others.stamps) k.step.stale;
           };
-          covered = subst (λ (l : List Entry). Covers (queue_of old.stale.stamps) (base_in old.mods) (λ p. false) l) (sym at)
-              (steps-covered (queue_of old.stale.stamps) (base_in old.mods) (λ p. false) x.0 x.1 x.2 n
-              (subst (λ (l : List Entry). Covers (queue_of old.stale.stamps) (base_in old.mods) (λ p. false) l) x.3 k.covered));
+          chained = subst (λ (l : List Entry). Chained (queue_of old.stale.stamps) (base_in old.mods) l) (sym at)
+              (steps-chained (queue_of old.stale.stamps) (base_in old.mods) x.0 x.1 x.2 n
+              (subst (λ (l : List Entry). Chained (queue_of old.stale.stamps) (base_in old.mods) l) x.3 k.chained));
         }

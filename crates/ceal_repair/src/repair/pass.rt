@@ -4,7 +4,8 @@ ghost use Rattle.std.specs.Prelude.{OnOk};
 ghost use Rattle.ceal_repair.specs.Moment.{Start};
 ghost use Rattle.ceal_repair.specs.Passing.{NoneStale, StaleInside};
 ghost use Rattle.ceal_repair.specs.Reads.{EndsKept};
-ghost use Rattle.ceal_repair.specs.Repairs.{Runs, PassesOn, SameCall};
+ghost use Rattle.ceal_repair.specs.Looks.{Pays};
+ghost use Rattle.ceal_repair.specs.Repairs.{Runs, PassesOn, SameCall, running_of};
 
 use super::Repair;
 use super::turn::unit_at;
@@ -18,6 +19,7 @@ impl<'a> Repair<'a> {
     pub fn pass(&mut self) -> Result<(), NoMemory>
         requires passes { (start : Start) × PassesOn start self.old }
         ensures call { OnOk result (SameCall self.old self.new) }
+        ensures pays { OnOk result (Pays (running_of self.old) (running_of self.new)) }
         ensures runs { OnOk result
             ((start : Start) → PassesOn start self.old → Runs start self.new) }
     {
@@ -35,6 +37,7 @@ impl<'a> Repair<'a> {
     fn pass_all(&mut self)
         requires none { (start : Start) × NoneStale start self.old }
         ensures call { SameCall self.old self.new }
+        ensures pays { Pays (running_of self.old) (running_of self.new) }
         ensures runs { (start : Start) → NoneStale start self.old → Runs start self.new }
     {
         let end = match self.limit {
@@ -59,6 +62,7 @@ impl<'a> Repair<'a> {
     fn repair_inside(&mut self, read: Stamp) -> Result<(), NoMemory>
         requires stale { (start : Start) × StaleInside start read self.old }
         ensures call { OnOk result (SameCall self.old self.new) }
+        ensures pays { OnOk result (Pays (running_of self.old) (running_of self.new)) }
         ensures runs { OnOk result
             ((start : Start) → StaleInside start read self.old → Runs start self.new) }
     {
@@ -79,6 +83,7 @@ impl<'a> Repair<'a> {
     pub fn go_on(&mut self, until: Stamp) -> Result<(), NoMemory>
         requires ends { (start : Start) × EndsKept start until self.old }
         ensures call { OnOk result (SameCall self.old self.new) }
+        ensures pays { OnOk result (Pays (running_of self.old) (running_of self.new)) }
         ensures runs { OnOk result
             ((start : Start) → EndsKept start until self.old → Runs start self.new) }
     {

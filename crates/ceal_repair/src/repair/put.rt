@@ -4,7 +4,8 @@ ghost use Rattle.std.specs.Prelude.{◌≡◌, ◌∷◌, [], None, OnOk};
 ghost use Rattle.ceal_code.specs.declared.step.Act.TheVariants as does;
 ghost use Rattle.ceal_repair.specs.Moment.{Start};
 ghost use Rattle.ceal_order.specs.Stamps.{head_of};
-ghost use Rattle.ceal_repair.specs.Repairs.{arguments_of, Runs, Acts, ActsMaking, EndsRead, SameCall, left_nodes};
+ghost use Rattle.ceal_repair.specs.Looks.{Pays};
+ghost use Rattle.ceal_repair.specs.Repairs.{arguments_of, Runs, Acts, ActsMaking, EndsRead, SameCall, left_nodes, running_of};
 ghost use Rattle.ceal_repair.specs.Lists.{allocates, recalls, stamps_where};
 ghost use Rattle.ceal_repair.specs.Reads.{key_in, closure_in};
 
@@ -25,6 +26,7 @@ impl<'a> Repair<'a> {
     pub fn quiet(&mut self) -> Result<(), NoMemory>
         requires acts { (start : Start) × Acts start does.Quiet self.old }
         ensures call { OnOk result (SameCall self.old self.new) }
+        ensures pays { OnOk result (Pays (running_of self.old) (running_of self.new)) }
         ensures runs { OnOk result
             ((start : Start) → Acts start does.Quiet self.old → Runs start self.new) }
     {
@@ -36,6 +38,7 @@ impl<'a> Repair<'a> {
     pub fn write(&mut self, place: Place, value: Word) -> Result<(), NoMemory>
         requires acts { (start : Start) × Acts start (does.Writes place value) self.old }
         ensures call { OnOk result (SameCall self.old self.new) }
+        ensures pays { OnOk result (Pays (running_of self.old) (running_of self.new)) }
         ensures runs { OnOk result
             ((start : Start) → Acts start (does.Writes place value) self.old
             → Runs start self.new) }
@@ -50,6 +53,7 @@ impl<'a> Repair<'a> {
     pub fn make(&mut self, key: Key, var: u32) -> Result<(), NoMemory>
         requires acts { (start : Start) × ActsMaking start key var self.old }
         ensures call { OnOk result (SameCall self.old self.new) }
+        ensures pays { OnOk result (Pays (running_of self.old) (running_of self.new)) }
         ensures runs { OnOk result
             ((start : Start) → ActsMaking start key var self.old → Runs start self.new) }
     {
@@ -65,6 +69,7 @@ impl<'a> Repair<'a> {
         requires acts { (start : Start) × ActsMaking start key var self.old }
         requires absent { head_of (stamps_where (allocates key) (left_nodes self.old)) ≡ None }
         ensures call { OnOk result (SameCall self.old self.new) }
+        ensures pays { OnOk result (Pays (running_of self.old) (running_of self.new)) }
         ensures runs { OnOk result
             ((start : Start) → ActsMaking start key var self.old → Runs start self.new) }
     {
@@ -84,6 +89,7 @@ impl<'a> Repair<'a> {
             (recalls (key_in (closure_in reading (arguments_of self.old))))
             (left_nodes self.old)) ≡ None }
         ensures call { OnOk result (SameCall self.old self.new) }
+        ensures pays { OnOk result (Pays (running_of self.old) (running_of self.new)) }
         ensures runs { OnOk result ((start : Start)
             → Acts start (does.Reads (closure_in reading.entry (arguments_of self.old))) self.old
             → Runs start self.new) }
@@ -115,6 +121,7 @@ impl<'a> Repair<'a> {
     pub fn finish(&mut self, below: Waits, read: Stamp) -> Result<(), NoMemory>
         requires ends { (start : Start) × EndsRead start below read self.old }
         ensures call { OnOk result (SameCall self.old self.new) }
+        ensures pays { OnOk result (Pays (running_of self.old) (running_of self.new)) }
         ensures runs { OnOk result
             ((start : Start) → EndsRead start below read self.old → Runs start self.new) }
     {

@@ -7,6 +7,7 @@ ghost use Rattle.ceal_code.specs.declared.step.Act.TheVariants as does;
 ghost use Rattle.ceal_order.specs.Stamps.{head_of};
 ghost use Rattle.ceal_repair.specs.Moment.{Start};
 ghost use Rattle.ceal_repair.specs.Reads.{closure_in, key_in, Entered, EndsTaken};
+ghost use Rattle.ceal_repair.specs.Looks.{Pays};
 ghost use Rattle.ceal_repair.specs.Repairs.{running_of, arguments_of, frames_of, Runs, RunsAt, Acts, SameCall, left_nodes};
 ghost use Rattle.ceal_repair.specs.declared.frame.Frame.TheVariants.{Taken};
 ghost use Rattle.ceal_repair.specs.Kept.{Records};
@@ -39,6 +40,7 @@ impl<'a> Repair<'a> {
         requires acts { (start : Start)
             × Acts start (does.Reads (closure_in reading (arguments_of self.old))) self.old }
         ensures call { OnOk result (SameCall self.old self.new) }
+        ensures pays { OnOk result (Pays (running_of self.old) (running_of self.new)) }
         ensures runs { OnOk result ((start : Start)
             → Acts start (does.Reads (closure_in reading.entry (arguments_of self.old))) self.old
             → Runs start self.new) }
@@ -86,6 +88,7 @@ impl<'a> Repair<'a> {
             (recalls (key_in (closure_in reading (arguments_of self.old))))
             (left_nodes self.old)) ≡ Some found.0 }
         ensures call { OnOk result (SameCall self.old self.new) }
+        ensures pays { OnOk result (Pays (running_of self.old) (running_of self.new)) }
         ensures runs { IfOk result (λ anew. (start : Start)
             → Acts start (does.Reads (closure_in reading.entry (arguments_of self.old))) self.old
             → Entered anew start self.new) }
@@ -139,6 +142,7 @@ impl<'a> Repair<'a> {
     pub fn leave(&mut self, below: Waits, until: Stamp) -> Result<(), NoMemory>
         requires ends { (start : Start) × EndsTaken start below until self.old }
         ensures call { OnOk result (SameCall self.old self.new) }
+        ensures pays { OnOk result (Pays (running_of self.old) (running_of self.new)) }
         ensures runs { OnOk result
             ((start : Start) → EndsTaken start below until self.old → Runs start self.new) }
     {

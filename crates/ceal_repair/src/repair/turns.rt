@@ -4,6 +4,7 @@ ghost use Rattle.std.specs.Prelude.{◌≡◌, ◌≢◌, ◌≤◌, [], ℕ, Li
 ghost use Rattle.ceal_base.specs.declared.word.Word.{Word};
 ghost use Rattle.ceal_code.specs.Replay.{IsHonest};
 ghost use Rattle.ceal_repair.specs.Propagation.{HasCome, Propagated, AfterTurn};
+ghost use Rattle.ceal_repair.specs.Looks.{Pays, Borrows};
 ghost use Rattle.ceal_repair.specs.Repairs.{code_of, inputs_of, running_of, frames_of, SameCall};
 ghost use Rattle.ceal_repair.specs.Turning.{Since, FoundStale};
 ghost use Rattle.ceal_repair.specs.declared.repair.turns.Ending.TheVariants.{Spent};
@@ -45,6 +46,7 @@ impl<'a> Repair<'a> {
             f args o before (running_of self.old) }
         requires idle { frames_of self.old ≡ [] }
         ensures call { OnOk result (SameCall self.old self.new) }
+        ensures pays { OnOk result (Borrows (running_of self.old) (running_of self.new)) }
         ensures ended { IfOk result
             (λ e. (f : ℕ) (args : List Word) (o : Since) (before : Running)
             → HasCome (code_of self.old) (inputs_of self.old) f args o before (running_of self.old)
@@ -82,6 +84,7 @@ impl<'a> Repair<'a> {
             f args o read.0 (running_of self.old) }
         requires idle { frames_of self.old ≡ [] }
         ensures call { OnOk result (SameCall self.old self.new) }
+        ensures pays { OnOk result (Pays (running_of self.old) (running_of self.new)) }
         ensures idle { IfOk result (λ more. more ≡ true → frames_of self.new ≡ []) }
         ensures within { IfOk result (λ more. more ≡ true → (running_of self.new).spent ≤ fuel) }
         ensures turn { IfOk result (λ more. (f : ℕ) (args : List Word) (o : Since)

@@ -1,11 +1,12 @@
 // Nodes are taken out.
 
-ghost use Rattle.std.specs.Prelude.{◌≡◌, ◌<◌, ℕ, Some, None, OnOk, IsTrue, IsSome};
+ghost use Rattle.std.specs.Prelude.{◌≡◌, ◌<◌, ◌≤◌, ◌+◌, ℕ, Some, None, OnOk, IsTrue, IsSome};
 ghost use Rattle.ceal_base.specs.declared.forest.Key.{Key as KeyOfAlloc};
 ghost use Rattle.ceal_base.specs.declared.word.BlockId.{BlockId as Block};
 ghost use Rattle.ceal_base.specs.declared.word.Place.{Place as PlaceOf};
 ghost use Rattle.ceal_base.specs.declared.word.Word.{Word as WordOf};
 ghost use Rattle.ceal_repair.specs.Kept.{Kept, QueuedBehind, QueuedFrom, base_in};
+ghost use Rattle.ceal_repair.specs.Looks.{owed, NoneDiffers};
 ghost use Rattle.ceal_trace.specs.Nodes.{node_at, position, is_read, end_in, without_entry};
 ghost use Rattle.ceal_trace.specs.declared.node.Node.TheVariants.{Alloc, Write};
 
@@ -30,11 +31,13 @@ impl Tables {
         self.trace.discard(alloc);
     }
 
-    /// Takes a write out, and queues the read that this affects. Where the place holds the same without it, none is.
+    /// Takes out a write before which none is queued, and queues the read that this affects. Where the place holds the same
+    /// without it, none is.
     pub fn cut_write(&mut self, write: Stamp, place: Place) -> Result<(), NoMemory>
         requires kept { Kept self.old }
         requires here { (v : WordOf)
             × (node_at write.0 self.old.trace.nodes ≡ Some (Write place v)) }
+        requires first { QueuedFrom write.0 self.old }
         ensures nodes { OnOk result
             (self.new.trace.nodes ≡ without_entry write.0 self.old.trace.nodes) }
         ensures bases { OnOk result
@@ -42,6 +45,8 @@ impl Tables {
         ensures behind { OnOk result
             ((s : ℕ) → position s self.old.trace.nodes < position write.0 self.old.trace.nodes
             → QueuedBehind s self.old → QueuedBehind s self.new) }
+        ensures looks { OnOk result (owed self.new ≤ owed self.old + 3) }
+        ensures differed { OnOk result (NoneDiffers self.old self.new) }
         ensures kept { OnOk result (Kept self.new) }
     {
         self.stale.reserve(1)?;
@@ -65,6 +70,8 @@ impl Tables {
         ensures behind { (s : ℕ)
             → position s self.old.trace.nodes < position read.0 self.old.trace.nodes
             → QueuedBehind s self.new }
+        ensures looks { owed self.new ≤ owed self.old }
+        ensures differed { NoneDiffers self.old self.new }
         ensures kept { Kept self.new }
     {
         let end = match self.trace.end_of(read) {

@@ -7,7 +7,7 @@ ghost use Rattle.ceal_repair.specs.Lists.{allocates, recalls, stamps_where, betw
 ghost use Rattle.ceal_trace.specs.Nodes.{has_node, position};
 
 use super::Tables;
-use crate::sought::{SoughtAlloc, SoughtRead};
+use crate::sought::KeysOf;
 use ceal_base::forest::Key;
 use ceal_memo::key::ReadKey;
 use ceal_order::stamp::Stamp;
@@ -24,12 +24,9 @@ impl Tables {
             ≡ head_of
             (stamps_where (allocates key.now) (between after.0 until.0 self.now.trace.nodes)) }
     {
-        let sought = SoughtAlloc {
-            trace: &self.trace,
-            key,
-        };
+        let keys = KeysOf { trace: &self.trace };
         self.memo
-            .first_between(self.trace.order(), &sought, after, until)
+            .first_alloc(self.trace.order(), &keys, key, after, until)
     }
 
     /// The earliest read with a key after one node and before another.
@@ -43,11 +40,8 @@ impl Tables {
             ≡ head_of
             (stamps_where (recalls key.now) (between after.0 until.0 self.now.trace.nodes)) }
     {
-        let sought = SoughtRead {
-            trace: &self.trace,
-            key,
-        };
+        let keys = KeysOf { trace: &self.trace };
         self.memo
-            .first_between(self.trace.order(), &sought, after, until)
+            .first_read(self.trace.order(), &keys, key, after, until)
     }
 }

@@ -1,6 +1,6 @@
 // The queue of stale reads: which reads it has, and which of them comes first.
 
-ghost use Rattle.std.specs.Prelude.{◌≡◌, ◌<◌, ◌↔◌, ◌≢◌, ℕ, Some, None, true, false, IfSome, IfNone, IsTrue};
+ghost use Rattle.std.specs.Prelude.{◌≡◌, ◌<◌, ◌≤◌, ◌+◌, ◌↔◌, ◌≢◌, ℕ, length, Some, None, true, false, IfSome, IfNone, IsTrue};
 ghost use Rattle.std.specs.Option.{ForSome};
 ghost use Rattle.ceal_base.specs.declared.word.Place.{Place as PlaceOf};
 ghost use Rattle.ceal_base.specs.declared.word.Word.{Word as WordOf};
@@ -8,7 +8,8 @@ ghost use Rattle.ceal_mods.specs.Mods.{cell_of, Follows as Mods_follow};
 ghost use Rattle.ceal_order.specs.Stamps.{is_in};
 ghost use Rattle.ceal_queue.specs.Queue.{IsBefore, IsWithout, Follows as Queue_follows};
 ghost use Rattle.ceal_repair.specs.Covered.{and_one};
-ghost use Rattle.ceal_repair.specs.Kept.{InStep, Kept, CoveredBy, QueuedBehind, QueuedFrom, Records, IsStale, IsHonestRecord, IsAwake, contents_at};
+ghost use Rattle.ceal_repair.specs.Kept.{InStep, Kept, ChainedBy, QueuedBehind, QueuedFrom, Records, IsStale, IsHonestRecord, IsAwake, contents_at};
+ghost use Rattle.ceal_repair.specs.Looks.{owed, NoneDiffers, OneDiffers};
 ghost use Rattle.ceal_repair.specs.Woken.{KeepsQueued, QueuesReadsOf, QueuesBehind};
 ghost use Rattle.ceal_trace.specs.Nodes.{stamps_in, has_node, node_at, is_read, with_value};
 ghost use Rattle.ceal_trace.specs.declared.node.Node.TheVariants.{Write};
@@ -35,6 +36,10 @@ impl Tables {
         ensures cells { self.new.mods.cells ≡ self.old.mods.cells }
         ensures memo { self.new.memo ≡ self.old.memo }
         ensures behind { QueuedBehind read.0 self.new }
+        ensures looks { owed self.new ≤ owed self.old + 1 }
+        ensures idle { result ≡ false → owed self.new ≤ owed self.old }
+        ensures differs { IsTrue result → OneDiffers self.old self.new }
+        ensures none_differs { result ≡ false → NoneDiffers self.old self.new }
         ensures kept { Kept self.new }
     {
         if self.unqueue(read) {
@@ -45,7 +50,7 @@ impl Tables {
     }
 
     /// Pops queued reads in the order of time, up to the first one that is stale, which has the content of its moment
-    /// then. With a limit, up to that. Each one that is popped hands on to the next one of its place. No memory is taken.
+    /// then. With a limit, up to that. The stale one hands on to the next one of its place. No memory is taken.
     pub fn first_stale(&mut self, until: Option<Stamp>) -> Option<Stamp>
         requires kept { Kept self.old }
         requires until { ForSome until (λ u. IsTrue (has_node u.0 self.old.trace.nodes)) }
@@ -59,6 +64,10 @@ impl Tables {
         ensures none { IfNone result (self.new.trace ≡ self.old.trace) }
         ensures left { IfNone result ((s : ℕ) → is_in s self.new.stale.stamps ≡ true
             → ¬ IsBefore (stamps_in self.old.trace.nodes) until s) }
+        ensures looks { owed self.new ≤ owed self.old + 1 }
+        ensures idle { IfNone result (owed self.new ≤ owed self.old) }
+        ensures differs { IfSome result (λ s. OneDiffers self.old self.new) }
+        ensures none_differs { IfNone result (NoneDiffers self.old self.new) }
         ensures cells { self.new.mods.cells ≡ self.old.mods.cells }
         ensures memo { self.new.memo ≡ self.old.memo }
         ensures kept { Kept self.new }
@@ -72,12 +81,15 @@ impl Tables {
         None
     }
 
-    /// Whether a read is stale. Queued reads before the first stale one are honest, and hand on to the next ones of their places; the
-    /// stale one stays queued, with the value that it has. No memory is taken.
+    /// Whether a read is stale. Queued reads before the first stale one are honest, and are taken out; the stale one stays queued,
+    /// with the value that it has. No memory is taken.
     pub fn has_stale(&mut self) -> bool
         requires kept { Kept self.old }
         ensures stale { IsTrue result → (s : ℕ) × IsStale s self.old }
         ensures honest { result ≡ false → (s : ℕ) → IsHonestRecord s self.new }
+        ensures looks { owed self.new ≤ owed self.old + 1 }
+        ensures idle { result ≡ false → owed self.new ≤ owed self.old }
+        ensures differed { NoneDiffers self.old self.new }
         ensures trace { self.new.trace ≡ self.old.trace }
         ensures cells { self.new.mods.cells ≡ self.old.mods.cells }
         ensures memo { self.new.memo ≡ self.old.memo }
@@ -90,7 +102,7 @@ impl Tables {
                     if self.differs(read) {
                         return true;
                     }
-                    self.look(read);
+                    self.dismiss(read);
                 }
             }
         }
@@ -107,11 +119,30 @@ impl Tables {
         ensures cells { self.new.mods.cells ≡ self.old.mods.cells }
         ensures memo { self.new.memo ≡ self.old.memo }
         ensures queue { self.new.stale ≡ self.old.stale }
+        ensures looks { owed self.new ≤ owed self.old + 1 }
+        ensures differed { NoneDiffers self.old self.new }
         ensures kept { Kept self.new }
     {
         let (place, value) = recorded(&self.trace, read);
         let now = self.mods.value_at(self.trace.order(), place, read);
         !is_same(value, now)
+    }
+
+    // Takes a read out of the queue that has the content of its moment and has none queued before it.
+    pub fn dismiss(&mut self, read: Stamp)
+        requires kept { Kept self.old }
+        requires here { IsTrue (is_read (node_at read.0 self.old.trace.nodes)) }
+        requires first { QueuedFrom read.0 self.old }
+        requires honest { IsHonestRecord read.0 self.old }
+        ensures trace { self.new.trace ≡ self.old.trace }
+        ensures mods { self.new.mods ≡ self.old.mods }
+        ensures memo { self.new.memo ≡ self.old.memo }
+        ensures behind { QueuedBehind read.0 self.new }
+        ensures fewer { IsTrue (is_in read.0 self.old.stale.stamps)
+            → length self.new.stale.stamps + 1 ≡ length self.old.stale.stamps }
+        ensures kept { Kept self.new }
+    {
+        let _was = self.unqueue(read);
     }
 
     // Queues the read that a change of a place after a node affects; there is room for it.
@@ -127,6 +158,7 @@ impl Tables {
         ensures more { KeepsQueued self.old self.new }
         ensures only { QueuesReadsOf place self.old self.new }
         ensures ahead { QueuesBehind after.0 self.old self.new }
+        ensures one { length self.new.stale.stamps ≤ length self.old.stale.stamps + 1 }
         ensures woken { IsAwake (stamps_in self.old.trace.nodes)
             (cell_of self.old.mods place) after.0 self.new.stale.stamps }
     {
@@ -146,6 +178,8 @@ impl Tables {
         ensures trace { self.new.trace ≡ self.old.trace }
         ensures cells { self.new.mods.cells ≡ self.old.mods.cells }
         ensures queue { self.new.stale ≡ self.old.stale }
+        ensures looks { owed self.new ≤ owed self.old + 1 }
+        ensures differed { NoneDiffers self.old self.new }
         ensures memo { self.new.memo ≡ self.old.memo }
         ensures kept { Kept self.new }
     {
@@ -167,6 +201,7 @@ impl Tables {
         ensures more { KeepsQueued self.old self.new }
         ensures only { QueuesReadsOf place self.old self.new }
         ensures ahead { QueuesBehind after.0 self.old self.new }
+        ensures one { length self.new.stale.stamps ≤ length self.old.stale.stamps + 1 }
         ensures woken { same ≡ false
             → IsAwake (stamps_in self.old.trace.nodes)
             (cell_of self.old.mods place) after.0 self.new.stale.stamps }
@@ -184,6 +219,9 @@ impl Tables {
         ensures was { IsTrue result ↔ IsTrue (is_in read.0 self.old.stale.stamps) }
         ensures without { IsWithout read.0 self.old.stale.stamps self.new.stale.stamps }
         ensures room { IsTrue result → 0 < self.new.stale.spare }
+        ensures fewer { IsTrue result
+            → length self.new.stale.stamps + 1 ≡ length self.old.stale.stamps }
+        ensures absent { result ≡ false → self.new.stale ≡ self.old.stale }
         ensures trace { self.new.trace ≡ self.old.trace }
         ensures mods { self.new.mods ≡ self.old.mods }
         ensures memo { self.new.memo ≡ self.old.memo }
@@ -208,6 +246,7 @@ impl Tables {
             → IsTrue (is_in s self.new.stale.stamps) }
         ensures only { QueuesReadsOf place self.old self.new }
         ensures ahead { QueuedBehind read.0 self.new }
+        ensures most { length self.new.stale.stamps ≤ length self.old.stale.stamps }
         ensures woken { IsTrue (is_in read.0 self.old.stale.stamps)
             → IsAwake (stamps_in self.old.trace.nodes)
             (cell_of self.old.mods place) read.0 self.new.stale.stamps }
@@ -217,11 +256,11 @@ impl Tables {
         }
     }
 
-    // A read that was popped hands on to the next one of its place, and gets the content of its moment. Says whether it
-    // had another one.
+    // A read that was popped gets the content of its moment. Says whether it had another one, and hands on to the next one of
+    // its place then. Where it had that, what was recorded last of the place is as before, and the next one has nothing to fear.
     pub fn settle(&mut self, popped: Stamp) -> bool
         requires step { InStep self.old }
-        requires covered { CoveredBy (and_one popped.0 self.old.stale.stamps) self.old }
+        requires chained { ChainedBy (and_one popped.0 self.old.stale.stamps) self.old }
         requires out { is_in popped.0 self.old.stale.stamps ≡ false }
         requires first { QueuedFrom popped.0 self.old }
         requires here { IsTrue (is_read (node_at popped.0 self.old.trace.nodes)) }
@@ -236,14 +275,19 @@ impl Tables {
         ensures cells { self.new.mods.cells ≡ self.old.mods.cells }
         ensures memo { self.new.memo ≡ self.old.memo }
         ensures behind { QueuedBehind popped.0 self.new }
+        ensures looks { owed self.new ≤ owed self.old + 3 }
+        ensures idle { result ≡ false → owed self.new ≤ owed self.old + 1 }
+        ensures differs { IsTrue result → OneDiffers self.old self.new }
+        ensures none_differs { result ≡ false → NoneDiffers self.old self.new }
         ensures kept { Kept self.new }
     {
         let (place, value) = recorded(&self.trace, popped);
-        self.wake(place, popped);
         let now = self.mods.value_at(self.trace.order(), place, popped);
         if is_same(value, now) {
             return false;
         }
+        self.mods.count_differed();
+        self.wake(place, popped);
         self.trace.set_value(popped, now);
         true
     }

@@ -10,3 +10,9 @@ pub returns-clause-kept : goal.returns-clause-kept
 returns-clause-kept c =
     unread-kept c.args.tables.now c.requires.kept c.args.place c.args.value c.set_base.new.self c.in-Ok.ensures.ok c.requires.unread
     (c.set_base.ensures.follows (stamps_in c.args.tables.now.trace.nodes) c.requires.kept.step.mods)
+
+pub returns-clause-looked : goal.returns-clause-looked
+returns-clause-looked c = c.in-Ok.ensures.ok.looked
+
+pub returns-clause-differed : goal.returns-clause-differed
+returns-clause-differed c = c.in-Ok.ensures.ok.differed

@@ -3,6 +3,9 @@ use Rattle.ceal_repair.specs.Propagation.{IsUpToDate}
 use Rattle.ceal_repair.specs.Turning.{later, since_begun}
 use Rattle.std.proofs.Common.{◌≡◌, false, true, Some, None, subst, rules}
 use Rattle.ceal_repair.proofs.Propagation.KeptRun.{has-come-in, idle-first}
+use Rattle.std.proofs.Common.{ap, sym, ◌∙◌}
+use Rattle.ceal_repair.proofs.Runs.Paid.{borrows-as}
+use Rattle.ceal_repair.specs.declared.running.Running.{Running}
 use Rattle.ceal_repair.proofs.propagate.propagate.Goals as goal
 
 pub turns-requires-clause-comes : goal.turns-requires-clause-comes
@@ -43,3 +46,15 @@ unreachable-requires c =
     let more = rw (c.in-Ok-More.field-0-is, r.code, r.inputs) at (c.in-Ok-More.ensures.ended q.0 q.1 (since_begun c.args.code.now c.args.inputs.now q.2) c.args.running.now come) in
     let none : None ≡ Some more.0 = more.1 in
     cc
+
+pub returns-in-Ok-Done-clause-pays : goal.returns-in-Ok-Done-clause-pays
+returns-in-Ok-Done-clause-pays c =
+    let e = c.at_root-repair.ensures in
+    let same : c.turns.new.self.running.now ≡ c.running-2-1.given.0 = search (rules, e.place, c.in-Ok-Done.ensures.call.place) in
+    borrows-as c.at_root-repair.result.running.now (record c.args.running.now { spent = 0 }) c.turns.new.self.running.now c.finish.new.self e.view e.spent (ap (λ (z : Running). z.tables) same ∙ sym c.finish.ensures.tables) (ap (λ (z : Running). z.spent) same ∙ sym c.finish.ensures.spent) c.in-Ok-Done.ensures.pays
+
+pub returns-in-Ok-Spent-clause-pays : goal.returns-in-Ok-Spent-clause-pays
+returns-in-Ok-Spent-clause-pays c =
+    let e = c.at_root-repair.ensures in
+    let same : c.turns.new.self.running.now ≡ c.running-2-1.given.0 = search (rules, e.place, c.in-Ok-Spent.ensures.call.place) in
+    borrows-as c.at_root-repair.result.running.now (record c.args.running.now { spent = 0 }) c.turns.new.self.running.now c.running-2-1.given.0 e.view e.spent (ap (λ (z : Running). z.tables) same) (ap (λ (z : Running). z.spent) same) c.in-Ok-Spent.ensures.pays

@@ -5,6 +5,7 @@ use Rattle.ceal_repair.specs.Propagation.{IsUpToDate, IsUnderWay, KeepsFront}
 use Rattle.ceal_repair.specs.Turning.{later}
 use Rattle.ceal_repair.specs.declared.running.Running.{Running}
 use Rattle.ceal_repair.specs.declared.tables.Tables.{Tables}
+use Rattle.ceal_repair.proofs.Runs.Paid.{borrows-as}
 use Rattle.ceal_repair.proofs.slice.slice.Goals as goal
 
 pub turns-requires-clause-comes : goal.turns-requires-clause-comes
@@ -82,3 +83,21 @@ returns-in-Err-clause-sure c = λ f args r part honest.
     let e = c.at_root-repair.ensures in
     let come = begun-in c.args.code.now c.args.inputs.now f args c.args.fuel r c.args.running.now part c.at_root-repair.result e.code e.inputs e.view e.heap e.spent in
     absurd (let no : false ≡ true = c.in-Err.ensures.sure f args (since c.args.code.now c.args.inputs.now f args c.args.fuel r c.args.running.now part) c.args.running.now come (rw (e.code, e.inputs) honest) in cc)
+
+pub returns-in-Ok-Done-clause-pays : goal.returns-in-Ok-Done-clause-pays
+returns-in-Ok-Done-clause-pays c =
+    let e = c.at_root-repair.ensures in
+    let same : c.turns.new.self.running.now ≡ c.running-1.given.0 = search (rules, e.place, c.in-Ok-Done.ensures.call.place) in
+    borrows-as c.at_root-repair.result.running.now c.args.running.now c.turns.new.self.running.now c.conclude.new.self e.view e.spent (ap (λ (z : Running). z.tables) same ∙ sym c.conclude.ensures.tables) (ap (λ (z : Running). z.spent) same ∙ sym c.conclude.ensures.spent) c.in-Ok-Done.ensures.pays
+
+pub returns-in-Ok-More-clause-pays : goal.returns-in-Ok-More-clause-pays
+returns-in-Ok-More-clause-pays c =
+    let e = c.at_root-repair.ensures in
+    let same : c.turns.new.self.running.now ≡ c.running-1.given.0 = search (rules, e.place, c.in-Ok-More.ensures.call.place) in
+    borrows-as c.at_root-repair.result.running.now c.args.running.now c.turns.new.self.running.now c.running-1.given.0 e.view e.spent (ap (λ (z : Running). z.tables) same) (ap (λ (z : Running). z.spent) same) c.in-Ok-More.ensures.pays
+
+pub returns-in-Ok-Spent-clause-pays : goal.returns-in-Ok-Spent-clause-pays
+returns-in-Ok-Spent-clause-pays c =
+    let e = c.at_root-repair.ensures in
+    let same : c.turns.new.self.running.now ≡ c.running-1.given.0 = search (rules, e.place, c.in-Ok-Spent.ensures.call.place) in
+    borrows-as c.at_root-repair.result.running.now c.args.running.now c.turns.new.self.running.now c.running-1.given.0 e.view e.spent (ap (λ (z : Running). z.tables) same) (ap (λ (z : Running). z.spent) same) c.in-Ok-Spent.ensures.pays

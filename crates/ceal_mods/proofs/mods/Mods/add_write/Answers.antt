@@ -25,7 +25,7 @@ returns-then-slot-clause-ok c =
     let cell = rw c.deref_mut.ensures.value at c.in_ok-add_write_at.ensures.ok in
     let long : length c.add_write_at.new.cells ≡ length c.self.inside.cells.items = rw cell (length-with _ _ _) in
     let back = with_items_is c.self.inside.cells c.add_write_at.new.cells (long ∙ sym c.self.inside.cells.ok.0) in
-    rw (← c.self.view_is, cell_here c.self.inside.index c.self.inside.cells.items c.args.place c.find-slot.result c.self.invariant c.find-slot.ensures c.if-slot.true) (changed c.self.inside.index c.self.inside.cells.items c.args.place c.find-slot.result c.self.invariant c.find-slot.ensures c.if-slot.true c.self.inside.looked _ _ (back ∙ cell))
+    rw (← c.self.view_is, cell_here c.self.inside.index c.self.inside.cells.items c.args.place c.find-slot.result c.self.invariant c.find-slot.ensures c.if-slot.true) (changed c.self.inside.index c.self.inside.cells.items c.args.place c.find-slot.result c.self.invariant c.find-slot.ensures c.if-slot.true c.self.inside.looked c.self.inside.differed _ _ (back ∙ cell))
 
 pub returns-then-slot-clause-follows : goal.returns-then-slot-clause-follows
 returns-then-slot-clause-follows c =
@@ -40,7 +40,7 @@ returns-then-slot-clause-follows c =
 
 pub returns-clause-ok : goal.returns-clause-ok
 returns-clause-ok c =
-    rw (← c.self.view_is, cell_none c.self.inside.index c.self.inside.cells.items c.args.place c.find-slot.result c.self.invariant c.find-slot.ensures c.if-slot.false, ← c.in_ok-cell.ensures.cell) (added c.self.inside.index c.self.inside.cells.items c.args.place c.find-slot.result c.self.invariant c.find-slot.ensures c.if-slot.false c.self.inside.looked _ _ c.in_ok-enter.ensures.ok)
+    rw (← c.self.view_is, cell_none c.self.inside.index c.self.inside.cells.items c.args.place c.find-slot.result c.self.invariant c.find-slot.ensures c.if-slot.false, ← c.in_ok-cell.ensures.cell) (added c.self.inside.index c.self.inside.cells.items c.args.place c.find-slot.result c.self.invariant c.find-slot.ensures c.if-slot.false c.self.inside.looked c.self.inside.differed _ _ c.in_ok-enter.ensures.ok)
 
 pub returns-clause-follows : goal.returns-clause-follows
 returns-clause-follows c =

@@ -35,7 +35,7 @@ returns-clause-untouched c = λ _.
 
 pub returns-clause-begun : goal.returns-clause-begun
 returns-clause-begun c = λ _.
-    rw (← c.self.view_is, cell_none c.self.inside.index c.self.inside.cells.items c.args.place c.find-slot.result c.self.invariant c.find-slot.ensures c.if-slot.false) (added c.self.inside.index c.self.inside.cells.items c.args.place c.find-slot.result c.self.invariant c.find-slot.ensures c.if-slot.false c.self.inside.looked _ _ c.in_ok-enter_base.ensures.ok)
+    rw (← c.self.view_is, cell_none c.self.inside.index c.self.inside.cells.items c.args.place c.find-slot.result c.self.invariant c.find-slot.ensures c.if-slot.false) (added c.self.inside.index c.self.inside.cells.items c.args.place c.find-slot.result c.self.invariant c.find-slot.ensures c.if-slot.false c.self.inside.looked c.self.inside.differed _ _ c.in_ok-enter_base.ensures.ok)
 
 pub returns-clause-follows : goal.returns-clause-follows
 returns-clause-follows c = λ order follows.

@@ -25,7 +25,7 @@ returns-then-slot-clause-cell c =
     let cell = rw c.deref_mut.ensures.value at c.remove_write_at.ensures.cell in
     let long : length c.remove_write_at.new.cells ≡ length c.self.inside.cells.items = rw cell (length-with _ _ _) in
     let back = with_items_is c.self.inside.cells c.remove_write_at.new.cells (long ∙ sym c.self.inside.cells.ok.0) in
-    rw (← c.self.view_is, cell_here c.self.inside.index c.self.inside.cells.items c.args.place c.find-slot.result c.self.invariant c.find-slot.ensures c.if-slot.true) (changed c.self.inside.index c.self.inside.cells.items c.args.place c.find-slot.result c.self.invariant c.find-slot.ensures c.if-slot.true c.self.inside.looked _ _ (back ∙ cell))
+    rw (← c.self.view_is, cell_here c.self.inside.index c.self.inside.cells.items c.args.place c.find-slot.result c.self.invariant c.find-slot.ensures c.if-slot.true) (changed c.self.inside.index c.self.inside.cells.items c.args.place c.find-slot.result c.self.invariant c.find-slot.ensures c.if-slot.true c.self.inside.looked c.self.inside.differed _ _ (back ∙ cell))
 
 pub returns-then-slot-clause-follows : goal.returns-then-slot-clause-follows
 returns-then-slot-clause-follows c =

@@ -18,3 +18,9 @@ pub returns-clause-follows : goal.returns-clause-follows
 returns-clause-follows c =
     let left = rw c.replace-tree.ensures.value at c.without_stamp-taken.ensures in
     rw left (rising_without _ _ _ (rw (← c.self.view_is) at c.requires.follows))
+
+pub returns-clause-fewer : goal.returns-clause-fewer
+returns-clause-fewer c = λ i.
+    let left = rw c.replace-tree.ensures.value at c.without_stamp-taken.ensures in
+    let long = length-without c.args.stamp.0 (stamps_of c.self.inside.tree) (sym c.if-not-has.ensures) in
+    rw (left, ← c.self.view_is) (omega (arith, long))

@@ -6,7 +6,7 @@ use Rattle.ceal_order.specs.declared.stamp.Stamp.{Stamp}
 use Rattle.ceal_repair.proofs.Reuse.ReadReuseInCode.{none-entered}
 use Rattle.ceal_repair.proofs.Runs.UnitSteps.{NodeMore}
 use Rattle.ceal_repair.proofs.Runs.NewRead.{now-begin, resumed-as}
-use Rattle.ceal_repair.proofs.Runs.RepairView.{running-here, runs-as, IsStepped, stepped-here, node-behind, begun-view, cursor-kept, with_parts}
+use Rattle.ceal_repair.proofs.Runs.RepairView.{running-here, runs-as, IsStepped, stepped-here, stepped-late, node-behind, begun-view, cursor-kept, with_parts}
 use Rattle.ceal_repair.specs.Reads.{key_in, closure_in}
 use Rattle.ceal_repair.specs.Repairs.{code_of, inputs_of, arguments_of, view}
 use Rattle.ceal_repair.specs.declared.frame.Frame.TheVariants.{Begun}
@@ -14,6 +14,9 @@ use Rattle.ceal_repair.specs.declared.repair.Repair.{Repair}
 use Rattle.ceal_theory.specs.Repair.{resumed}
 use Rattle.ceal_trace.specs.declared.node.Node.{Node}
 use Rattle.ceal_trace.specs.declared.node.Node.TheVariants.{Read}
+use Rattle.std.proofs.Common.{refl, arith}
+use Rattle.ceal_repair.proofs.Runs.Paid.{step-pays, spends, due-put}
+use Rattle.ceal_repair.specs.declared.running.Running.{Running}
 use Rattle.ceal_repair.proofs.repair.Repair.begin.Goals as goal
 
 pub step-requires-clause-here : goal.step-requires-clause-here
@@ -24,6 +27,12 @@ begin_read-requires-clause-here c =
     let e = c.in_ok-step.ensures in
     let h : IsStepped c.args.self.now c.step.new.self = record { rest = e.rest; heap = e.heap; spent = e.spent; more = record { nodes = e.nodes; mods = e.mods; queue = e.queue; kept = e.kept } } in
     stepped-here c.requires.acts.0 c.requires.acts.1.stack c.args.self.now c.step.new.self c.requires.acts.1.now h
+
+pub begin_read-requires-clause-late : goal.begin_read-requires-clause-late
+begin_read-requires-clause-late c =
+    let e = c.in_ok-step.ensures in
+    let h : IsStepped c.args.self.now c.step.new.self = record { rest = e.rest; heap = e.heap; spent = e.spent; more = record { nodes = e.nodes; mods = e.mods; queue = e.queue; kept = e.kept } } in
+    stepped-late c.requires.acts.0 c.requires.acts.1.stack c.args.self.now c.step.new.self c.requires.acts.1.now h
 
 pub returns-clause-runs : goal.returns-clause-runs
 returns-clause-runs c = λ start a.
@@ -55,3 +64,13 @@ returns-clause-runs c = λ start a.
     (resumed-as new.code.now old.code.now code c.args.reading.unit c.args.reading.var words word (stack_in c.resume.new.self) (stack_in c.set_aside.new.self) c.in_ok-below.ensures.empty c.in_ok-resume.ensures.resumed
     ∙ ap (λ ws. resumed old.code.now c.args.reading.unit c.args.reading.var ws word) args-kept)
     (begun-view old new h c.begin_read.new.self read.0 (Begun below read) c.push.new.self.items c.in_ok-push.ensures.items)
+
+pub returns-clause-pays : goal.returns-clause-pays
+returns-clause-pays c =
+    let a : Running = c.args.self.now.running.now in
+    let b : Running = c.step.new.self.running.now in
+    let e = c.in_ok-step.ensures in
+    let stepped = step-pays a b _ _ e.nodes e.mods e.queue e.spent in
+    let f = c.in_ok-begun.ensures in
+    let d = due-put b.tables c.begin_read.new.self c.step.new.self.cursor.0 c.in_ok-begun.begun.read.0 _ 1 f.nodes f.looks in
+    spends 5 a b (record b { tables = c.begin_read.new.self }) stepped (omega (arith, d)) refl f.differed

@@ -5,6 +5,8 @@ use Rattle.ceal_repair.specs.Repairs.{code_of, inputs_of}
 use Rattle.ceal_repair.specs.declared.repair.Repair.{Repair}
 use Rattle.ceal_trace.proofs.Entries.{has-held}
 use Rattle.ceal_trace.specs.Nodes.{is_read}
+use Rattle.ceal_repair.proofs.Runs.Paid.{stays, due-steps}
+use Rattle.ceal_repair.specs.declared.running.Running.{Running}
 use Rattle.ceal_repair.proofs.repair.Repair.begin_turn.Goals as goal
 
 pub unit_at-requires : goal.unit_at-requires
@@ -36,3 +38,9 @@ returns-clause-begins c = λ f args o found.
       limit = c.end_of-self.result;
     })
     refl refl s.nodes s.mods s.queue s.kept refl refl refl c.requires.idle c.end_of-self.ensures.finished c.end_of-self.ensures.open c.in_ok-unit_at.ensures.unit
+
+pub returns-clause-pays : goal.returns-clause-pays
+returns-clause-pays c =
+    let a : Running = c.args.self.now.running.now in
+    let g = c.set_steps.ensures in
+    stays a (record a { tables = c.set_steps.new.self }) (due-steps a.tables c.set_steps.new.self _ _ g.nodes g.mods g.queue) refl (ap (λ m. m.differed) g.mods)

@@ -5,6 +5,7 @@ use Rattle.ceal_repair.specs.Entries.{stamped}
 use Rattle.ceal_repair.specs.Moment.{through}
 use Rattle.ceal_repair.specs.Repairs.{code_of, inputs_of, view}
 use Rattle.ceal_repair.specs.declared.repair.Repair.{Repair}
+use Rattle.ceal_repair.proofs.Runs.Paid.{stays}
 use Rattle.ceal_repair.proofs.repair.Repair.end_turn.Goals as goal
 
 pub unreachable-requires : goal.unreachable-requires
@@ -43,3 +44,8 @@ returns-clause-ends c = λ f args o before start b z.
     (e.all (through now.placed.done now.placed.last) now.left now.tail (lies-ended (code_of old) (inputs_of old) f args o before start b z.stack (view old) now none)
     (first-ended (code_of old) (inputs_of old) f args o before start b z.stack (view old) now none ∙ ap (λ (s : Stamp). Some s.0) same))
     e.kept e.blocks (e.has (code_of old) (inputs_of old)) e.spent
+
+pub returns-clause-pays : goal.returns-clause-pays
+returns-clause-pays c =
+    let f = c.in_ok-cut_until.ensures in
+    stays c.args.self.now.running.now c.cut_until.new.self f.looks f.spent f.differed

@@ -9,6 +9,10 @@ use Rattle.ceal_repair.specs.Repairs.{code_of, inputs_of, view}
 use Rattle.ceal_repair.specs.declared.frame.Frame.TheVariants.{Begun}
 use Rattle.ceal_repair.specs.declared.repair.Repair.{Repair}
 use Rattle.ceal_trace.specs.declared.node.Node.TheVariants.{End}
+use Rattle.std.proofs.Common.{arith, ap}
+use Rattle.ceal_repair.proofs.Runs.Paid.{stays, due-put}
+use Rattle.ceal_repair.specs.declared.running.Running.{Running}
+use Rattle.ceal_repair.proofs.TableCalls.FewLooks.{owed-same}
 use Rattle.ceal_repair.proofs.repair.Repair.finish.Goals as goal
 
 pub finish_read-requires-clause-read : goal.finish_read-requires-clause-read
@@ -45,3 +49,11 @@ returns-clause-runs c = λ start a.
     (record (with_parts r (record r.running.now { tables = c.finish_read.new.self }) c.bring_back.new.self r.frames.now) { cursor = c.in_ok-self.field-0 })
     (now-finish (code_of r) (inputs_of r) start a.stack (view r) c.args.below c.args.read a.now c.finish_read.new.self s a.over k)
     refl refl c.bring_back.ensures.back refl
+
+pub returns-clause-pays : goal.returns-clause-pays
+returns-clause-pays c =
+    let a : Running = c.args.self.now.running.now in
+    let f = c.in_ok-self.ensures in
+    let o = owed-same a.tables c.finish_read.new.self f.mods f.queue in
+    let d = due-put a.tables c.finish_read.new.self c.args.self.now.cursor.0 c.in_ok-self.field-0.0 (End c.args.read) 0 f.nodes (omega (arith, o)) in
+    stays a (record a { tables = c.finish_read.new.self }) (omega (arith, d)) refl (ap (λ m. m.differed) f.mods)

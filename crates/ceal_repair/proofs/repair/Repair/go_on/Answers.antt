@@ -8,6 +8,8 @@ use Rattle.ceal_repair.specs.Moment.{Start, through}
 use Rattle.ceal_repair.specs.Reads.{EndsKept}
 use Rattle.ceal_repair.specs.Repairs.{code_of, inputs_of, view, Runs, PassesOn}
 use Rattle.ceal_repair.specs.declared.repair.Repair.{Repair}
+use Rattle.ceal_repair.proofs.Runs.Paid.{stays, pays-then, on-ok}
+use Rattle.ceal_repair.specs.declared.running.Running.{Running}
 use Rattle.ceal_repair.proofs.repair.Repair.go_on.Goals as goal
 
 pub cut_until-requires-clause-lies : goal.cut_until-requires-clause-lies
@@ -40,3 +42,9 @@ returns-clause-runs c =
         → ((start : Start) → EndsKept start until old → PassesOn start mid) → OnOk r ((start : Start) → EndsKept start until old → Runs start new)
     go (Ok a) old mid new until h f = λ start ends. h start (f start ends)
     go (Err e) old mid new until h f = h
+
+pub returns-clause-pays : goal.returns-clause-pays
+returns-clause-pays c =
+    let a : Running = c.args.self.now.running.now in
+    let f = c.in_ok-cut_until.ensures in
+    on-ok c.pass.result (pays-then 0 a c.cut_until.new.self c.pass.new.self.running.now (stays a c.cut_until.new.self f.looks f.spent f.differed)) c.pass.ensures.pays

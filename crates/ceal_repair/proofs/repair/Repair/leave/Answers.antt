@@ -9,6 +9,9 @@ use Rattle.ceal_repair.specs.Repairs.{code_of, inputs_of, view}
 use Rattle.ceal_repair.specs.declared.repair.Repair.{Repair}
 use Rattle.ceal_repair.specs.declared.tables.Tables.{Tables}
 use Rattle.ceal_trace.specs.Nodes.{has_node, with_steps}
+use Rattle.std.proofs.Common.{arith}
+use Rattle.ceal_repair.proofs.Runs.Paid.{stays, due-steps}
+use Rattle.ceal_repair.specs.declared.running.Running.{Running}
 use Rattle.ceal_repair.proofs.repair.Repair.leave.Goals as goal
 
 pub cut_until-requires-clause-lies : goal.cut_until-requires-clause-lies
@@ -59,3 +62,11 @@ returns-clause-runs c = λ start a.
     nodes g.mods g.queue g.kept) refl refl c.bring_back.ensures.back
     (ap (λ (k : ℕ). record { tables = c.set_steps.new.self; heap = c.cut_until.new.self.heap; spent = k; cursor = c.in-Some.end.0; limit = Some c.args.until; frames = (view old).frames }) f.spent
     ∙ ap (λ (s : Stamp). record { tables = c.set_steps.new.self; heap = c.cut_until.new.self.heap; spent = old.running.now.spent; cursor = s.0; limit = Some c.args.until; frames = (view old).frames }) (sym same))
+
+pub returns-clause-pays : goal.returns-clause-pays
+returns-clause-pays c =
+    let a : Running = c.args.self.now.running.now in
+    let f = c.in_ok-cut_until.ensures in
+    let g = c.set_steps.ensures in
+    let d = due-steps c.cut_until.new.self.tables c.set_steps.new.self _ _ g.nodes g.mods g.queue in
+    stays a (record c.cut_until.new.self { tables = c.set_steps.new.self }) (let l = f.looks in omega (arith, d, l)) f.spent (ap (λ m. m.differed) g.mods ∙ f.differed)

@@ -14,6 +14,13 @@ use Rattle.ceal_repair.specs.Repairs.{code_of, inputs_of, stack_of, view}
 use Rattle.ceal_repair.specs.declared.repair.Repair.{Repair}
 use Rattle.ceal_trace.specs.Nodes.{has_node}
 use Rattle.ceal_trace.specs.declared.node.Node.TheVariants.{Alloc}
+use Rattle.std.proofs.Common.{arith}
+use Rattle.ceal_repair.proofs.Runs.Paid.{step-pays, spends, due-put, due-made}
+use Rattle.ceal_repair.specs.declared.running.Running.{Running}
+use Rattle.ceal_repair.proofs.TableCalls.FewLooks.{owed-same}
+use Rattle.ceal_repair.specs.Blocks.{HasBlocks}
+use Rattle.ceal_repair.proofs.Reuse.AllocReuseInCode.{has-stepped}
+use Rattle.ceal_repair.proofs.Runs.NewBlock.{none-made}
 use Rattle.ceal_repair.proofs.repair.Repair.make_new.Goals as goal
 
 pub step-requires-clause-here : goal.step-requires-clause-here
@@ -54,3 +61,27 @@ returns-clause-runs c = λ start a.
     (none-left old start a.stack a.now c.args.key c.requires.absent) c.args.var unit.unit unit.index (arguments unit.env.items) below a.does)
     (ap code_of h.rest) (ap inputs_of h.rest) stack
     (made-view old new h c.put_alloc.new.self c.make.new.self.heap c.make.new.self.spent s f.spent)
+
+pub returns-clause-pays : goal.returns-clause-pays
+returns-clause-pays c =
+    let old : Repair = c.args.self.now in
+    let new : Repair = c.step.new.self in
+    let a : Running = old.running.now in
+    let b : Running = new.running.now in
+    let e = c.in_ok-step.ensures in
+    let h : IsStepped old new = record { rest = e.rest; heap = e.heap; spent = e.spent; more = record { nodes = e.nodes; mods = e.mods; queue = e.queue; kept = e.kept } } in
+    let stepped = step-pays a b _ _ e.nodes e.mods e.queue e.spent in
+    let f = c.in_ok-block.ensures in
+    let block : BlockId = c.in_ok-block.block in
+    let made : MadeBlock (code_of new) (inputs_of new) block c.args.key new.running.now.heap c.make.new.self.heap new.running.now.tables c.make.new.self.tables =
+    record { unused = f.new; live = f.live; words = f.words; others = f.others; bases = f.bases; kept_bases = f.kept_bases; trace = f.trace; only = f.only; kept = f.kept } in
+    let start = c.requires.acts.0 in
+    let acts = c.requires.acts.1 in
+    let has = subst (λ z. HasBlocks (code_of old) (inputs_of old) z b.tables) e.heap (has-stepped old new h start acts.stack acts.now) in
+    let none = none-made (code_of old) (inputs_of old) f.core.0 c.args.key old.running.now.heap c.make.new.self.heap b.tables c.make.new.self.tables
+    (block-as old new h block f.core.0 f.core.1 c.args.key c.make.new.self.heap b.tables c.make.new.self.tables made) has e.kept in
+    let d = due-made b.tables c.make.new.self.tables f.trace f.looked _ f.kept.step.stale none in
+    let g = c.in_ok-self.ensures in
+    let o = owed-same c.make.new.self.tables c.put_alloc.new.self g.mods g.queue in
+    let n = due-put c.make.new.self.tables c.put_alloc.new.self new.cursor.0 c.in_ok-self.field-0.0 (Alloc block c.args.key) 0 g.nodes (omega (arith, o)) in
+    spends 5 a b (record c.make.new.self { tables = c.put_alloc.new.self }) stepped (omega (arith, d, n)) f.spent (ap (λ m. m.differed) g.mods ∙ f.differed)

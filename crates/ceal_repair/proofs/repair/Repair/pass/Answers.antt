@@ -4,6 +4,9 @@ use Rattle.ceal_repair.proofs.KeptNodes.PassAll.{limit-there, left-from}
 use Rattle.ceal_repair.specs.Repairs.{code_of, inputs_of, view, PassesOn}
 use Rattle.ceal_repair.specs.declared.repair.Repair.{Repair}
 use Rattle.ceal_trace.specs.Nodes.{stamps_in}
+use Rattle.std.proofs.Common.{refl}
+use Rattle.ceal_repair.proofs.Runs.Paid.{stays, pays-then, due-same, due-value, one-pays, on-ok}
+use Rattle.ceal_repair.specs.declared.running.Running.{Running}
 use Rattle.ceal_repair.proofs.repair.Repair.pass.Goals as goal
 
 pub first_stale-requires-clause-kept : goal.first_stale-requires-clause-kept
@@ -76,3 +79,17 @@ returns-in-None-clause-runs c = λ start a.
       cells = e.cells;
       kept = e.kept;
     })
+
+pub returns-in-None-clause-pays : goal.returns-in-None-clause-pays
+returns-in-None-clause-pays c =
+    let a : Running = c.args.self.now.running.now in
+    let b : Running = record a { tables = c.first_stale.new.self } in
+    let e = c.in-None.ensures in
+    pays-then 0 a b c.pass_all.new.self.running.now (stays a b (due-same a.tables c.first_stale.new.self e.none e.idle) refl e.none_differs) c.pass_all.ensures.pays
+
+pub returns-in-Some-clause-pays : goal.returns-in-Some-clause-pays
+returns-in-Some-clause-pays c =
+    let a : Running = c.args.self.now.running.now in
+    let b : Running = record a { tables = c.first_stale.new.self } in
+    let e = c.in-Some.ensures in
+    on-ok c.repair_inside.result (pays-then 0 a b c.repair_inside.new.self.running.now (one-pays a b (due-value a.tables c.first_stale.new.self _ _ 1 e.nodes.3 c.first_stale.ensures.looks) refl e.differs)) c.repair_inside.ensures.pays

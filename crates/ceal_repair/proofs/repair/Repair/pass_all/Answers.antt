@@ -12,6 +12,8 @@ use Rattle.ceal_repair.specs.declared.frame.Frame.{Frame}
 use Rattle.ceal_repair.specs.declared.repair.Repair.{Repair}
 use Rattle.ceal_repair.specs.declared.tables.Tables.{Tables}
 use Rattle.ceal_trace.specs.Nodes.{has_node, with_steps}
+use Rattle.ceal_repair.proofs.Runs.Paid.{stays, due-steps}
+use Rattle.ceal_repair.specs.declared.running.Running.{Running}
 use Rattle.ceal_repair.proofs.repair.Repair.pass_all.Goals as goal
 
 pub set_steps-requires-clause-here : goal.set_steps-requires-clause-here
@@ -63,3 +65,9 @@ returns-clause-runs c = λ start a.
     (ap (λ (s : Stamp). record { tables = t; heap = old.running.now.heap; spent = old.running.now.spent; cursor = s.0; limit = Some c.in-Some-Taken.limit; frames = reverse c.pop.new.self.items }) (sym same)
     ∙ (ap (λ (l : Stamp). record { tables = t; heap = old.running.now.heap; spent = old.running.now.spent; cursor = a.until.0; limit = Some l; frames = reverse c.pop.new.self.items }) next
     ∙ ap (λ (gs : List Frame). record { tables = t; heap = old.running.now.heap; spent = old.running.now.spent; cursor = a.until.0; limit = Some n.next; frames = gs }) fs))
+
+pub returns-clause-pays : goal.returns-clause-pays
+returns-clause-pays c =
+    let a : Running = c.args.self.now.running.now in
+    let g = c.set_steps.ensures in
+    stays a (record a { tables = c.set_steps.new.self }) (due-steps a.tables c.set_steps.new.self _ _ g.nodes g.mods g.queue) refl (ap (λ m. m.differed) g.mods)

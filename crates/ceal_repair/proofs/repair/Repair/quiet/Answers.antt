@@ -4,6 +4,9 @@ use Rattle.ceal_repair.proofs.Runs.UnitSteps.{now-quiet}
 use Rattle.ceal_repair.proofs.Runs.RepairView.{running-here, runs-as, IsStepped, stepped-view}
 use Rattle.ceal_repair.specs.Repairs.{code_of, inputs_of, view}
 use Rattle.ceal_repair.specs.declared.repair.Repair.{Repair}
+use Rattle.std.proofs.Common.{refl, arith}
+use Rattle.ceal_repair.proofs.Runs.Paid.{step-pays, spends}
+use Rattle.ceal_repair.specs.declared.running.Running.{Running}
 use Rattle.ceal_repair.proofs.repair.Repair.quiet.Goals as goal
 
 pub step-requires-clause-here : goal.step-requires-clause-here
@@ -18,3 +21,11 @@ returns-clause-runs c = λ start a.
     runs-as (code_of old) (inputs_of old) start (stack_in old.stack.now) _ new
     (now-quiet (code_of old) (inputs_of old) start a.stack (view old) a.now (stack_in old.stack.now) new.running.now.tables a.does h.more)
     (ap code_of h.rest) (ap inputs_of h.rest) (ap (λ (r : Repair). stack_in r.stack.now) h.rest) (stepped-view old new h)
+
+pub returns-clause-pays : goal.returns-clause-pays
+returns-clause-pays c =
+    let a : Running = c.args.self.now.running.now in
+    let b : Running = c.step.new.self.running.now in
+    let e = c.in_ok-step.ensures in
+    let stepped = step-pays a b _ _ e.nodes e.mods e.queue e.spent in
+    spends 5 a b b stepped (omega arith) refl refl

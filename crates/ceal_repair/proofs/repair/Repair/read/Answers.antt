@@ -1,5 +1,6 @@
 use Rattle.std.proofs.Common.{◌≡◌, true, false, subst, arith}
 use Rattle.ceal_repair.specs.Reads.{Entered}
+use Rattle.ceal_repair.proofs.Runs.Paid.{pays-then}
 use Rattle.ceal_repair.proofs.repair.Repair.read.Goals as goal
 
 pub pass-requires : goal.pass-requires
@@ -16,3 +17,7 @@ pub returns-else-not-branch-clause-runs : goal.returns-else-not-branch-clause-ru
 returns-else-not-branch-clause-runs c = λ start a.
     let anew : c.in_ok-take_read-in-Some.field-0 ≡ true = grind (arith, c.if-not-branch.false) in
     subst (λ b. Entered b start c.take_read.new.self) anew (c.in_ok-take_read-in-Some.ensures.runs start a)
+
+pub returns-in_ok-pass-in-Some-clause-pays : goal.returns-in_ok-pass-in-Some-clause-pays
+returns-in_ok-pass-in-Some-clause-pays c =
+    pays-then 0 c.args.self.now.running.now c.take_read.new.self.running.now c.pass.new.self.running.now c.in_ok-take_read-in-Some.ensures.pays c.in_ok-pass-in-Some.ensures.pays

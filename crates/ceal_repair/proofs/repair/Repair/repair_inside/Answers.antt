@@ -13,6 +13,8 @@ use Rattle.ceal_repair.specs.declared.repair.Repair.{Repair}
 use Rattle.ceal_repair.specs.declared.tables.Tables.{Tables}
 use Rattle.ceal_theory.specs.Repair.{resumed}
 use Rattle.ceal_trace.specs.Nodes.{is_read}
+use Rattle.ceal_repair.proofs.Runs.Paid.{stays, due-steps}
+use Rattle.ceal_repair.specs.declared.running.Running.{Running}
 use Rattle.ceal_repair.proofs.repair.Repair.repair_inside.Goals as goal
 
 pub set_steps-requires-clause-here : goal.set_steps-requires-clause-here
@@ -69,3 +71,9 @@ returns-clause-runs c = λ start a.
     refl refl (c.in_ok-unit_at.ensures.unit r.place now-word r.unit r.var r.args (node-then (code_of old) (inputs_of old) start a.until (record (view old) { tables = a.before }) a.now c.args.read.0 a.stale a.limit t1 t seen a.queued (bases-cells t1.mods a.before.mods a.cells) a.kept g.nodes g.mods g.queue g.kept))
     (ap (λ (o : Option Stamp). record { tables = t; heap = old.running.now.heap; spent = old.running.now.spent; cursor = c.args.read.0; limit = o; frames = reverse c.push.new.self.items }) limit
     ∙ ap (λ (gs : List Frame). record { tables = t; heap = old.running.now.heap; spent = old.running.now.spent; cursor = c.args.read.0; limit = Some (stamped r.end); frames = gs }) frames)
+
+pub returns-clause-pays : goal.returns-clause-pays
+returns-clause-pays c =
+    let a : Running = c.args.self.now.running.now in
+    let g = c.set_steps.ensures in
+    stays a (record a { tables = c.set_steps.new.self }) (due-steps a.tables c.set_steps.new.self _ _ g.nodes g.mods g.queue) refl (ap (λ m. m.differed) g.mods)

@@ -13,6 +13,9 @@ use Rattle.ceal_repair.specs.Moment.{through}
 use Rattle.ceal_repair.specs.Repairs.{code_of, inputs_of, stack_of, view}
 use Rattle.ceal_repair.specs.declared.repair.Repair.{Repair}
 use Rattle.ceal_trace.specs.declared.node.Node.TheVariants.{Alloc}
+use Rattle.std.proofs.Common.{refl, arith}
+use Rattle.ceal_repair.proofs.Runs.Paid.{step-pays, spends, due-steps}
+use Rattle.ceal_repair.specs.declared.running.Running.{Running}
 use Rattle.ceal_repair.proofs.repair.Repair.take_alloc.Goals as goal
 
 pub step-requires-clause-here : goal.step-requires-clause-here
@@ -101,3 +104,14 @@ returns-clause-runs c = λ start a.
     c.args.var unit.unit unit.index (arguments unit.env.items) below a.does)
     (ap code_of h.rest) (ap inputs_of h.rest) stack
     (made-view old new h c.set_steps.new.self c.cut_until.new.self.heap c.cut_until.new.self.spent c.args.found.0 f.spent)
+
+pub returns-clause-pays : goal.returns-clause-pays
+returns-clause-pays c =
+    let a : Running = c.args.self.now.running.now in
+    let b : Running = c.step.new.self.running.now in
+    let e = c.in_ok-step.ensures in
+    let stepped = step-pays a b _ _ e.nodes e.mods e.queue e.spent in
+    let f = c.in_ok-cut_until.ensures in
+    let g = c.set_steps.ensures in
+    let d = due-steps c.cut_until.new.self.tables c.set_steps.new.self _ _ g.nodes g.mods g.queue in
+    spends 5 a b (record c.cut_until.new.self { tables = c.set_steps.new.self }) stepped (let l = f.looks in omega (arith, d, l)) f.spent (ap (λ m. m.differed) g.mods ∙ f.differed)

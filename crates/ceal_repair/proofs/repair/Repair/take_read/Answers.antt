@@ -21,6 +21,9 @@ use Rattle.ceal_theory.specs.Repair.{resumed}
 use Rattle.ceal_trace.proofs.Entries.{has-held, stamps-changed}
 use Rattle.ceal_trace.specs.Nodes.{Timeline, is_read, node_at, stamps_in, value_set}
 use Rattle.ceal_trace.specs.declared.node.Node.TheVariants.{Read}
+use Rattle.std.proofs.Common.{arith}
+use Rattle.ceal_repair.proofs.Runs.Paid.{step-pays, spends, pays-then, one-pays, stays, due-value, due-steps, due-same}
+use Rattle.ceal_repair.specs.declared.running.Running.{Running}
 use Rattle.ceal_repair.proofs.repair.Repair.take_read.Goals as goal
 
 pub step-requires-clause-here : goal.step-requires-clause-here
@@ -157,3 +160,33 @@ returns-in_ok-go_inside-2-clause-runs c = λ start a.
           (ap code_of i.rest ∙ ap code_of h.rest) (ap inputs_of i.rest ∙ ap inputs_of h.rest)
           (ap view i.rest ∙ entered-view old c.step.new.self h c.look.new.self c.cut_until.new.self.heap c.cut_until.new.self.spent c.args.found.0 gone.limit (Some (stamped m.end)) (Taken c.in_ok-below.below until) gone.frames.now.items f.spent ends i.frames),
     )
+
+pub returns-in_ok-resume-clause-pays : goal.returns-in_ok-resume-clause-pays
+returns-in_ok-resume-clause-pays c =
+    let a : Running = c.args.self.now.running.now in
+    let b : Running = c.step.new.self.running.now in
+    let e = c.in_ok-step.ensures in
+    let stepped = step-pays a b _ _ e.nodes e.mods e.queue e.spent in
+    let f = c.in_ok-cut_until.ensures in
+    let t : Running = c.cut_until.new.self in
+    let u : Running = record t { tables = c.look.new.self } in
+    let g = c.set_steps.ensures in
+    let w : Running = record t { tables = c.set_steps.new.self } in
+    let n = c.look.ensures.nodes c.if-look.true in
+    let first = pays-then 0 a t u (spends 5 a b t stepped (let l = f.looks in omega (arith, l)) f.spent f.differed)
+    (one-pays t u (due-value t.tables c.look.new.self _ _ 1 n.3 c.look.ensures.looks) refl (c.look.ensures.differs c.if-look.true)) in
+    rw (ap running_of c.in_ok-go_inside.ensures.rest)
+    (pays-then 0 a u w first (stays u w (due-steps u.tables c.set_steps.new.self _ _ g.nodes g.mods g.queue) refl (ap (λ m. m.differed) g.mods)))
+
+pub returns-in_ok-go_inside-2-clause-pays : goal.returns-in_ok-go_inside-2-clause-pays
+returns-in_ok-go_inside-2-clause-pays c =
+    let a : Running = c.args.self.now.running.now in
+    let b : Running = c.step.new.self.running.now in
+    let e = c.in_ok-step.ensures in
+    let stepped = step-pays a b _ _ e.nodes e.mods e.queue e.spent in
+    let f = c.in_ok-cut_until.ensures in
+    let t : Running = c.cut_until.new.self in
+    let u : Running = record t { tables = c.look.new.self } in
+    rw (ap running_of c.in_ok-go_inside-2.ensures.rest)
+    (pays-then 0 a t u (spends 5 a b t stepped (let l = f.looks in omega (arith, l)) f.spent f.differed)
+    (stays t u (due-same t.tables c.look.new.self (c.look.ensures.same c.if-look.false) (c.look.ensures.idle c.if-look.false)) refl (c.look.ensures.none_differs c.if-look.false)))

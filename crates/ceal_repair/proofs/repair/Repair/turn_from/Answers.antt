@@ -1,5 +1,6 @@
 use Rattle.std.proofs.Common.{arith, ◌≤◌}
 use Rattle.ceal_repair.proofs.Propagation.TurnAgreement.{turn-out, began-gone, turn-made}
+use Rattle.ceal_repair.proofs.Runs.Paid.{pays-then}
 use Rattle.ceal_repair.proofs.repair.Repair.turn_from.Goals as goal
 
 pub complete-requires : goal.complete-requires
@@ -46,3 +47,12 @@ returns-clause-within c = λ told.
     let done = rw c.if-not-branch.false at (c.in_ok-complete.ensures.done runs.start runs.runs) in
     let few : c.complete.new.repair.running.now.spent ≤ c.args.fuel = done.1 in
     omega (arith, few, c.in_ok-end_turn.ensures.spent)
+
+pub returns-then-not-branch-clause-pays : goal.returns-then-not-branch-clause-pays
+returns-then-not-branch-clause-pays c =
+    pays-then 0 c.args.self.now.running.now c.begin_turn.new.self.running.now c.complete.new.repair.running.now c.in_ok-begin_turn.ensures.pays c.in_ok-complete.ensures.pays
+
+pub returns-clause-pays : goal.returns-clause-pays
+returns-clause-pays c =
+    pays-then 0 c.args.self.now.running.now c.complete.new.repair.running.now c.end_turn.new.self.running.now
+    (pays-then 0 c.args.self.now.running.now c.begin_turn.new.self.running.now c.complete.new.repair.running.now c.in_ok-begin_turn.ensures.pays c.in_ok-complete.ensures.pays) c.in_ok-end_turn.ensures.pays

@@ -1,6 +1,10 @@
 use Rattle.ceal_repair.specs.Turning.{later}
 use Rattle.std.proofs.Common.{arith}
 use Rattle.ceal_repair.proofs.Propagation.TurnAgreement.{no-turns-in, not-last, one-more, is-under-way, is-done, is-up-to-date, found_by, found-never, turn-more}
+use Rattle.std.proofs.Common.{refl}
+use Rattle.ceal_repair.proofs.Runs.Paid.{pays-then, one-pays, due-value}
+use Rattle.ceal_repair.proofs.Runs.Paid.{due-one, borrows, pays-borrows}
+use Rattle.ceal_repair.specs.declared.running.Running.{Running}
 use Rattle.ceal_repair.proofs.repair.Repair.turns.Goals as goal
 
 pub loop-turn-init : goal.loop-turn-init
@@ -43,6 +47,9 @@ loop-turn-preserved c =
           (found_by c.args.self.now c.loop-turn.self c.loop-turn.turn c.loop-turn.invariant.turning c.first_stale.new.self e.kept e.cells c.in-Some.read.0 e.stale e.nodes e.behind f args o before h)));
       few = one-more c.loop-turn.turn c.args.reads (not-last c.loop-turn.turn c.args.reads c.loop-turn.invariant.few (c.is_last.ensures.fewer c.if-is_last.false));
       within = λ h. g.within c.if-not-branch.false;
+      pays = pays-then 0 c.args.self.now.running.now c.loop-turn.self.running.now c.turn_from.new.self.running.now c.loop-turn.invariant.pays
+          (pays-then 0 c.loop-turn.self.running.now (record c.loop-turn.self.running.now { tables = c.first_stale.new.self }) c.turn_from.new.self.running.now
+          (one-pays c.loop-turn.self.running.now (record c.loop-turn.self.running.now { tables = c.first_stale.new.self }) (due-value c.loop-turn.self.running.now.tables c.first_stale.new.self _ _ 1 e.nodes.3 c.first_stale.ensures.looks) refl e.differs) g.pays);
     }
 
 pub returns-clause-sure : goal.returns-clause-sure
@@ -62,3 +69,30 @@ returns-then-is_last-clause-ended c = λ f args o before h. (
   c.loop-turn.invariant.few,
   is-done c.args.self.now c.loop-turn.self c.loop-turn.turn c.loop-turn.invariant.turning c.has_stale.new.self c.has_stale.ensures.kept c.has_stale.ensures.cells c.has_stale.ensures.trace (c.has_stale.ensures.honest c.if-has_stale.false) f args o before h,
 )
+
+pub returns-then-has_stale-clause-pays : goal.returns-then-has_stale-clause-pays
+returns-then-has_stale-clause-pays c =
+    let b : Running = c.loop-turn.self.running.now in
+    let h = c.has_stale.ensures in
+    borrows c.args.self.now.running.now b (record b { tables = c.has_stale.new.self }) c.loop-turn.invariant.pays (due-one b.tables c.has_stale.new.self h.trace h.looks) refl h.differed
+
+pub returns-then-is_last-clause-pays : goal.returns-then-is_last-clause-pays
+returns-then-is_last-clause-pays c =
+    let b : Running = c.loop-turn.self.running.now in
+    let h = c.has_stale.ensures in
+    borrows c.args.self.now.running.now b (record b { tables = c.has_stale.new.self }) c.loop-turn.invariant.pays (due-one b.tables c.has_stale.new.self h.trace h.looks) refl h.differed
+
+pub returns-in-None-clause-pays : goal.returns-in-None-clause-pays
+returns-in-None-clause-pays c =
+    let b : Running = c.loop-turn.self.running.now in
+    let e = c.in-None.ensures in
+    borrows c.args.self.now.running.now b (record b { tables = c.first_stale.new.self }) c.loop-turn.invariant.pays (due-one b.tables c.first_stale.new.self e.none c.first_stale.ensures.looks) refl e.none_differs
+
+pub returns-then-not-branch-clause-pays : goal.returns-then-not-branch-clause-pays
+returns-then-not-branch-clause-pays c =
+    let b : Running = c.loop-turn.self.running.now in
+    let m : Running = record b { tables = c.first_stale.new.self } in
+    let e = c.in-Some.ensures in
+    pays-borrows c.args.self.now.running.now c.turn_from.new.self.running.now
+    (pays-then 0 c.args.self.now.running.now b c.turn_from.new.self.running.now c.loop-turn.invariant.pays
+    (pays-then 0 b m c.turn_from.new.self.running.now (one-pays b m (due-value b.tables c.first_stale.new.self _ _ 1 e.nodes.3 c.first_stale.ensures.looks) refl e.differs) c.in_ok-turn_from-in-Some.ensures.pays))

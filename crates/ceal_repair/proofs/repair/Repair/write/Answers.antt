@@ -5,6 +5,9 @@ use Rattle.ceal_repair.proofs.Runs.RepairView.{running-here, runs-as, IsStepped,
 use Rattle.ceal_repair.specs.Repairs.{code_of, inputs_of, view}
 use Rattle.ceal_repair.specs.declared.repair.Repair.{Repair}
 use Rattle.ceal_trace.specs.declared.node.Node.TheVariants.{Write}
+use Rattle.std.proofs.Common.{refl, arith}
+use Rattle.ceal_repair.proofs.Runs.Paid.{step-pays, spends, due-put}
+use Rattle.ceal_repair.specs.declared.running.Running.{Running}
 use Rattle.ceal_repair.proofs.repair.Repair.write.Goals as goal
 
 pub step-requires-clause-here : goal.step-requires-clause-here
@@ -30,3 +33,13 @@ returns-clause-runs c = λ start a.
     (now-write (code_of old) (inputs_of old) start a.stack (view old) a.now (stack_in old.stack.now) c.args.place c.args.value new.running.now.tables c.put_write.new.self s a.does h.more
     (node-behind old new h s (Write c.args.place c.args.value) c.put_write.new.self k))
     (ap code_of h.rest) (ap inputs_of h.rest) (ap (λ (r : Repair). stack_in r.stack.now) h.rest) (put-view old new h c.put_write.new.self s)
+
+pub returns-clause-pays : goal.returns-clause-pays
+returns-clause-pays c =
+    let a : Running = c.args.self.now.running.now in
+    let b : Running = c.step.new.self.running.now in
+    let e = c.in_ok-step.ensures in
+    let stepped = step-pays a b _ _ e.nodes e.mods e.queue e.spent in
+    let f = c.in_ok-self.ensures in
+    let d = due-put b.tables c.put_write.new.self c.step.new.self.cursor.0 c.in_ok-self.field-0.0 (Write c.args.place c.args.value) 2 f.nodes f.looks in
+    spends 5 a b (record b { tables = c.put_write.new.self }) stepped (omega (arith, d)) refl f.differed

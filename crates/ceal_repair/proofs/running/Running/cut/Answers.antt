@@ -1,5 +1,6 @@
 use Rattle.std.proofs.Common.{ap}
 use Rattle.ceal_repair.proofs.Revocation.FirstNode.{has-first, plain-first, queued-from, end-some, alloc-live, cut-alloc-lies, cut-write-lies, cut-read-lies, alloc-has, write-has, read-has}
+use Rattle.ceal_repair.proofs.TableCalls.FewLooks.{owed-same, due-cut, due-cut-write, due-cut-two}
 use Rattle.ceal_repair.specs.Kept.{base_in}
 use Rattle.ceal_repair.proofs.running.Running.cut.Goals as goal
 
@@ -15,6 +16,10 @@ pub revoke-requires : goal.revoke-requires
 revoke-requires c = record {
   live = alloc-live c.in-Alloc.block c.in-Alloc.ensures.0 c.args.node.0 c.args.self.now.heap c.args.self.now.tables.trace.nodes c.in-Alloc.ensures.1 c.requires.has.2.lives;
 }
+
+pub cut_write-requires-clause-first : goal.cut_write-requires-clause-first
+cut_write-requires-clause-first c =
+    let l = c.requires.lies in queued-from c.args.cursor.0 c.args.node.0 l.0 l.1 l.2 c.args.self.now.tables c.requires.kept l.3 l.4
 
 pub cut_read-requires-clause-finished : goal.cut_read-requires-clause-finished
 cut_read-requires-clause-finished c =
@@ -54,3 +59,20 @@ pub returns-in-Read-clause-has : goal.returns-in-Read-clause-has
 returns-in-Read-clause-has c = λ code inputs h.
     let e = c.cut_read.ensures in
     read-has code inputs c.args.self.now.heap c.args.self.now.tables c.cut_read.new.self c.args.node.0 e.nodes.0 c.requires.kept c.in-Read.ensures e.nodes.1 e.nodes.2 e.bases h
+
+pub returns-in-Alloc-clause-looks : goal.returns-in-Alloc-clause-looks
+returns-in-Alloc-clause-looks c =
+    due-cut c.args.self.now.tables c.cut_alloc.new.self c.args.node.0 c.cut_alloc.ensures.nodes (owed-same c.args.self.now.tables c.cut_alloc.new.self c.cut_alloc.ensures.mods c.cut_alloc.ensures.queue)
+
+pub returns-in_ok-cut_write-in-Write-clause-looks : goal.returns-in_ok-cut_write-in-Write-clause-looks
+returns-in_ok-cut_write-in-Write-clause-looks c =
+    let e = c.in_ok-cut_write-in-Write.ensures in
+    due-cut-write c.args.self.now.tables c.cut_write.new.self c.args.node.0 c.in-Write.place c.in-Write.ensures.0 c.in-Write.ensures.1 e.nodes e.looks
+
+pub returns-in-Read-clause-looks : goal.returns-in-Read-clause-looks
+returns-in-Read-clause-looks c =
+    let e = c.cut_read.ensures in
+    due-cut-two c.args.self.now.tables c.cut_read.new.self c.args.node.0 e.nodes.0 e.nodes.2 e.looks
+
+pub returns-in-Alloc-clause-differed : goal.returns-in-Alloc-clause-differed
+returns-in-Alloc-clause-differed c = ap (λ m. m.differed) c.cut_alloc.ensures.mods

@@ -1,6 +1,8 @@
-use Rattle.std.proofs.Common.{◌≡◌, ◌<◌, ℕ, true, List, refl, sym, ap, ◌∙◌}
+use Rattle.std.proofs.Common.{◌≡◌, ◌<◌, ℕ, true, List, refl, sym, ap, subst, ◌∙◌}
 use Rattle.ceal_base.specs.declared.word.Word.{Word}
-use Rattle.ceal_memo.specs.Keys.{ReadKey}
+use Rattle.ceal_memo.specs.Keys.{ReadKey, OfRead}
+use Rattle.ceal_memo.specs.Memo.{Holds, with_key}
+use Rattle.ceal_repair.specs.Lists.{entries_in}
 use Rattle.ceal_mods.specs.Mods.{cell_of}
 use Rattle.ceal_trace.specs.Nodes.{Entry, Timeline, stamps_in, has_node, position}
 use Rattle.ceal_trace.specs.declared.node.Node.TheVariants.{Read}
@@ -10,13 +12,15 @@ use Rattle.ceal_repair.proofs.TableCalls.ContentAfter.{value-over}
 use Rattle.ceal_repair.proofs.TableCalls.CallsKeepCover.{behind-put}
 use Rattle.ceal_mods.specs.Cell.{with_read}
 use Rattle.ceal_mods.specs.declared.cell.Cell.{Cell}
+use Rattle.std.proofs.Common.{arith, length}
+use Rattle.ceal_queue.specs.Queue.{Waiting}
 use Rattle.ceal_repair.proofs.tables.Tables.begin_read.Goals as goal
 
 pub add_read-requires-clause-absent : goal.add_read-requires-clause-absent
 add_read-requires-clause-absent c = (is-free c.begin_read-read.result.0 c.value_behind-value.new.self c.value_behind-value.ensures.kept.step c.begin_read-read.ensures.inserted.new c.key.inside.place).1
 
-pub add-requires-clause-absent : goal.add-requires-clause-absent
-add-requires-clause-absent c = no-entry c.begin_read-read.result.0 c.value_behind-value.new.self c.value_behind-value.ensures.kept.step c.begin_read-read.ensures.inserted.new
+pub add_read-requires-2-clause-absent : goal.add_read-requires-2-clause-absent
+add_read-requires-2-clause-absent c = no-entry c.begin_read-read.result.0 c.value_behind-value.new.self c.value_behind-value.ensures.kept.step c.begin_read-read.ensures.inserted.new
 
 pub returns-clause-bases : goal.returns-clause-bases
 returns-clause-bases c = λ p.
@@ -45,7 +49,20 @@ returns-clause-kept c =
     read-kept c.value_behind-value.new.self c.value_behind-value.ensures.kept c.args.after.0 s (Read c.key.inside.place c.value_behind-value.result c.key.inside.unit c.key.inside.var c.in_ok-args.args) c.begin_read-read.new.self
     (here c.args.after.0 c.value_behind-value.new.self.trace c.reserve.new.self c.args.self.now.trace.nodes c.value_behind-value.ensures.trace c.reserve.ensures.nodes c.requires.here)
     c.begin_read-read.ensures.nodes c.begin_read-read.ensures.inserted c.begin_read-read.ensures.whole c.begin_read-read.ensures.closed key c.value_behind-value.result refl
-    c.add_read.new.self c.add.new.self (rw c.order.ensures at c.in_ok-add_read.ensures.ok) (rw (c.order-2.ensures, c.hash_of_read-hash.ensures, ← same) at c.in_ok-add.ensures.ok)
+    c.add_read.new.self c.add_read-2.new.self (rw c.order.ensures at c.in_ok-add_read.ensures.ok) (subst (λ (k : ReadKey). Holds c.add_read-2.new.self (with_key s (OfRead k) (entries_in c.value_behind-value.new.self.trace.nodes))) (sym same) (c.in_ok-add_read-2.ensures.ok (entries_in c.value_behind-value.new.self.trace.nodes) c.value_behind-value.ensures.kept.step.keyed.entries))
     (c.value_behind-value.ensures.value ∙ sym (value-over c.value_behind-value.new.self (tables c.reserve.new.self c.args.self.now.mods c.args.self.now.stale c.args.self.now.memo) c.args.after.0 c.value_behind-value.ensures.trace c.value_behind-value.ensures.cells c.key.inside.place))
-    (rw c.order.ensures at c.add_read.ensures.follows) (rw c.order-2.ensures at c.add.ensures.follows)
+    (λ r i. further c.args.after.0 r c.value_behind-value.new.self.trace c.reserve.new.self c.args.self.now.trace.nodes c.value_behind-value.ensures.trace c.reserve.ensures.nodes (c.requires.late r (rw c.value_behind-value.ensures.queue at i)))
+    (rw c.order.ensures at c.add_read.ensures.follows) (rw c.order-2.ensures at c.add_read-2.ensures.follows)
     (c.follows_still-2.ensures.inserted s c.value_behind-value.new.self.stale (stamps_in c.value_behind-value.new.self.trace.nodes) (stamps_in c.begin_read-read.new.self.nodes) c.value_behind-value.ensures.kept.step.stale c.begin_read-read.ensures.inserted.others.stamps)
+
+pub returns-clause-looks : goal.returns-clause-looks
+returns-clause-looks c =
+    let change = rw c.order.ensures at c.in_ok-add_read.ensures.ok in
+    let a = change.looked in
+    let b = c.value_behind-value.ensures.looks in
+    let e = ap (λ (q : Waiting). length q.stamps) c.value_behind-value.ensures.queue in omega (arith, a, b, e)
+
+pub returns-clause-differed : goal.returns-clause-differed
+returns-clause-differed c =
+    let change = rw c.order.ensures at c.in_ok-add_read.ensures.ok in
+    change.differed ∙ c.value_behind-value.ensures.differed

@@ -10,6 +10,9 @@ use Rattle.ceal_repair.proofs.TableCalls.CutKeepsTables.{write-there, write-cut-
 use Rattle.ceal_repair.proofs.TableCalls.PutKeepsTables.{tables}
 use Rattle.ceal_repair.proofs.TableCalls.BaseEdit.{contents-same}
 use Rattle.ceal_repair.specs.Kept.{contents_at}
+use Rattle.std.proofs.Common.{arith, length, ap}
+use Rattle.ceal_mods.specs.Mods.{Contents}
+use Rattle.ceal_queue.specs.Queue.{Waiting}
 use Rattle.ceal_repair.proofs.tables.Tables.cut_write.Goals as goal
 
 -- the write is there after the look at it
@@ -61,9 +64,22 @@ returns-clause-kept c =
     (rw c.wake_unless.ensures.trace (no-end c.args.write.0 (Write c.args.place c.requires.here.0) c.is_needless-needless.new.self.trace c.is_needless-needless.ensures.kept.step.whole at_it refl)))
     c.args.place c.requires.here.0 refl c.remove_write.new.self c.remove_write.ensures.cell c.wake_unless.new.self.stale
     c.wake_unless.ensures.more c.wake_unless.ensures.only
+    (λ r i. rw c.is_needless-needless.ensures.trace (c.requires.first r (rw (c.is_needless-needless.ensures.queue, c.reserve.ensures.stamps) at i)))
     (either c.is_needless-needless.result
     (λ told. (same-write c.args.place c.args.place c.requires.here.0 (contents_at c.args.write.0 before c.args.place)
     (some-same (Write c.args.place c.requires.here.0) (Write c.args.place (contents_at c.args.write.0 before c.args.place)) (sym c.requires.here.1 ∙ c.is_needless-needless.ensures.same told))).1
     ∙ sym (contents-same c.is_needless-needless.new.self before c.args.write.0 c.is_needless-needless.ensures.trace c.is_needless-needless.ensures.cells c.args.place))
     (λ told. c.wake_unless.ensures.woken told))
     (rw c.order.ensures at c.remove_write.ensures.follows) (rw c.wake_unless.ensures.trace at c.wake_unless.ensures.stale))
+
+pub returns-clause-looks : goal.returns-clause-looks
+returns-clause-looks c =
+    let a = c.remove_write.ensures.cell.looked in
+    let b = ap (λ (m : Contents). m.looked) c.wake_unless.ensures.mods in
+    let d = c.wake_unless.ensures.one in
+    let e = ap length c.reserve.ensures.stamps in
+    let f = ap (λ (q : Waiting). length q.stamps) c.is_needless-needless.ensures.queue in
+    let g = c.is_needless-needless.ensures.looks in omega (arith, a, b, d, e, f, g)
+
+pub returns-clause-differed : goal.returns-clause-differed
+returns-clause-differed c = ap (λ (m : Contents). m.differed) c.wake_unless.ensures.mods ∙ (c.remove_write.ensures.cell.differed ∙ c.is_needless-needless.ensures.differed)

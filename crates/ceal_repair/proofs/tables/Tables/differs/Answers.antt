@@ -1,6 +1,8 @@
 use Rattle.std.proofs.Common.{arith}
 use Rattle.ceal_repair.proofs.QueueCover.NodeChanges.{read-has}
 use Rattle.ceal_repair.proofs.TableCalls.CutKeepsTables.{honest-read, stale-read}
+use Rattle.std.proofs.Common.{arith}
+use Rattle.ceal_repair.proofs.TableCalls.FewLooks.{one-look}
 use Rattle.ceal_repair.proofs.tables.Tables.differs.Goals as goal
 
 pub value_at-now-requires-clause-here : goal.value_at-now-requires-clause-here
@@ -15,3 +17,6 @@ pub returns-clause-honest : goal.returns-clause-honest
 returns-clause-honest c = λ told.
     honest-read c.args.self.now c.requires.kept.step c.args.read.0 c.recorded-value.result.0 c.recorded-value.result.1 c.value_at-now.result c.recorded-value.ensures
     (rw c.order.ensures at c.value_at-now.ensures.value) (c.is_same.ensures.same (grind (arith, told)))
+
+pub returns-clause-looks : goal.returns-clause-looks
+returns-clause-looks c = let a = one-look c.args.self.now.mods c.value_at-now.new.self c.value_at-now.ensures.looked in omega (arith, a)

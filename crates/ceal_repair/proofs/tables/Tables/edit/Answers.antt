@@ -4,6 +4,8 @@ use Rattle.ceal_order.specs.Stamps.{is_in}
 use Rattle.ceal_repair.proofs.TableCalls.CutKeepsTables.{as-tables}
 use Rattle.ceal_repair.proofs.TableCalls.BaseEdit.{edit-base, edit-kept}
 use Rattle.ceal_trace.specs.Nodes.{stamps_in}
+use Rattle.std.proofs.Common.{arith, length}
+use Rattle.ceal_mods.specs.Mods.{Contents}
 use Rattle.ceal_repair.proofs.tables.Tables.edit.Goals as goal
 
 pub returns-then-begun-clause-base : goal.returns-then-begun-clause-base
@@ -35,3 +37,32 @@ returns-clause-kept c =
     (edit-kept old c.requires.kept c.args.place c.args.value c.set_base.new.self change c.root-root.result.0 c.root-root.ensures.first c.root-root.ensures.node c.wake.new.self.stale
     (λ t i. c.wake.ensures.more t (rw c.reserve.ensures.stamps i)) (λ t i. c.wake.ensures.only t (rw c.reserve.ensures.stamps i)) c.wake.ensures.woken
     (c.set_base.ensures.follows (stamps_in old.trace.nodes) (rw left c.requires.kept.step.mods)) (rw c.wake.ensures.trace at c.wake.ensures.stale))
+
+pub returns-then-begun-clause-looks : goal.returns-then-begun-clause-looks
+returns-then-begun-clause-looks c =
+    let change = c.in_ok-begun.ensures.begun c.if-begun.true in
+    let a = change.looked in omega (arith, a)
+
+pub returns-clause-looks : goal.returns-clause-looks
+returns-clause-looks c =
+    let change = rw (c.in_ok-begun.ensures.left c.if-begun.false) at c.in_ok-set_base.ensures.ok in
+    let a = change.looked in
+    let b = ap (λ (m : Contents). m.looked) c.wake.ensures.mods in
+    let d = c.wake.ensures.one in
+    let e = ap length c.reserve.ensures.stamps in omega (arith, a, b, d, e)
+
+pub returns-then-begun-clause-differed : goal.returns-then-begun-clause-differed
+returns-then-begun-clause-differed c = let change = c.in_ok-begun.ensures.begun c.if-begun.true in change.differed
+
+pub returns-clause-differed : goal.returns-clause-differed
+returns-clause-differed c =
+    let change = rw (c.in_ok-begun.ensures.left c.if-begun.false) at c.in_ok-set_base.ensures.ok in
+    ap (λ (m : Contents). m.differed) c.wake.ensures.mods ∙ change.differed
+
+pub returns-then-begun-clause-looked : goal.returns-then-begun-clause-looked
+returns-then-begun-clause-looked c = let change = c.in_ok-begun.ensures.begun c.if-begun.true in change.looked
+
+pub returns-clause-looked : goal.returns-clause-looked
+returns-clause-looked c =
+    let change = rw (c.in_ok-begun.ensures.left c.if-begun.false) at c.in_ok-set_base.ensures.ok in
+    ap (λ (m : Contents). m.looked) c.wake.ensures.mods ∙ change.looked

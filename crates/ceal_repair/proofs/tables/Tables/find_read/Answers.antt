@@ -1,13 +1,12 @@
-use Rattle.ceal_repair.proofs.TableCalls.LookUp.{found-as, reads-listed, entries-there}
+use Rattle.ceal_memo.specs.Keys.{OfRead}
+use Rattle.ceal_repair.proofs.TableCalls.LookUp.{looked-up, read-tells}
 use Rattle.ceal_repair.specs.Lists.{recalls}
 use Rattle.ceal_repair.proofs.tables.Tables.find_read.Goals as goal
 
-pub first_between-requires-clause-known : goal.first_between-requires-clause-known
-first_between-requires-clause-known c = λ s i.
-    entries-there c.args.self.now.trace.nodes c.args.self.now.memo c.requires.kept.step.keyed c.requires.kept.step.whole.order.distinct _ s i
+pub first_read-requires-clause-keys : goal.first_read-requires-clause-keys
+first_read-requires-clause-keys c = c.requires.kept.step.keyed.entries
 
 pub returns : goal.returns
 returns c =
-    let listed = reads-listed c.args.self.now.trace.nodes c.args.self.now.memo c.requires.kept.step.keyed c.requires.kept.step.whole.order.distinct c.args.key.now in
-    found-as (recalls c.args.key.now) c.args.after.0 c.args.until.0 c.args.self.now.trace.nodes c.requires.kept.step.whole.order.distinct c.requires.after c.requires.until c.requires.order c.first_between.result
-    (rw (c.order.ensures, listed) at c.first_between.ensures.first) (rw c.order.ensures at c.first_between.ensures.before) (rw (c.order.ensures, listed) at c.first_between.ensures.none)
+    looked-up (recalls c.args.key.now) (OfRead c.args.key.now) (read-tells c.args.key.now) c.args.self.now.trace.nodes c.requires.kept.step.whole.order.distinct c.args.after.0 c.args.until.0 c.requires.after c.requires.until c.requires.order c.first_read.result
+    (rw c.order.ensures at c.first_read.ensures.first) (rw c.order.ensures at c.first_read.ensures.before) (rw c.order.ensures at c.first_read.ensures.none)

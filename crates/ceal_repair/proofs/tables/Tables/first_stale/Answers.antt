@@ -1,6 +1,8 @@
 use Rattle.std.proofs.Common.{◌∙◌, arith}
-use Rattle.ceal_repair.proofs.TableCalls.BaseEdit.{looking-first, none-late, popped-step, popped-covered, popped-read, looked-more, stale-same, nodes-same, if-none}
+use Rattle.ceal_repair.proofs.TableCalls.BaseEdit.{looking-first, none-late, popped-step, popped-chained, popped-read, looked-more, stale-same, nodes-same, if-none}
 use Rattle.ceal_repair.proofs.TableCalls.PutKeepsTables.{tables}
+use Rattle.std.proofs.Common.{length, ap}
+use Rattle.ceal_queue.specs.Queue.{Waiting}
 use Rattle.ceal_repair.proofs.tables.Tables.first_stale.Goals as goal
 
 pub loop-looked-init : goal.loop-looked-init
@@ -32,8 +34,8 @@ pub settle-requires-clause-step : goal.settle-requires-clause-step
 settle-requires-clause-step c = popped-step c.loop-looked.self c.loop-looked.invariant.kept c.in_ok-read.read.0 c.pop_before.new.self (rw c.order.ensures at c.in_ok-read.ensures.earliest) c.in_ok-read.ensures.without
     (rw c.order.ensures at c.pop_before.ensures.follows)
 
-pub settle-requires-clause-covered : goal.settle-requires-clause-covered
-settle-requires-clause-covered c = popped-covered c.loop-looked.self c.loop-looked.invariant.kept c.in_ok-read.read.0 c.pop_before.new.self (rw c.order.ensures at c.in_ok-read.ensures.earliest) c.in_ok-read.ensures.without
+pub settle-requires-clause-chained : goal.settle-requires-clause-chained
+settle-requires-clause-chained c = popped-chained c.loop-looked.self c.loop-looked.invariant.kept c.in_ok-read.read.0 c.pop_before.new.self (rw c.order.ensures at c.in_ok-read.ensures.earliest) c.in_ok-read.ensures.without
 
 pub settle-requires-clause-here : goal.settle-requires-clause-here
 settle-requires-clause-here c = popped-read c.loop-looked.self c.loop-looked.invariant.kept c.in_ok-read.read.0 c.pop_before.new.self (rw c.order.ensures at c.in_ok-read.ensures.earliest) c.in_ok-read.ensures.without
@@ -61,6 +63,8 @@ pub loop-looked-preserved : goal.loop-looked-preserved
 loop-looked-preserved c =
     looked-more c.args.self.now c.loop-looked.self c.settle.new.self c.loop-looked._looked c.in_ok-read.read.0 c.loop-looked.invariant c.in_ok-read.ensures.earliest.there c.settle.ensures.kept (c.settle.ensures.same c.if-settle.false)
     c.settle.ensures.cells c.settle.ensures.memo c.settle.ensures.behind
+    (let a = c.settle.ensures.idle c.if-settle.false in
+    let b = c.in_ok-read.ensures.fewer in omega (arith, a, b)) (c.settle.ensures.none_differs c.if-settle.false)
 
 pub returns-clause-none : goal.returns-clause-none
 returns-clause-none c = c.loop-looked.invariant.trace
@@ -76,3 +80,34 @@ returns-clause-memo c = c.loop-looked.invariant.memo
 
 pub returns-clause-kept : goal.returns-clause-kept
 returns-clause-kept c = c.loop-looked.invariant.kept
+
+pub returns-in_err-read-clause-looks : goal.returns-in_err-read-clause-looks
+returns-in_err-read-clause-looks c =
+    let a = ap (λ (q : Waiting). length q.stamps) c.in_err-read.ensures.unchanged in
+    let b = c.loop-looked.invariant.looks in omega (arith, a, b)
+
+pub returns-in_err-read-clause-idle : goal.returns-in_err-read-clause-idle
+returns-in_err-read-clause-idle c = if-none c.from_residual.result
+    (let a = ap (λ (q : Waiting). length q.stamps) c.in_err-read.ensures.unchanged in
+    let b = c.loop-looked.invariant.looks in omega (arith, a, b))
+
+pub returns-then-settle-clause-looks : goal.returns-then-settle-clause-looks
+returns-then-settle-clause-looks c =
+    let a = c.settle.ensures.looks in
+    let b = c.in_ok-read.ensures.fewer in
+    let d = c.loop-looked.invariant.looks in omega (arith, a, b, d)
+
+pub returns-clause-looks : goal.returns-clause-looks
+returns-clause-looks c = let d = c.loop-looked.invariant.looks in omega (arith, d)
+
+pub returns-clause-idle : goal.returns-clause-idle
+returns-clause-idle c = c.loop-looked.invariant.looks
+
+pub returns-in_err-read-clause-none_differs : goal.returns-in_err-read-clause-none_differs
+returns-in_err-read-clause-none_differs c = if-none c.from_residual.result c.loop-looked.invariant.differed
+
+pub returns-then-settle-clause-differs : goal.returns-then-settle-clause-differs
+returns-then-settle-clause-differs c = rw (← c.loop-looked.invariant.differed) (c.settle.ensures.differs c.if-settle.true)
+
+pub returns-clause-none_differs : goal.returns-clause-none_differs
+returns-clause-none_differs c = c.loop-looked.invariant.differed

@@ -3,6 +3,8 @@ use Rattle.ceal_code.proofs.Words.SameIsEqual.{some-same}
 use Rattle.ceal_trace.specs.declared.node.Node.TheVariants.{Write}
 use Rattle.ceal_repair.proofs.QueueCover.NodeChanges.{node-has}
 use Rattle.ceal_repair.proofs.TableCalls.CutKeepsTables.{same-write, held-at}
+use Rattle.std.proofs.Common.{arith}
+use Rattle.ceal_repair.proofs.TableCalls.FewLooks.{one-look}
 use Rattle.ceal_repair.proofs.tables.Tables.is_needless.Goals as goal
 
 pub value_at-held-requires-clause-here : goal.value_at-held-requires-clause-here
@@ -13,3 +15,6 @@ returns-clause-same c = λ told.
     let is = same-write c.args.place c.written_at-value.ensures.value.0 c.requires.here.0 c.written_at-value.result (some-same (Write c.args.place c.requires.here.0) (Write c.written_at-value.ensures.value.0 c.written_at-value.result) (sym c.requires.here.1 ∙ c.written_at-value.ensures.value.1)) in
     let held = held-at c.args.self.now c.requires.kept.step c.args.write.0 c.args.place c.requires.here.0 c.value_at-held.result c.requires.here.1 (rw c.order.ensures at c.value_at-held.ensures.value) in
     c.requires.here.1 ∙ ap (λ v. Some (Write c.args.place v)) (is.1 ∙ (c.is_same.ensures.same told ∙ held))
+
+pub returns-clause-looks : goal.returns-clause-looks
+returns-clause-looks c = let a = one-look c.args.self.now.mods c.value_at-held.new.self c.value_at-held.ensures.looked in omega (arith, a)

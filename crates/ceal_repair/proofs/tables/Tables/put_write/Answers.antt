@@ -7,6 +7,8 @@ use Rattle.ceal_repair.proofs.TableCalls.CutKeepsTables.{by-queue, as-tables}
 use Rattle.ceal_repair.proofs.TableCalls.CallsKeepCover.{behind-put}
 use Rattle.ceal_repair.proofs.TableCalls.PutKeepsTables.{write-kept, is-free, bases-same}
 use Rattle.ceal_mods.specs.Cell.{with_write}
+use Rattle.std.proofs.Common.{arith, length, ap, ◌∙◌}
+use Rattle.ceal_mods.specs.Mods.{Contents}
 use Rattle.ceal_repair.proofs.tables.Tables.put_write.Goals as goal
 
 pub add_write-requires-clause-absent : goal.add_write-requires-clause-absent
@@ -42,3 +44,16 @@ returns-clause-kept c =
     (rw c.order.ensures at c.add_write.ensures.follows)
     (c.follows_still-3.ensures.inserted s c.args.self.now.memo (stamps_in c.args.self.now.trace.nodes) (stamps_in c.insert_write-added.new.self.nodes) c.requires.kept.step.memo more.others.stamps)
     (rw c.wake.ensures.trace at c.wake.ensures.stale))
+
+pub returns-clause-looks : goal.returns-clause-looks
+returns-clause-looks c =
+    let change = rw c.order.ensures at c.in_ok-add_write.ensures.ok in
+    let a = change.looked in
+    let b = ap (λ (m : Contents). m.looked) c.wake.ensures.mods in
+    let d = c.wake.ensures.one in
+    let e = ap length c.reserve-2.ensures.stamps in omega (arith, a, b, d, e)
+
+pub returns-clause-differed : goal.returns-clause-differed
+returns-clause-differed c =
+    let change = rw c.order.ensures at c.in_ok-add_write.ensures.ok in
+    ap (λ (m : Contents). m.differed) c.wake.ensures.mods ∙ change.differed

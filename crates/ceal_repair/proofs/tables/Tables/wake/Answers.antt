@@ -7,6 +7,9 @@ use Rattle.ceal_order.proofs.RisingLemmas.{in_order}
 use Rattle.ceal_order.specs.Rising.{IsRising}
 use Rattle.ceal_order.specs.Stamps.{is_in, place}
 use Rattle.ceal_trace.specs.Nodes.{stamps_in}
+use Rattle.std.proofs.Common.{length, ap}
+use Rattle.ceal_queue.specs.Queue.{Waiting}
+use Rattle.ceal_repair.proofs.TableCalls.CutKeepsTables.{by-queue}
 use Rattle.ceal_repair.proofs.tables.Tables.wake.Goals as goal
 
 -- the earliest read that sees a change is one
@@ -20,3 +23,8 @@ pub returns-in-Some-clause-woken : goal.returns-in-Some-clause-woken
 returns-in-Some-clause-woken c =
     one-woken (stamps_in c.args.self.now.trace.nodes) (cell_of c.args.self.now.mods c.args.place) c.args.after.0 c.in-Some.read.0 c.push.new.self.stamps (c.requires.mods c.args.place).reads
     (rw c.order.ensures at c.in-Some.ensures.some) c.push.ensures.with.there
+
+pub returns-in-Some-clause-one : goal.returns-in-Some-clause-one
+returns-in-Some-clause-one c = by-queue c.in-Some.read.0 c.args.self.now.stale.stamps
+    (λ i. let e = ap (λ (q : Waiting). length q.stamps) (c.push.ensures.known i) in omega (arith, e))
+    (λ i. let e = c.push.ensures.more i in omega (arith, e))

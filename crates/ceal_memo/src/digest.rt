@@ -1,0 +1,135 @@
+// The hashes of keys.
+
+ghost use Rattle.std.specs.Prelude.{◌≡◌, ◌+◌, ◌*◌, ◌/◌, ◌%◌, ◌^◌};
+ghost use Rattle.ceal_base.specs.Hashing.{mixed as one_more};
+ghost use Rattle.ceal_memo.specs.Hashes.{word_number, seed_word, with_number, with_words, empty, alloc_digest, hash_of};
+ghost use Rattle.ceal_memo.specs.Keys.{OfRead, OfAlloc};
+
+use crate::key::ReadKey;
+use ceal_base::forest::Key;
+use ceal_base::hashing::mixed;
+use ceal_base::word::{Place, Word};
+
+// A sum of numbers, each times a word of a seed, and how many words it has used.
+#[derive(Clone, Copy)]
+struct Digest {
+    sum: u128,
+    at: usize,
+}
+
+/// The hash that a read with a key is entered under.
+#[tactic(auto, unfolding(crate::specs::Hashes::hash_of, crate::specs::Hashes::key_digest))]
+pub fn hash_of_read(seed: &[u128], key: &ReadKey<'_>) -> u64
+    ensures { result ≡ hash_of seed.now (OfRead key.now) }
+{
+    let closure = key.unit.0 as u64 * 4_294_967_296 + key.var as u64;
+    let sized = with_number(seed, nothing(), key.args.len() as u128 * 4);
+    let placed = with_number(seed, sized, u128::from(key.place.number()));
+    let closed = with_number(seed, placed, u128::from(closure));
+    finished(with_words(seed, closed, key.args))
+}
+
+/// The hash that an allocation with a key is entered under.
+#[tactic(auto, unfolding(crate::specs::Hashes::hash_of, crate::specs::Hashes::key_digest))]
+pub fn hash_of_alloc(seed: &[u128], key: &Key) -> u64
+    ensures { result ≡ hash_of seed.now (OfAlloc key.now) }
+{
+    finished(digest_of_alloc(seed, key))
+}
+
+#[tactic(auto, unfolding(crate::specs::Hashes::alloc_digest))]
+fn digest_of_alloc(seed: &[u128], key: &Key) -> Digest
+    ensures { result ≡ alloc_digest seed.now key.now }
+{
+    match key {
+        Key::Init { function, args } => {
+            let words = args.items();
+            let sized = with_number(seed, nothing(), words.len() as u128 * 4 + 1);
+            let named = with_number(seed, sized, u128::from(*function));
+            with_words(seed, named, words)
+        }
+        Key::ModInt => with_number(seed, nothing(), 2),
+        Key::ModPtr(pointed) => {
+            let tagged = with_number(seed, nothing(), 3);
+            with_number(seed, tagged, u128::from(*pointed))
+        }
+    }
+}
+
+fn nothing() -> Digest
+    ensures { result ≡ empty }
+{
+    Digest { sum: 0, at: 0 }
+}
+
+// What a hash is of a digest: the upper half of the sum, scrambled.
+fn finished(digest: Digest) -> u64
+    ensures { result ≡ one_more 0 (digest.sum / 2 ^ 64) }
+{
+    mixed(0, (digest.sum >> 64) as u64)
+}
+
+// A digest with words after it.
+fn with_words(seed: &[u128], digest: Digest, words: &[Word]) -> Digest
+    ensures { result ≡ with_words seed.now digest words.now }
+{
+    let mut all = digest;
+    for word in words {
+        all = with_number(seed, all, word_number(*word));
+    }
+    all
+}
+
+// A word as one number, which no other word has.
+fn word_number(word: Word) -> u128
+    ensures number { result ≡ word_number word }
+{
+    match word {
+        Word::Num(number) => u128::from(number.cast_unsigned()),
+        Word::Null => 18_446_744_073_709_551_616,
+        Word::Block(block) => {
+            let place = Place { block, field: 0 };
+            36_893_488_147_419_103_232 + u128::from(place.number())
+        }
+        Word::At(place) => 55_340_232_221_128_654_848 + u128::from(place.number()),
+    }
+}
+
+// One more number, with the word of the seed that is next.
+#[inline]
+fn with_number(seed: &[u128], digest: Digest, number: u128) -> Digest
+    ensures { result ≡ with_number seed.now digest number }
+{
+    match seed.get(digest.at) {
+        Some(word) => Digest {
+            sum: digest.sum.wrapping_add(word.wrapping_mul(number)),
+            at: digest.at + 1,
+        },
+        None => Digest {
+            sum: anew(seed, digest.sum, number),
+            at: 2,
+        },
+    }
+}
+
+// The sum where no word is left: they begin anew behind what is there. It is a function of its own, so that the common way is short.
+#[inline(never)]
+fn anew(seed: &[u128], sum: u128, number: u128) -> u128
+    ensures { result ≡ (seed_word seed.now 0 * one_more 0 (sum / 2 ^ 64)
+        + seed_word seed.now 1 * number) % 2 ^ 128 }
+{
+    let before = mixed(0, (sum >> 64) as u64);
+    let first = seed_word(seed, 0).wrapping_mul(u128::from(before));
+    let second = seed_word(seed, 1).wrapping_mul(number);
+    first.wrapping_add(second)
+}
+
+// A word of a seed.
+fn seed_word(seed: &[u128], at: usize) -> u128
+    ensures { result ≡ seed_word seed.now at }
+{
+    match seed.get(at) {
+        Some(word) => *word,
+        None => 0,
+    }
+}

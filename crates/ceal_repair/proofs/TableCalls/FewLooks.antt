@@ -1,0 +1,68 @@
+-- How many contents are looked at.
+use Rattle.std.proofs.Common.{◌≡◌, ◌≤◌, ◌+◌, ◌*◌, ℕ, inl, inr, List, [], ◌∷◌, Some, None, true, false, refl, sym, ap, ◌∙◌, arith}
+use Rattle.std.proofs.Math.Nat.{min-le_left}
+use Rattle.std.proofs.lemmas.Bool.Decides.{eqb_tells}
+use Rattle.std.specs.Prelude.{min, ◌-◌, ◌^◌, Option, IfSome, IfNone, length}
+use Rattle.std.specs.Option.{is_some}
+use Rattle.ceal_base.specs.declared.word.Place.{Place}
+use Rattle.ceal_base.specs.declared.word.Word.{Word}
+use Rattle.ceal_code.proofs.Words.SameIsEqual.{some-same, none-some}
+use Rattle.ceal_mods.specs.Mods.{Contents}
+use Rattle.ceal_repair.specs.Looks.{owed, due, writes_at, write_count}
+use Rattle.ceal_repair.specs.declared.tables.Tables.{Tables}
+use Rattle.ceal_trace.specs.Nodes.{Entry, node_at, without_entry}
+use Rattle.ceal_trace.specs.declared.node.Node.{Node}
+use Rattle.ceal_trace.specs.declared.node.Node.TheVariants.{Write}
+
+-- a node is taken out
+pub count-without : (s : ℕ) (es : List Entry) → write_count (without_entry s es) ≤ write_count es
+count-without s [] = omega arith
+count-without s (e ∷ es) = elim (eqb_tells e.stamp s) [
+  | inl p ↦ rw p.0 (omega arith)
+  | inr p ↦ rw p.0 (let a = count-without s es in omega (arith, a))
+]
+
+-- and where it is a write there is one less
+pub count-write : (s : ℕ) (p : Place) (v : Word) (es : List Entry) → node_at s es ≡ Some (Write p v) → write_count (without_entry s es) + 1 ≤ write_count es
+count-write s p v [] h = none-some (Write p v) h
+count-write s p v (e ∷ es) h = elim (eqb_tells e.stamp s) [
+  | inl q ↦ rw q.0 (own (some-same e.node (Write p v) (rw q.0 at h)))
+  | inr q ↦ rw q.0 (let a = count-write s p v es (rw q.0 at h) in omega (arith, a))
+]
+  where
+    own : e.node ≡ Write p v → write_count es + 1 ≤ writes_at e.node + write_count es
+    own k = rw k (omega arith)
+
+-- ---- what is owed
+
+-- one look-up
+pub one-look : (a b : Contents) → b.looked ≡ min (a.looked + 1) (2 ^ 64 - 1) → b.looked ≤ a.looked + 1
+one-look a b e = let m = min-le_left (a.looked + 1) (2 ^ 64 - 1) in omega (arith, e, m)
+
+pub owed-same : (old new : Tables) → new.mods ≡ old.mods → new.stale ≡ old.stale → owed new ≤ owed old
+owed-same old new e f = rw (e, f) (omega arith)
+
+pub due-cut : (old new : Tables) (s : ℕ) → new.trace.nodes ≡ without_entry s old.trace.nodes → owed new ≤ owed old → due new ≤ due old
+due-cut old new s is o =
+    let a = count-without s old.trace.nodes in
+    let b = ap write_count is in omega (arith, o, a, b)
+
+pub due-cut-write : (old new : Tables) (s : ℕ) (p : Place) (v : Word) → node_at s old.trace.nodes ≡ Some (Write p v) → new.trace.nodes ≡ without_entry s old.trace.nodes → owed new ≤ owed old + 3 → due new ≤ due old
+due-cut-write old new s p v at is o =
+    let a = count-write s p v old.trace.nodes at in
+    let b = ap write_count is in omega (arith, o, a, b)
+
+pub due-cut-two : (old new : Tables) (s z : ℕ) → new.trace.nodes ≡ without_entry z (without_entry s old.trace.nodes) → owed new ≤ owed old → due new ≤ due old
+due-cut-two old new s z is o =
+    let a = count-without s old.trace.nodes in
+    let c = count-without z (without_entry s old.trace.nodes) in
+    let b = ap write_count is in omega (arith, o, a, b, c)
+
+-- what is said of an answer that is there, or is none
+pub of-some : {A P : Type 0} (o : Option A) → is_some o ≡ true → IfSome o (λ x. P) → P
+of-some None e p = absurd (let no : false ≡ true = e in cc)
+of-some (Some x) e p = p
+
+pub of-none : {A P : Type 0} (o : Option A) → is_some o ≡ false → IfNone o P → P
+of-none None e p = p
+of-none (Some x) e p = absurd (let no : true ≡ false = e in cc)
