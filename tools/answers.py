@@ -4,7 +4,7 @@ import hashlib, os, pathlib, re, secrets, shutil, signal, subprocess, sys, tempf
 TOP = pathlib.Path(__file__).resolve().parent.parent
 CRATE = TOP / 'crates/ceal'
 PROGRAM, BUILT = CRATE / 'out/ceal', CRATE / 'out/ceal.built'
-# What the build takes: the sum of the first proofs of its crates, which were measured one by one (CONTRIBUTING.md).
+# What the build takes: the sum of the first proofs of its crates, which were measured one by one (docs/GATE.md).
 BUILD_COST = 'some 90 minutes of processor time, and up to 4 GB of memory'
 # An input has at most this many bytes; one byte more is enough to be refused (docs/SCRIPT.md).
 LONGEST_INPUT = 4_194_304

@@ -5,7 +5,7 @@ from tools import answers
 from tools.answers import BUILT, CRATE, PROGRAM, TOP, Fault
 
 STARTED, LOG, KIT = CRATE / 'out/ceal.started', CRATE / 'out/build.log', CRATE / 'out/ceal.kit'
-# No process of a proof was seen to take more gigabytes (CONTRIBUTING.md).
+# No process of a proof was seen to take more gigabytes (docs/GATE.md).
 MEMORY = 4
 
 

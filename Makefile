@@ -1,0 +1,53 @@
+# Every command of the repository under one roof: `make help` lists them. Each is a line of some script, which can be called by itself.
+.PHONY: help try test build install lint pages index check edits plants gate cost bench random
+
+CRATE ?= ceal_base
+FILE ?= examples/inc.ceal
+BINARY = crates/ceal/out/ceal
+
+help: ## this list
+	@grep -hE '^[a-z]+:.*## ' Makefile | sed -E 's/^([a-z]+):.*## (.*)/  make \1\t\2/' | expand -t 18
+
+try: ## runs FILE=examples/inc.ceal and prints its replies (no proof is needed)
+	./run $(FILE)
+
+test: ## runs every test that needs no proof
+	./run --test
+
+build: ## proves and builds the program (some 90 minutes of processor time)
+	./run --build
+
+install: ## copies the built program to ~/.local/bin, as ./run --help says
+	./run --install
+
+lint: ## the lint, and whether pages, examples and rows agree (seconds)
+	.ci/house
+	.ci/documents
+
+pages: ## makes again what is derived: sessions and pictures of pages, rows of examples, lines of the reading path
+	.ci/documents --write
+	.ci/reading --write
+
+index: ## writes out/index.html: all definitions, laws and clauses, with who cites them
+	.ci/index
+
+check: ## proves CRATE=ceal_base and the crates below it, over what earlier checks kept
+	cd crates/$(CRATE) && rt check
+
+edits: ## tries the wrong bodies of CRATE=ceal_base, which its contracts must refuse
+	rt must-fail $(CRATE)
+
+plants: ## tries many more wrong bodies of CRATE=ceal_base, and writes its row of docs/PLANTS.md (long)
+	.ci/plants $(CRATE)
+
+gate: ## the merge gate: all proofs, edits, tests and programs, and then the lint and the tests (long)
+	bash .ci/run
+
+cost: ## the gate, with the processor minutes of each crate (long)
+	.ci/cost
+
+bench: ## measures the built program (docs/PERFORMANCE.md)
+	bench/run
+
+random: ## random edits of the examples by the built program, beside runs from scratch
+	python3 -m tools.random_tests $(BINARY)
