@@ -10,7 +10,7 @@ a script costs is the cost of the script less that of the script without it.
 """
 import sys
 
-import instructions
+import counting
 from measuring import Program
 from workloads import RUN, TOP
 
@@ -61,13 +61,13 @@ class Bench:
     """A program, whose scripts cost instructions where valgrind is there to count them, and else seconds: the best of so many rounds."""
 
     def __init__(self, program, rounds):
-        self.program, self.rounds, self.counts = Program(program, 1), rounds, rounds > 1 and instructions.is_there()
+        self.program, self.rounds, self.counts = Program(program), rounds, rounds > 1 and counting.is_there()
 
     def once(self, source, lines):
         """What a script costs, its most memory in megabytes, and its replies."""
         text = source.lstrip('\n') + '\n'.join(lines) + '\n'
         spent = self.program.once(RUN, text)
-        cost = instructions.counted(self.program.path, text) if self.counts else spent.seconds
+        cost = counting.counted(self.program.path, text) if self.counts else spent.seconds
         return cost, spent.memory, spent.written.split('\n')
 
     def bests(self, source, scripts):

@@ -1,43 +1,5 @@
 """The tables of docs/PERFORMANCE.md."""
-from measuring import NOISE
-from workloads import large_sources, long_chains
-
-
-def time_text(seconds):
-    for unit, scale in (('s', 1), ('ms', 1e-3)):
-        if seconds >= scale:
-            return f'{seconds / scale:.3g} {unit}' if seconds / scale < 100 else f'{seconds / scale:.0f} {unit}'
-    return f'{seconds * 1e6:.2g} µs' if seconds < 1e-4 else f'{seconds * 1e6:.0f} µs'
-
-
-def run_text(figures):
-    """The time of a run and of a step of it."""
-    if figures.seconds < NOISE:
-        return ['too short to tell', '']
-    return [time_text(figures.seconds), f'{figures.seconds / figures.steps * 1e9:.0f} ns']
-
-
-def times_text(factor):
-    return f'{factor:,.0f}' if factor >= 10 else f'{factor:.1f}'
-
-
-def over_text(figures, update):
-    """How many updates take as long as a run."""
-    over = over_of(figures, update)
-    return '' if over is None else times_text(over)
-
-
-def over_of(figures, update):
-    """The same as a number, where both are above the noise."""
-    if figures.seconds < NOISE or update.seconds is None or update.seconds < 1e-7:
-        return None
-    return figures.seconds / update.seconds
-
-
-def update_text(update):
-    if update.seconds is None:
-        return 'below the noise'
-    return 'under 0.1 µs' if update.seconds < 1e-7 else time_text(update.seconds)
+import math
 
 
 def table(head, rows):
@@ -45,50 +7,60 @@ def table(head, rows):
     return '\n'.join([*lines, *('| ' + ' | '.join(row) + ' |' for row in rows)]) + '\n'
 
 
-def run_table(measured, names):
-    """Each workload and size: steps, and for each program the first run, a step of it and the memory."""
-    head = ['Program', 'Size', 'Steps']
-    for name in names:
-        head += [f'{name}: run', 'a step', 'memory']
-    rows = []
+def mean(values):
+    """The geometric mean."""
+    return math.prod(values) ** (1 / len(values))
+
+
+def middle(sizes):
+    """The counts of a workload at the size of the table."""
+    return sorted(sizes.items())[len(sizes) // 2]
+
+
+def counted_table(measured, names):
+    """Millions of instructions of a first run, thousands of an update, and what the first program needs of the second's."""
+    head = ['Program', 'Size']
+    for what in ('first run, millions', 'update, thousands'):
+        head += [f'{name}: {what}' for name in names] + (['ratio'] if len(names) > 1 else [])
+    rows, ratios = [], ([], [])
     for key, sizes in measured.items():
-        for size, figures in sizes.items():
-            row = [key, f'{size:,}', f'{figures[0].steps:,}']
-            for it in figures:
-                row += [*run_text(it), f'{it.memory:.0f} MB']
-            rows.append(row)
-    return table(head, rows)
-
-
-def update_table(measured, names):
-    """Each edit: its work, and for each program the time of an update and how many of them a run from scratch takes."""
-    head = ['Program', 'Size', 'Edit', 'Work']
-    for name in names:
-        head += [f'{name}: update', 'run from scratch over it', 'memory']
-    rows = []
-    for key, sizes in measured.items():
-        for size, figures in sizes.items():
-            for at, first in enumerate(figures[0].updates):
-                row = [key, f'{size:,}', first.name, f'{first.work:,.0f}']
-                for it in figures:
-                    update = it.updates[at]
-                    row += [update_text(update), over_text(it, update), f'{update.memory:.0f} MB']
-                rows.append(row)
-    return table(head, rows)
-
-
-def whole_table(programs, names, quick):
-    """Generated workloads, the word check on large sources, and the word list on long chains."""
-    size = '400' if quick else '40000'
-    asked = [(f'gen {kind} 1 {size}', ['gen', kind, '1', size], '') for kind in ('list', 'tree')]
-    asked += [(f'check, {title}', ['check'], text) for title, text in large_sources()]
-    asked += [(f'list, {title}', ['list'], text) for title, text in long_chains()]
-    head = ['Words'] + [f'{name}: {what}' for name in names for what in ('time', 'memory')]
-    rows = []
-    for title, words, text in asked:
-        row = [f'`{title}`' if title.startswith('gen') else title]
-        for program in programs:
-            spent = program.middle(words, text)
-            row += [time_text(spent.seconds), f'{spent.memory:.0f} MB']
+        size, counts = middle(sizes)
+        row = [key, f'{size:,}']
+        values = [it.instructions for it in counts], [mean([update.instructions for update in it.updates]) for it in counts]
+        for at, (unit, found) in enumerate(zip((1e6, 1e3), values)):
+            row += [f'{it / unit:,.1f}' for it in found]
+            if len(found) > 1:
+                ratios[at].append(found[0] / found[1])
+                row.append(f'{ratios[at][-1]:.2f}')
         rows.append(row)
+    if len(names) > 1:
+        rows.append(['geometric mean', '', '', '', f'{mean(ratios[0]):.2f}', '', '', f'{mean(ratios[1]):.2f}'])
     return table(head, rows)
+
+
+def memory_table(measured, names):
+    """The memory of the largest size, and what a step of the run takes of it."""
+    head = ['Program', 'Size', 'Steps'] + [f'{name}: memory' for name in names] + (['ratio'] if len(names) > 1 else [])
+    rows, ratios = [], []
+    for key, sizes in measured.items():
+        size, counts = max(sizes.items())
+        row = [key, f'{size:,}', f'{counts[0].steps:,}', *(f'{it.memory:.1f} MB' for it in counts)]
+        if len(counts) > 1:
+            ratios.append(counts[0].memory / counts[1].memory)
+            row.append(f'{ratios[-1]:.2f}')
+        rows.append(row)
+    if len(names) > 1:
+        rows.append(['geometric mean', '', '', '', '', f'{mean(ratios):.2f}'])
+    return table(head, rows)
+
+
+def growth_table(measured):
+    """For each edit the instructions of an update, with its work, at the smallest and at the largest size."""
+    rows = []
+    for key, sizes in measured.items():
+        (small, fewer), (large, more) = min(sizes.items()), max(sizes.items())
+        for at, it in enumerate(fewer[0].updates):
+            other = more[0].updates[at]
+            row = [key, it.name, f'{small:,}: work {it.work:,.0f}, {it.instructions:,.0f}', f'{large:,}: work {other.work:,.0f}, {other.instructions:,.0f}']
+            rows.append([*row, f'{other.work / it.work:.2f}' if it.work else '', f'{other.instructions / it.instructions:.2f}'])
+    return table(['Program', 'Edit', 'Small', 'Large', 'work grows', 'instructions grow'], rows)

@@ -134,19 +134,19 @@ def asked(run, more):
     return lambda size: Work(['mod p int 0', 'mod q int 0', more], f'{run} {size}', edits)
 
 
-LONG, MIDDLE, SHORT = (1000, 2500, 5000, 10000, 20000, 40000), (1000, 2500, 5000, 10000, 20000), (500, 1000, 2500, 5000)
-# Each program of bench/programs: its sizes, and its workload of a size.
+LONG, SHORT = (625, 2500, 10_000), (250, 1000, 4000)
+# Each program of bench/programs: its sizes, of which the middle one is that of the table, and its workload of a size.
 PROGRAMS = {
     'map': (LONG, plain_list('run map l o', ['mod o cell null'])),
     'filter': (LONG, plain_list('run filter l o', ['mod o cell null'])),
     'reverse': (LONG, plain_list('run reverse l o', ['mod o link null'])),
     'split': (LONG, plain_list('run split l o p', ['mod o cell null', 'mod p cell null'])),
-    'sum': (MIDDLE, named_list('run sum l o', ['mod o int 0'], True)),
-    'minimum': (MIDDLE, named_list('run minimum l o', ['mod o int 0'], True)),
+    'sum': (LONG, named_list('run sum l o', ['mod o int 0'], True)),
+    'minimum': (LONG, named_list('run minimum l o', ['mod o int 0'], True)),
     'quicksort': (SHORT, plain_list('run quicksort l o', ['mod o cell null'])),
     'mergesort': (SHORT, named_list('run mergesort l o', ['mod o cell null'], False)),
     'expression': (LONG, expression),
-    'search': (MIDDLE, search),
+    'search': (SHORT, search),
     'hull': (SHORT, hull),
     'tree': (LONG, tree),
     'readers': (LONG, asked('run readers p q m', 'mod m int 5')),

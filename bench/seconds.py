@@ -1,0 +1,70 @@
+#!/usr/bin/env python3
+"""Measures what a person feels, in seconds, on an idle machine, and writes bench/seconds.md, which docs/PERFORMANCE.md takes over.
+
+    bench/seconds.py [PROGRAM]
+
+A machine is idle if hardly anything ran in the last minute (the load of /proc/loadavg is under a quarter of a processor). On another one it
+measures nothing and ends with 1: differences of times on a busy machine say nothing. Each time is the middle one of many tries, and is
+written with the spread of the tries; one that is smaller than its spread is written as less than the spread.
+"""
+import datetime, os, pathlib, statistics, sys, tempfile, time
+
+from measuring import Failed, Program
+from tables import table
+from workloads import PROGRAMS, RUN, TOP, input_of, large_sources
+
+IDLE, TRIES, SIZE, UPDATES = 0.25, 9, 40_000, 2_000
+OUT = TOP / 'bench/seconds.md'
+
+
+def load():
+    return float(pathlib.Path('/proc/loadavg').read_text().split()[0])
+
+
+def spent(program, words, text):
+    """The seconds that a process takes, for some tries, and what it writes."""
+    tries = [program.once(words, text) for _ in range(TRIES)]
+    return [it.seconds for it in tries], tries[0].written
+
+
+def told(times, less=None, over=1):
+    """A time with its spread: that of a process, or of one more than another by so many parts."""
+    value = (statistics.median(times) - (statistics.median(less) if less else 0)) / over
+    spread = (max(times) - min(times) + (max(less) - min(less) if less else 0)) / 2 / over
+    unit, scale = next((it for it in (('s', 1), ('ms', 1e-3), ('µs', 1e-6)) if value >= it[1]), ('µs', 1e-6))
+    return f'{value / scale:.3g} {unit} ± {spread / scale:.2g}' if value > spread else f'less than {spread / scale:.2g} {unit}'
+
+
+def rows_of(program):
+    work = PROGRAMS['map'][1](SIZE)
+    before = [*work.inputs, work.run]
+    idle, _ = spent(program, RUN, input_of('map', work.inputs))
+    ran, _ = spent(program, RUN, input_of('map', before))
+    edits = ['set l x', 'propagate', f'set l c{SIZE}', 'propagate'] * (UPDATES // 2)
+    updated, _ = spent(program, RUN, input_of('map', before + edits))
+    saving, saved = spent(program, ['save'], input_of('map', [*work.inputs[: len(work.inputs)], work.run]))
+    yield f'the inputs of a list of {SIZE:,} cells', told(idle)
+    yield f'the run of `map` over them ({5 * SIZE + 3:,} steps)', told(ran, idle)
+    yield f'an update of one cell (of {UPDATES:,} in one script)', told(updated, ran, UPDATES)
+    yield f'`save` of that session ({len(saved) / 1e6:.1f} MB)', told(saving)
+    if len(saved) <= 4_194_304:
+        yield '`resume` of it', told(spent(program, ['resume'], saved + '%%\n')[0])
+    for title, text in large_sources():
+        yield f'`check` of {title} ({len(text) / 1e6:.1f} MB)', told(spent(program, ['check'], text)[0])
+
+
+def main(words):
+    if load() > IDLE:
+        sys.exit(f'bench/seconds.py: the machine is busy (load {load()}), so nothing was measured')
+    program = Program(words[0] if words else str(TOP / 'crates/ceal/out/ceal'))
+    text = table(['What', 'Processor time'], [list(it) for it in rows_of(program)])
+    head = f'Measured on {datetime.date.today().isoformat()}, on an idle machine with {os.cpu_count()} processors. A time is the middle one of {TRIES}, with half of their spread.\n\n'
+    OUT.write_text(head + text, encoding='utf-8')
+    print(text, end='')
+
+
+if __name__ == '__main__':
+    try:
+        main(sys.argv[1:])
+    except Failed as failed:
+        sys.exit(f'bench/seconds.py: {failed}')
