@@ -169,7 +169,7 @@ class Ceal:
         program: Union[str, os.PathLike[str], None] = None,
     ) -> None:
         words = [_find(program)] + ([] if fuel is None else ['--fuel', str(fuel)])
-        self._errors = tempfile.TemporaryFile()
+        self._errors, self._told = tempfile.TemporaryFile(), ''
         self._server = subprocess.Popen(words, stdin=subprocess.PIPE, stdout=subprocess.PIPE, stderr=self._errors)
         text = re.split(rb'(?m)^%%\r?$', pathlib.Path(source).read_bytes(), maxsplit=1)[0]
         try:
@@ -186,7 +186,7 @@ class Ceal:
 
     def line(self, text: str) -> str:
         """The reply to any line of a script that has a reply of one line. Raises `Refused` and `OutOfFuel`."""
-        self._write(text.encode() + b'\n')
+        self._write(_line(text))
         return self._reply(text)
 
     def mod(self, name: str, kind: str, value: Value = None) -> Input:
@@ -213,7 +213,7 @@ class Ceal:
         replies: list[str] = []
         failed: Optional[CealError] = None
         for group in _groups(texts, TOGETHER):
-            self._write(''.join(f'{it}\n' for it in group).encode())
+            self._write(b''.join(map(_line, group)))
             for it in group:
                 try:
                     replies.append(self._reply(it))
@@ -304,7 +304,9 @@ class Ceal:
         self._server.wait()
         if self._server.stdout:
             self._server.stdout.close()
-        self._errors.close()
+        if not self._errors.closed:
+            self._told = self._read_errors()
+            self._errors.close()
 
     def __enter__(self) -> Ceal:
         return self
@@ -316,13 +318,13 @@ class Ceal:
 
     def _write(self, data: bytes) -> None:
         assert self._server.stdin
+        if self._server.stdin.closed:
+            raise self._closed()
         try:
             self._server.stdin.write(data)
             self._server.stdin.flush()
-        except (OSError, ValueError):
-            # What it wrote before it ended is read by `_reply`, which tells more.
-            if self._server.stdin.closed:
-                raise self._closed() from None
+        except OSError:
+            pass  # (it has ended: `_reply` reads what it wrote before that, which tells more)
 
     def _reply(self, line: str) -> str:
         """The next line that the program writes, as the answer to this line."""
@@ -341,8 +343,18 @@ class Ceal:
 
     def _closed(self) -> Closed:
         status = self._server.wait()
+        return Closed(status, self._told if self._errors.closed else self._read_errors())
+
+    def _read_errors(self) -> str:
         self._errors.seek(0)
-        return Closed(status, self._errors.read().decode(errors='replace').strip())
+        return self._errors.read().decode(errors='replace').strip()
+
+
+def _line(text: str) -> bytes:
+    """A line with its line feed. One that has no reply, or more than one line, would leave both sides waiting."""
+    if '\n' in text or text.split('//', 1)[0].strip(' \t\r') == '' or text.split()[0] == 'show':
+        raise ValueError(f'{text!r} has not one reply: a graph is asked for by `graph`')
+    return text.encode() + b'\n'
 
 
 def _groups(texts: Iterable[str], size: int) -> Iterator[list[str]]:
