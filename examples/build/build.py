@@ -90,7 +90,7 @@ class Build:
         self.order = repository.ordered(list(range(len(repository.names))))
         self.made_uses = 0
         for target, files in enumerate(repository.files):
-            session.new(f't{target}', 'target', None, None, *[0] * (5 if has_marks else 4))
+            session.new(f't{target}', 'target', None, None, *[0] * (6 if has_marks else 5))
             for at, it in enumerate(files):
                 session.new(f'f{target}_{at}', 'file', it)
                 session.new(f's{target}_{at}', 'source', f'f{target}_{at}', f's{target}_{at - 1}' if at else None)
@@ -100,11 +100,17 @@ class Build:
                 session.set(f't{target}.sources', f's{target}_{len(files) - 1}')
         for target in range(len(repository.names)):
             self.set_uses(target)
-        for target in range(len(repository.names)):
-            session.new(f'l{target}', 'line', f't{target}', None)
-        session.mod('first', 'line')
-        session.mod('cycles', 'int', 0)
-        self.set_order([])
+        self.add_list('all', list(range(len(repository.names))))
+        if has_marks:
+            session.mod('cycles', 'int', 0)
+        else:
+            self.add_list('order', self.order)
+
+    def add_list(self, name: str, targets: list[int]) -> None:
+        last = None
+        for at in reversed(range(len(targets))):
+            last = self.session.new(f'{name}{at}', 'line', f't{targets[at]}', last)
+        self.session.mod(name, 'line', last)
 
     def set_uses(self, target: int) -> None:
         """Writes the uses of a target as a new list."""
@@ -114,12 +120,10 @@ class Build:
             last = self.session.new(f'u{self.made_uses}', 'use', f't{it}', last)
         self.session.set(f't{target}.uses', last)
 
-    def set_order(self, old: list[int]) -> None:
-        """Writes the order, where it is not the old one."""
-        was = dict(zip([None, *old], [*old, None])) if old else {}
-        for one, other in zip([None, *self.order], [*self.order, None]):
-            if not old or was.get(one, -1) != other:
-                self.session.set('first' if one is None else f'l{one}.next', None if other is None else f'l{other}')
+    def set_order(self, order: list[int]) -> None:
+        """Writes the targets of the places in the order that have other ones now."""
+        self.session.edit((f'order{at}.target', f't{it}') for at, (was, it) in enumerate(zip(self.order, order)) if was != it)
+        self.order = order
 
     def touch(self) -> None:
         """Another text of a file."""
@@ -151,8 +155,7 @@ class Build:
     def changed_uses(self, target: int) -> None:
         self.set_uses(target)
         if not self.has_marks:
-            old, self.order = self.order, self.repository.ordered(self.order)
-            self.set_order(old)
+            self.set_order(self.repository.ordered(self.order))
 
     def compared(self) -> int:
         """How many answers were compared: the key, the level and the mark of each target."""
@@ -182,7 +185,7 @@ def main() -> None:
     with Ceal(HERE / f'{name}.ceal', program=words.program, fuel=4_194_304) as session:
         repository = Repository()
         build, job = Build(repository, session, words.marks), Job(name, session)
-        job.run('build', 'first', *(['cycles'] if words.marks else []))
+        job.run('build', 'all', 'cycles' if words.marks else 'order')
         job.answers += build.compared()
         moved: list[int] = []
         for _ in range(words.edits):
