@@ -230,7 +230,7 @@ class Ceal:
     def propagate(self, reads: Optional[int] = None) -> bool:
         """Updates the results to the edits. Returns whether they are up to date.
 
-        With `reads` it is a part of the update: at most so many stale reads are re-executed, and False says that some are left.
+        With `reads` it is a part of the update: at most that many stale reads are re-executed, and False says that some are left.
         """
         reply = self.line('propagate' if reads is None else f'propagate {reads}')
         return reply != 'more'

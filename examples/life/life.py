@@ -67,32 +67,34 @@ class Simulation:
 def picture(torus: Torus, old: World, new: World) -> str:
     """The update as an SVG: one square field for each time."""
     size, gap = 6, 12
-    parts = []
+    fields: list[str] = []
+    squares: dict[str, list[str]] = {'#9e9e9e': [], '#ef9a9a': [], '#c62828': []}
     for time in range(TIMES):
-        left = time % 7 * (torus.width * size + gap)
-        top = time // 7 * (torus.height * size + gap + 14)
-        parts.append(f'<text x="{left}" y="{top + 10}" font-size="10" font-family="sans-serif">time {time}</text>')
-        parts.append(f'<rect x="{left}" y="{top + 14}" width="{torus.width * size}" height="{torus.height * size}" fill="#f6f6f6"/>')
+        left, top = time % 7 * (torus.width * size + gap), time // 7 * (torus.height * size + gap + 14)
+        fields.append(f'<text x="{left}" y="{top + 10}" font-size="10" font-family="sans-serif">time {time}</text>')
+        fields.append(f'<rect x="{left}" y="{top + 14}" width="{torus.width * size}" height="{torus.height * size}" fill="#f6f6f6"/>')
         for at in torus.cells:
-            is_changed = old[time][at] != new[time][at]
-            if is_changed or new[time][at]:
-                color = ('#c62828' if new[time][at] else '#ef9a9a') if is_changed else '#9e9e9e'
+            is_changed, lives = old[time][at] != new[time][at], new[time][at] == 1
+            if is_changed or lives:
+                colour = '#9e9e9e' if not is_changed else '#c62828' if lives else '#ef9a9a'
                 x, y = left + at % torus.width * size, top + 14 + at // torus.width * size
-                parts.append(f'<rect x="{x}" y="{y}" width="{size}" height="{size}" fill="{color}"/>')
+                squares[colour].append(f'M{x} {y}h{size}v{size}h-{size}')
+    drawn = [f'<path fill="{colour}" d="{"".join(paths)}"/>' for colour, paths in squares.items()]
     width, height = 7 * (torus.width * size + gap), 3 * (torus.height * size + gap + 14)
-    return f'<svg xmlns="http://www.w3.org/2000/svg" width="{width}" height="{height}">{"".join(parts)}</svg>\n'
+    return f'<svg xmlns="http://www.w3.org/2000/svg" width="{width}" height="{height}">{"".join(fields + drawn)}</svg>\n'
 
 
 def more(parser: argparse.ArgumentParser) -> None:
     parser.add_argument('--width', type=int, default=16)
     parser.add_argument('--height', type=int, default=16)
+    parser.add_argument('--density', type=float, default=0.3, help='how many of the cells live at the beginning (0.3)')
     parser.add_argument('--picture', help='a file for the picture of the last update')
 
 
 def main() -> None:
     words = words_of(__doc__ or '', 200, more)
     torus = Torus(words.width, words.height)
-    first = [int(random.random() < 0.3) for _ in torus.cells]
+    first = [int(random.random() < words.density) for _ in torus.cells]
     with Ceal(HERE / 'life.ceal', program=words.program, fuel=4_194_304) as session:
         simulation, job = Simulation(torus, first, session), Job('life', session)
         job.run('simulate', 'first', 0, TIMES - 1)
