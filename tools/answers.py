@@ -3,11 +3,11 @@ import hashlib, os, pathlib, re, secrets, shutil, signal, subprocess, sys, tempf
 
 TOP = pathlib.Path(__file__).resolve().parent.parent
 CRATE = TOP / 'crates/ceal'
-PROGRAM, BUILT = CRATE / 'out/ceal', CRATE / 'out/ceal.built'
+PROGRAM, BUILT, SEEN = CRATE / 'out/ceal', CRATE / 'out/ceal.built', CRATE / 'out/ceal.seen'
 # What the build takes: the sum of the first proofs of its crates, which were measured one by one (docs/GATE.md).
 BUILD_COST = 'some 90 minutes of processor time, and up to 4 GB of memory'
-# An input has at most this many bytes; one byte more is enough to be refused (docs/SCRIPT.md).
-LONGEST_INPUT = 4_194_304
+# A file that was changed less than this many seconds ago may be changed once more at what seems to be the same time.
+TICK = 2
 LINE = re.compile(rb'^run=ended status=(\d+) ', re.M)
 CASE = re.compile(rb'^case=(\S+) run=ended status=(\d+) ', re.M)
 running = []
@@ -127,83 +127,64 @@ def sums_with_program():
     return sums() + f'{sum_of(PROGRAM)} program\n'
 
 
+def stats():
+    """A line for each source, the program and its sums: the size, the times and the number of the file. While none of these is another, as
+    `git` and `make` take it too, neither is what is in the files."""
+
+    def line(path, it):
+        return f'{path} {it.st_size} {it.st_mtime_ns} {it.st_ctime_ns} {it.st_ino}'
+
+    def below(folder):
+        with os.scandir(folder) as entries:
+            for it in sorted(entries, key=lambda it: it.name):
+                if it.is_dir(follow_symlinks=False):
+                    yield from below(it.path)
+                elif it.name.endswith(('.rt', '.antt')):
+                    yield line(it.path, it.stat())
+
+    lines = [line(it, os.stat(it)) for it in (TOP / 'crates.txt', PROGRAM, BUILT)]
+    for crate in crates():
+        for folder in (f'{TOP}/crates/{crate}/{part}' for part in ('src', 'specs', 'proofs')):
+            lines += below(folder) if os.path.isdir(folder) else ()
+    return '\n'.join(lines)
+
+
+def is_current():
+    """Whether the program was built from just these sources: by their sums, or where those have been looked at, by the stats of the files."""
+    seen, now = stats(), time.time()
+    try:
+        if SEEN.read_text() == seen:
+            return True
+    except OSError:
+        pass
+    if sums_with_program() != BUILT.read_text():
+        return False
+    newest = max(int(it.split(' ')[-2]) for it in seen.splitlines())
+    if now - newest / 1e9 > TICK:
+        put(SEEN, seen)
+    return True
+
+
+def put(path, text):
+    """Writes a file as a whole, where that may be done at all."""
+    made = path.with_name(f'{path.name}.{os.getpid()}')
+    try:
+        made.write_text(text)
+        os.replace(made, path)
+    except OSError:
+        pass
+
+
 def why_unproved():
     """Why the proved program can't answer; None where it can."""
     if not (os.access(PROGRAM, os.X_OK) and BUILT.is_file()):
         return 'the proved program is not built'
-    if sums_with_program() != BUILT.read_text():
-        return 'sources have changed since the proved program was built'
-    return None
+    return None if is_current() else 'sources have changed since the proved program was built'
 
 
 def need_toolchain():
     if not shutil.which('rt'):
         raise Fault(69, 'the Rattle toolchain is missing: its command rt is not on the PATH')
-
-
-# -- inputs
-
-
-class Input:
-    """What the program is given: a name for people, and bytes, or a file that it reads itself."""
-
-    def __init__(self, name, text=None, path=None):
-        self.name, self.path, self.held = name, path, text
-
-    def text(self):
-        if self.held is None:
-            self.held = read_all(open(self.path, 'rb', 0)) if self.path else b''
-        return self.held
-
-    def stream(self):
-        """A stream of it from its first byte on."""
-        if self.path:
-            return os.fdopen(os.open(self.path, os.O_RDONLY), 'rb') if self.path != TOP else Folder()
-        stream = tempfile.TemporaryFile()
-        stream.write(self.text())
-        stream.seek(0)
-        return stream
-
-
-class Folder:
-    """A stream that can't be read."""
-
-    def __enter__(self):
-        self.number = os.open(TOP, os.O_RDONLY)
-        return self
-
-    def __exit__(self, *_):
-        os.close(self.number)
-
-    def fileno(self):
-        return self.number
-
-
-def read_all(stream):
-    """The bytes of a stream, as far as the program would look at them."""
-    with stream:
-        parts, left = [], LONGEST_INPUT + 1
-        while left:
-            part = stream.read(min(left, 1 << 20))
-            if not part:
-                break
-            parts.append(part)
-            left -= len(part)
-        return b''.join(parts)
-
-
-def opened(name):
-    """The input of this name; - is the standard input."""
-    if name == '-':
-        try:
-            return Input('standard input', read_all(open(0, 'rb', 0, closefd=False)))
-        except OSError:
-            return Input('standard input', path=TOP)  # (a folder can't be read either, so that the program says it)
-    if os.path.isdir(name) or not os.access(name, os.R_OK):
-        raise Fault(66, f'there is no readable file {name}')
-    if os.path.isfile(name):
-        return Input(name, path=os.path.abspath(name))
-    return Input(name, read_all(open(name, 'rb', 0)))
 
 
 # -- answers

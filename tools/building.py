@@ -125,7 +125,6 @@ def install(folder):
     return 0
 
 
-def main(words):
-    if words[0] == '--build':
-        return build()
-    return take_built() if words[0] == '--built' else install(words[1])
+def main(option, *more):
+    """Does what an option asks for."""
+    return {'--build': build, '--built': take_built, '--install': install}[option](*more)

@@ -6,6 +6,8 @@ from tools.answers import PROGRAM, TOP
 
 RUN = str(TOP / 'run')
 EXAMPLES = sorted((TOP / 'examples').glob('*.ceal'))
+# runs for ever if m is not 0
+ENDLESS = 'ceal f(mod int *m) {\n  int x = read(m);\n  while (x != 0) { x = 1; }\n}\n%%\n'
 SOON = 60  # (seconds in which is refused what is refused at once)
 passed = failed = 0
 
@@ -43,7 +45,17 @@ def refused_at_once(folder):
     for name, words, status, told in (
         ('no words', [], 64, 'usage: ./run'),
         ('an unknown mode', ['chek', example], 64, 'there is no mode chek'),
-        ('an unknown option', ['--dto', example], 64, 'there is no option --dto'),
+        ('an unknown option', ['--dto', example], 64, 'there is no option --dto (did you mean --dot?)'),
+        ('an unknown option after the file', [example, '--fule', '5'], 64, 'there is no option --fule (did you mean --fuel?)'),
+        ('a mode without a file', ['check'], 64, 'a file is missing'),
+        ('a mode that is the name of a file', ['run'], 64, './run ./run runs the file run'),
+        ('a mode after its file', [example, 'check'], 64, f'./run check {example}'),
+        ('a fuel after the file', [example, '--fuel', '0'], 64, '--fuel goes with'),
+        ('a fuel that is there twice', ['--fuel', '5', example, '--fuel=6'], 64, '--fuel is there twice'),
+        ('two options that draw', ['--dot', '--trace', example], 64, '--dot and --trace do not go together'),
+        ('two options of which one measures', ['--time', example, '--strict'], 64, '--time and --strict do not go together'),
+        ('--strict with check', ['check', '--strict', example], 64, 'ends with 1 by itself'),
+        ('an option that is a file', ['--', '--strict'], 66, 'no readable file --strict'),
         ('an option without a file', ['--dot'], 64, 'a file is missing'),
         ('a fuel of none', ['--fuel', '0', example], 64, '--fuel goes with'),
         ('a fuel that is no number', ['run', '--fuel=much', example], 64, '--fuel goes with'),
@@ -55,7 +67,7 @@ def refused_at_once(folder):
         ('a graph of many', ['--dot', 'many', example], 64, '--dot does not go with many'),
         ('a trace of list', ['--trace', 'list', example], 64, '--trace does not go with list'),
         ('two programs beside their replies', ['--beside', example, 'examples/map.ceal'], 64, 'takes one program'),
-        ('a word after --build', ['--build', 'now'], 64, '--build takes 0 words'),
+        ('a word after --build', ['--build', 'now'], 64, '--build takes no other word'),
         ('a missing file', ['examples/none.ceal'], 66, 'no readable file examples/none.ceal'),
         ('a missing file among others', [example, 'examples/none.ceal'], 66, 'no readable file examples/none.ceal'),
         ('a folder', ['examples'], 66, 'no readable file examples'),
@@ -145,6 +157,13 @@ def files(folder):
         ('blank_mark.ceal', 'ceal f(mod int *m) { }\n%% \nmod a int 1\n'),
         ('source.ceal', 'ceal inc(mod int *a, mod int *b) {\n  int x = read(a);\n  write(b, x + 1);\n}\n'),
         ('script', 'mod a int 1\nmod b int 0\nrun inc a b\nget b\n'),
+        ('place_source', 'ceal f(mod int *m) {\n\twrite(m\t1);\n}\n'),
+        ('refused_script', '// two lines that are refused\nmod a int 1\nmod b int\nrun inc a b\n'),
+        ('resumed_script', 'get b\nfrob\n'),
+        ('endless.ceal', ENDLESS + 'mod m int 1\nrun f m\n'),
+        ('back.ceal', ENDLESS + 'mod m int 1\nrun f m\nset m 0\npropagate\n'),
+        ('sessions', ENDLESS + '@a mod m int 0\n@b mod m int 1\n@a run f m\n// both are run\n@b run f m\n'),
+        ('unrun.ceal', ENDLESS + 'mod m int 1\n'),
         ('refused.ceal', 'ceal f(mod int *m) { write(m, 1); }\n%%\n// a comment\nmod m int 1\nget m\nrun f m\nfrob\nget m\n'),
     ):
         path = pathlib.Path(folder, name)
@@ -170,6 +189,41 @@ def faults(made):
     call('a mark with blanks', [made['blank_mark.ceal']], 1, b'fault S3 at 2:1: unexpected token\n', 'no blanks around it')
 
 
+def two_files(made):
+    """A line is told by the file that it is in, and by its number there."""
+    source, script = made['source.ceal'], made['refused_script']
+    reply = b'ok\nrefused C1: unreadable line\nrefused C2: unknown name\n'
+    told = f'run: {script}:3: mod b int: refused C1: unreadable line\n'
+    call('--strict of two files', ['--strict', source, script], 67, reply, told)
+    call('--strict after two files', [source, script, '--strict'], 67, reply, f'run: {script}:4: run inc a b: refused C2: unknown name\n')
+    shown = call('--beside of two files', [source, '--beside', script], 0).decode()
+    tell('the numbers of --beside', [] if re.match(r'1  // .*\n2  mod a int 1 +ok\n3  mod b int +refused C1', shown) else [f'wrote {shown!r}'])
+    call('a fault with a script in a file', [made['place_source'], script], 1, None, f'run: {made["place_source"]}:2:10: unexpected token\n')
+    for words in (['--strict'], ['check'], ['resume']):
+        call(f'swapped files, {words[0]}', [*words, script, source], 64, b'', 'begins as a script', seconds=SOON)
+    call('a script by itself', [made['script']], 1, None, 'this begins as a script')
+
+
+def strict(made, folder):
+    """What --strict fails for besides lines that are refused, and what it does not fail for."""
+    endless, script = made['endless.ceal'], made['script']
+    call('--strict, out of fuel at the end', ['--strict', '--fuel', '50', endless], 67, b'ok\nout of fuel\n', f'run: {endless}:7: run f m: out of fuel\n')
+    call('--strict, out of fuel and back', ['--strict', 'run', '--fuel=50', made['back.ceal']], 0, b'ok\nout of fuel\nok\nok\n', '')
+    call('--strict many', ['many', '--strict', '--fuel', '50', made['sessions']], 67, None, f'run: {made["sessions"]}:10: @b run f m: out of fuel\n')
+    call('--strict save', ['--strict', 'save', made['source.ceal'], script], 0)
+    unrun = made['unrun.ceal']
+    call('--strict save without a run', ['save', unrun, '--strict'], 67, b'no finished run\n', f'run: {unrun}: there is nothing to save: no finished run\n')
+    call('--strict dump without a run', ['dump', unrun, '--strict'], 67, b'no finished run\n', f'run: {unrun}: there is nothing to dump: no finished run\n')
+    call('--strict dump with a refused line', ['dump', made['refused.ceal'], '--strict'], 67, None, 'frob: refused C1: unreadable line')
+    pathlib.Path(folder, 'good').write_bytes(call('dump', ['dump', 'examples/inc.ceal'], 0))
+    call('--strict verify', ['--strict', 'verify', 'examples/inc.ceal', f'{folder}/good'], 0, b'yes\n', '')
+    pathlib.Path(folder, 'bad').write_bytes(pathlib.Path(folder, 'good').read_bytes().replace(b'\nw ', b'\nw i0.0 ', 1))
+    call('--strict verify of a wrong dump', ['--strict', 'verify', 'examples/inc.ceal', f'{folder}/bad'], 67, b'no K1: unreadable dump\n', f'run: {folder}/bad: no K1: unreadable dump\n')
+    saved = pathlib.Path(folder, 'saved_once')
+    saved.write_bytes(call('save', ['save', made['source.ceal'], script], 0))
+    call('--strict resume', ['resume', '--strict', str(saved), made['resumed_script']], 67, b'2\nrefused C1: unreadable line\n', f'run: {made["resumed_script"]}:2: frob')
+
+
 def options(made):
     refused = made['refused.ceal']
     reply = b'ok\nrefused C7: no finished run\nok\nrefused C1: unreadable line\n1\n'
@@ -185,7 +239,8 @@ def options(made):
     call('--trace without a run', ['--trace', made['no_mark.ceal']], 1)
     call('source and script in two files', [made['source.ceal'], made['script']], 0, b'ok\nok\nok\n2\n')
     timed = call('--time', ['--time', 'examples/inc.ceal'], 0).decode()
-    is_right = re.fullmatch(r' +10  run inc a b .* ms   work 2\n +15  propagate .* ms   work 1\n', timed)
+    took = r'(under )?[\d.,]+ (s|ms|µs)'
+    is_right = re.fullmatch(rf' +10  run inc a b +{took}   work 2\n +15  propagate +{took}   work 1; from scratch {took}, .*\n', timed)
     tell('the lines of --time', [] if is_right else [f'wrote {timed!r}'])
 
 
@@ -278,6 +333,8 @@ def main(is_proved):
         several(made)
         if is_proved:
             faults(made)
+            two_files(made)
+            strict(made, folder)
             options(made)
             dumps(folder)
             saves(folder, made)
