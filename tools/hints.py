@@ -182,10 +182,10 @@ def of_field(spot):
 def of_statement(spot):
     """A statement that has another form in C."""
     token, first = spot.token, spot.first
-    if token is first:
-        return of_beginning(spot)
     if '{' in spot.wanted and spot.before.text in (')', 'else'):
         return 'braces are compulsory: `if (x != 0) { y = 1; }`'
+    if token is first:
+        return of_beginning(spot)
     if spot.before.text == 'return':
         return 'a function has no result: it is passed a modifiable and writes there; only `return;` ends it'
     if first.text in TYPE or first.text in OTHER_TYPES:
@@ -271,11 +271,11 @@ def of_meaning(spot, program, found):
     if spot.code == 'T5' and found:
         return (found[0] + like(name, found[1]),)
     if spot.code == 'N1':
-        return (UNKNOWN.get(name) or like(name, [*program.structs, *program.functions]).strip(),)
+        return (UNKNOWN.get(name) or of_unknown(spot),)
     if spot.code == 'N2' and spot.before.text not in ('ceal', 'init', '{') and spot.level == 'body':
         return ('a name may be declared again only once the earlier variable is out of scope: take another name',)
     if spot.code == 'T2' and name in program.functions:
-        return (parameters_of(program.functions[name]),)
+        return (signature(program.functions[name]),)
     if spot.code == 'T3':
         return (of_no_modifiable(spot),)
     if spot.code == 'T4':
@@ -296,6 +296,14 @@ def of_kinds(spot, found):
     return None
 
 
+def of_unknown(spot):
+    """A name that is not known: one that is like it, or the same one elsewhere."""
+    name, names = spot.token.text, {it.text for it in spot.tokens if it.kind == 'name'}
+    if any(it.text == name for it in spot.tokens[: spot.at]):
+        return f'no {name} is in scope here'
+    return like(name, names - {name}).strip(' ()')
+
+
 def of_no_modifiable(spot):
     if spot.before.text == '->':
         return 'a plain field is no modifiable: in the struct, `mod int f;` makes it one'
@@ -304,7 +312,8 @@ def of_no_modifiable(spot):
     return 'a modifiable is given by a pointer: a `mod int *`, a `mod struct S *`, or `&p->f`'
 
 
-def parameters_of(function):
+def signature(function):
+    """What a function takes."""
     told = [f'{kind}{"" if kind.endswith("*") else " "}{name}' for kind, name in function.parameters[function.kind == 'init' :]]
     return f'{function.name}({", ".join(told)}) takes {len(told)} argument{"s" * (len(told) != 1)}'
 

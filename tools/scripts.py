@@ -71,7 +71,7 @@ def is_blank_in_many(line):
 def session_and_words(line, mode):
     """The session that a line names, where there are many, and its other words."""
     words = line.split()
-    return (words[0], words[1:]) if mode == 'many' and words and words[0].startswith(b'@') else (b'', words)
+    return (words[0], words[1:]) if mode == 'many' and line.startswith(b'@') else (b'', words)
 
 
 def replies(script, output, mode='run'):
@@ -94,30 +94,15 @@ def reply_end(line, left, at, mode):
     return at + 1
 
 
-def numbered(given, output, mode):
-    """Gives each line of an input's script with its place, FILE:NUMBER, and the lines that it is answered."""
-    first, script = script_of(given.text(), mode)
-    name, own = given.place(first)
-    for number, (line, taken) in enumerate(replies(script, output, mode), own):
-        yield f'{name}:{number}', line, taken
+def names_no_session(given):
+    """Whether a script for many sessions names none at all, as one that is for `run`."""
+    lines = [it for it in lines_of(parts(given.text())[2]) if not is_blank_in_many(it)]
+    return bool(lines) and not any(it.startswith(b'@') for it in lines)
 
 
 def printable(text):
     """Bytes for people: what would move a terminal's cursor, or is no text, is one sign each."""
     return ''.join(it if it.isprintable() or it == '\t' else '\ufffd' for it in text.decode(errors='replace').rstrip('\r\n'))
-
-
-def beside(given, output, mode):
-    """The script of an input, each line with its number in its file and its reply beside it."""
-    first, script = script_of(given.text(), mode)
-    pairs = [(printable(line).expandtabs(8), taken) for line, taken in replies(script, output, mode)]
-    first = given.place(first)[1]
-    width = max([20, *(len(line) for line, taken in pairs if taken)]) + 3
-    digits = len(str(first + len(pairs)))
-    for number, (line, taken) in enumerate(pairs, first):
-        told = [printable(it) for it in taken] or ['']
-        yield f'{number:{digits}}  {line:{width if taken else 0}}{told[0]}'.rstrip()
-        yield from (' ' * (digits + 2 + width) + it for it in told[1:])
 
 
 def excerpt(given, output):
