@@ -1,11 +1,12 @@
 """How the answers of the program are got: from the proved program where it is there, else from the same sources by `rt try`."""
-import hashlib, os, pathlib, re, secrets, shutil, signal, subprocess, sys, tempfile, time
+import os, pathlib, re, signal, subprocess, sys, time
 
 TOP = pathlib.Path(__file__).resolve().parent.parent
 CRATE = TOP / 'crates/ceal'
-PROGRAM, BUILT, SEEN = CRATE / 'out/ceal', CRATE / 'out/ceal.built', CRATE / 'out/ceal.seen'
+PROGRAM, BUILT, SEEN, TRIED = (CRATE / 'out' / it for it in ('ceal', 'ceal.built', 'ceal.seen', 'ceal.tried'))
 # What the build takes: the sum of the first proofs of its crates, which were measured one by one (docs/GATE.md).
 BUILD_COST = 'some 90 minutes of processor time, and up to 4 GB of memory'
+TRY_COST = 'one to three minutes'
 # A file that was changed less than this many seconds ago may be changed once more at what seems to be the same time.
 TICK = 2
 LINE = re.compile(rb'^run=ended status=(\d+) ', re.M)
@@ -113,6 +114,8 @@ def sources():
 
 
 def sum_of(path):
+    import hashlib  # (imported where it is needed, as what few calls need, so that a call of ./run begins soon)
+
     with open(path, 'rb') as file:
         return hashlib.sha256(file.read()).hexdigest()
 
@@ -161,16 +164,22 @@ def is_current():
         return False
     newest = max(int(it.split(' ')[-2]) for it in seen.splitlines())
     if now - newest / 1e9 > TICK:
-        put(SEEN, seen)
+        remember(SEEN, seen)
     return True
 
 
 def put(path, text):
-    """Writes a file as a whole, where that may be done at all."""
+    """Writes a file as a whole."""
     made = path.with_name(f'{path.name}.{os.getpid()}')
+    made.write_text(text)
+    os.replace(made, path)
+
+
+def remember(path, text):
+    """Writes a file that only saves time, where that may be done at all."""
     try:
-        made.write_text(text)
-        os.replace(made, path)
+        path.parent.mkdir(exist_ok=True)
+        put(path, text)
     except OSError:
         pass
 
@@ -183,7 +192,9 @@ def why_unproved():
 
 
 def need_toolchain():
-    if not shutil.which('rt'):
+    from shutil import which
+
+    if not which('rt'):
         raise Fault(69, 'the Rattle toolchain is missing: its command rt is not on the PATH')
 
 
@@ -213,8 +224,9 @@ def by_program(words, given, is_kept):
 def tried(words, folder, **how):
     """Runs `rt try` with the given words; returns what the program, and what `rt` wrote on standard error."""
     with open(f'{folder}/out', 'w+b') as out, open(f'{folder}/err', 'w+b') as err:
-        how = {'stdin': subprocess.DEVNULL, 'stdout': out, 'stderr': err, 'cwd': CRATE, **how}
+        how, begun = {'stdin': subprocess.DEVNULL, 'stdout': out, 'stderr': err, 'cwd': CRATE, **how}, time.monotonic()
         wait(start(['rt', 'try', '--steps', '1', '--seconds', '600', *words], **how), 'compiling, with no proof')
+        remember(TRIED, shown_time(time.monotonic() - begun))
         out.seek(0)
         err.seek(0)
         return out.read(), err.read()
@@ -222,6 +234,8 @@ def tried(words, folder, **how):
 
 def by_try(calls):
     """Answers each of some calls with no proof: the sources are compiled once."""
+    import tempfile
+
     with tempfile.TemporaryDirectory(prefix='ceal-') as folder:
         if len(calls) > 1:
             return by_cases(calls, folder)
@@ -238,6 +252,9 @@ def by_try(calls):
 
 
 def by_cases(calls, folder):
+    """Answers several calls, each by a case of one `rt try`."""
+    import secrets
+
     cases, token = pathlib.Path(folder, 'cases'), secrets.token_hex(8)
     cases.mkdir()
     names = [f'{at}-{token}' for at in range(len(calls))]
@@ -264,7 +281,9 @@ def answers(calls, is_kept=True):
     if why is None:
         return [by_program(words, given, is_kept) for words, given in calls]
     need_toolchain()
+    last = f', {TRIED.read_text()} the last time' if TRIED.is_file() else ''
     print(f'run: this run is not proved ({why}); ./run --build proves and builds the program in {BUILD_COST}', file=sys.stderr)
+    print(f'run: now all is compiled, as in each such call, in {TRY_COST}{last}; ./run FILE FILE .. compiles once for several', file=sys.stderr, flush=True)
     got = by_try(calls)
     if not is_kept:
         for it in got:

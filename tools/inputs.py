@@ -1,5 +1,5 @@
 """Inputs: what the program is given, from one file or put together from several, with the file and line that each line is from."""
-import os, tempfile
+import os
 
 from tools import scripts
 from tools.answers import TOP, Fault
@@ -24,6 +24,8 @@ class Input:
         """A stream of it from its first byte on."""
         if self.path:
             return os.fdopen(os.open(self.path, os.O_RDONLY), 'rb') if self.path != TOP else Folder()
+        import tempfile
+
         stream = tempfile.TemporaryFile()
         stream.write(self.text())
         stream.seek(0)

@@ -1,5 +1,5 @@
 """The words of a call of `./run`: its mode, its options and its files, and which of them go together."""
-import difflib, os, re
+import os, re
 
 from tools.answers import Fault
 
@@ -35,7 +35,7 @@ OPTIONS = {
 }
 TOGETHER = ({'--strict', '--beside'}, {'--strict', '--dot'})
 # How many words there are with an option that takes no program.
-ALONE = {'--help': 1, '-h': 1, '--version': 1, '-V': 1, '--build': 1, '--test': 1, '--install': 2, '--built': 1}
+ALONE = {'--help': 1, '-h': 1, '--version': 1, '-V': 1, '--build': 1, '--test': 1, '--install': 2, '--built': 2}
 SPELT_OUT = {'help': '--help', 'version': '--version', '-h': '--help', '-V': '--version'}
 LARGEST_FUEL, LARGEST_SEED, LARGEST_SIZE = 4_194_304, 2_147_483_647, 40_000
 
@@ -111,6 +111,8 @@ class Words:
 
 def unknown(what, word, known):
     """Says that a word is none of those that are known, and which of them is like it."""
+    import difflib
+
     like = difflib.get_close_matches(word, known, 1)
     return f'there is no {what} {word}' + (f' (did you mean {like[0]}?)' if like else f'; ./run --help tells them' if what == 'option' else '')
 
@@ -135,5 +137,5 @@ def asked_alone(words):
     more = [it for it in words if it != option]
     option = SPELT_OUT.get(option, option)
     if option != '--help' and len(more) != ALONE[option] - 1:
-        raise Fault(64, f'{option} takes {("no other word", "one word more: a folder")[ALONE[option] - 1]}')
+        raise Fault(64, f'{option} takes {"no other word" if ALONE[option] == 1 else "one word more"}')
     return option, more
