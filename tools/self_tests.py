@@ -1,44 +1,14 @@
 """Tries what `./run` does: `python3 -m tools.self_tests proved|unproved`. Without the proved program only what needs few answers is tried."""
 import os, pathlib, re, signal, subprocess, sys, tempfile, time
+from concurrent.futures import ThreadPoolExecutor
 
-from tools import answers, rows, scripts
-from tools.answers import PROGRAM, TOP
+from tools import build_tests, calls, hint_tests, rows, scripts
+from tools.answers import TOP
+from tools.calls import RUN, SOON, call, tell
 
-RUN = str(TOP / 'run')
 EXAMPLES = sorted((TOP / 'examples').glob('*.ceal'))
 # runs for ever if m is not 0
 ENDLESS = 'ceal f(mod int *m) {\n  int x = read(m);\n  while (x != 0) { x = 1; }\n}\n%%\n'
-SOON = 60  # (seconds in which is refused what is refused at once)
-passed = failed = 0
-
-
-def tell(name, faults):
-    global passed, failed
-    passed, failed = passed + (not faults), failed + bool(faults)
-    if faults:
-        print(f'./run: {name}:', '; '.join(faults))
-
-
-def call(name, words, status, output=None, told=None, given=subprocess.DEVNULL, seconds=600, **how):
-    """Calls ./run once, and says where it ends otherwise; `told` is looked for on standard error."""
-    how = {'stdout': subprocess.PIPE, 'stderr': subprocess.PIPE, 'timeout': seconds, **how}
-    how.update({'input': given} if isinstance(given, bytes) else {'stdin': given})
-    try:
-        ended = subprocess.run([RUN, *words], cwd=TOP, **how)
-    except subprocess.TimeoutExpired:
-        tell(name, [f'not ended after {seconds} seconds'])
-        return b''
-    faults = []
-    if ended.returncode != status:
-        faults.append(f'status {ended.returncode} in place of {status}')
-    if output is not None and ended.stdout != output:
-        faults.append(f'wrote {ended.stdout[:300]!r} in place of {output[:300]!r}')
-    if told is not None and told not in ended.stderr.decode(errors='replace'):
-        faults.append(f'told {ended.stderr[-300:]!r}, without {told!r}')
-    tell(name, faults)
-    return ended.stdout or b''
-
-
 def refused_at_once(folder):
     """Words and files that are refused before anything is compiled."""
     example = 'examples/inc.ceal'
@@ -73,7 +43,12 @@ def refused_at_once(folder):
         ('a folder', ['examples'], 66, 'no readable file examples'),
     ):
         call(name, words, status, b'', told, seconds=SOON)
-    call('--help', ['--help'], 0, seconds=SOON)
+    for words in (['--help'], ['-h'], ['help'], [example, '--help']):
+        tell(' '.join(words), [] if call(' '.join(words), words, 0, seconds=SOON).startswith(b'usage: ./run') else ['no usage'])
+    version = re.search(r'^## (\d+\.\d+\.\d+)', (TOP / 'CHANGELOG.md').read_text(), re.M)[1]
+    for words in (['--version'], ['-V'], ['version']):
+        said = call(words[0], words, 0, seconds=SOON).decode()
+        tell(f'{words[0]} and CHANGELOG.md', [] if re.fullmatch(rf'ceal {version}(, with later changes)?\n', said) else [f'wrote {said!r}'])
     os.symlink(RUN, f'{folder}/link')
     ended = subprocess.run([f'{folder}/link', '--help'], stdout=subprocess.PIPE, cwd='/')
     tell('a link to ./run', [] if ended.stdout.startswith(b'usage: ./run') else ['it does not run'])
@@ -193,7 +168,7 @@ def two_files(made):
     """A line is told by the file that it is in, and by its number there."""
     source, script = made['source.ceal'], made['refused_script']
     reply = b'ok\nrefused C1: unreadable line\nrefused C2: unknown name\n'
-    told = f'run: {script}:3: mod b int: refused C1: unreadable line\n'
+    told = f'run: {script}:3: mod b int: refused C1: unreadable line\nrun:   the form is mod NAME int VALUE, or mod NAME STRUCT VALUE\n'
     call('--strict of two files', ['--strict', source, script], 67, reply, told)
     call('--strict after two files', [source, script, '--strict'], 67, reply, f'run: {script}:4: run inc a b: refused C2: unknown name\n')
     shown = call('--beside of two files', [source, '--beside', script], 0).decode()
@@ -227,12 +202,12 @@ def strict(made, folder):
 def options(made):
     refused = made['refused.ceal']
     reply = b'ok\nrefused C7: no finished run\nok\nrefused C1: unreadable line\n1\n'
-    told = f'run: {refused}:5: get m: refused C7: no finished run\nrun: {refused}:7: frob: refused C1: unreadable line\n'
+    told = f'run: {refused}:5: get m: refused C7: no finished run\nrun:   nothing ran yet\nrun: {refused}:7: frob: refused C1: unreadable line\n'
     call('--strict, with refused lines', ['--strict', refused], 67, reply, told)
     call('--strict, with none', ['--strict', 'examples/inc.ceal'], 0, (TOP / 'examples/inc.expected').read_bytes(), '')
     gap = ' ' * 12
-    shown = f'3  // a comment\n4  mod m int 1{gap}ok\n5  get m{gap}      refused C7: no finished run\n6  run f m{gap}    ok\n'
-    shown += f'7  frob{gap}       refused C1: unreadable line\n8  get m{gap}      1\n'
+    shown = f'3  // a comment\n4  mod m int 1{gap}ok\n5  get m{gap}      refused C7: no finished run (nothing ran yet)\n6  run f m{gap}    ok\n'
+    shown += f'7  frob{gap}       refused C1: unreadable line (no line begins with frob)\n8  get m{gap}      1\n'
     call('--beside', ['--beside', refused], 0, shown.encode())
     call('--beside of a fault', ['--beside', made['place.ceal']], 1, b'fault S3 at 2:10: unexpected token\n', 'write(m')
     call('--dot without a graph', ['--dot', refused], 65, b'', 'needs a line show')
@@ -309,11 +284,15 @@ def streams():
         call('a full standard output, for --beside', ['--beside', 'examples/inc.ceal'], 71, stdout=full)
 
 
-def unchanged():
-    """Every byte that the program answers is handed on as it is: for examples, and for some rows of each mode."""
+def examples():
+    """Every byte that the program answers to an example is handed on as it is."""
     for example in EXAMPLES:
         words = re.match(rf'// \./run (.*) examples/{example.name}\n', example.read_text())
         call(example.name, [*(words[1].split() if words else []), f'examples/{example.name}'], 0, example.with_suffix('.expected').read_bytes())
+
+
+def some_rows():
+    """The same for some rows of each mode."""
     seen = {}
     with tempfile.NamedTemporaryFile(suffix='.ceal') as file:
         for row in rows.rows():
@@ -325,27 +304,32 @@ def unchanged():
                 call(f'row {row.name}', [*words, file.name], row.status, b''.join(row.output))
 
 
+def groups(made, folder, is_proved):
+    """The tests, in groups that run side by side."""
+    yield refused_at_once, folder
+    yield signals, is_proved
+    yield several, made
+    yield build_tests.all, folder
+    yield hint_tests.tables,
+    if not is_proved:
+        yield call, '--time without a program', ['--time', 'examples/inc.ceal'], 70, b'', 'tell something'
+        return
+    for group in (faults, two_files, options, hint_tests.hints_of_calls):
+        yield group, made
+    yield strict, made, folder
+    yield dumps, folder
+    yield saves, folder, made
+    for group in (pages, long_lists, streams, examples, some_rows):
+        yield group,
+
+
 def main(is_proved):
-    with tempfile.TemporaryDirectory(prefix='ceal-') as folder:
+    with tempfile.TemporaryDirectory(prefix='ceal-') as folder, ThreadPoolExecutor(len(os.sched_getaffinity(0))) as pool:
         made = files(folder)
-        refused_at_once(folder)
-        signals(is_proved)
-        several(made)
-        if is_proved:
-            faults(made)
-            two_files(made)
-            strict(made, folder)
-            options(made)
-            dumps(folder)
-            saves(folder, made)
-            pages()
-            long_lists()
-            streams()
-            unchanged()
-        else:
-            call('--time without a program', ['--time', 'examples/inc.ceal'], 70, b'', 'tell something')
-    print(f'{passed} passed, {failed} failed')
-    return int(failed > 0)
+        for it in [pool.submit(*group) for group in groups(made, folder, is_proved)]:
+            it.result()
+    print(f'{calls.passed} passed, {calls.failed} failed')
+    return int(calls.failed > 0)
 
 
 if __name__ == '__main__':
