@@ -100,7 +100,8 @@ def of_character(text):
 
 def wanted(spot):
     """What could have come where a program ends early, or has another token."""
-    left, told = set(spot.wanted) - {'->'}, []
+    left, told = set(spot.wanted), []
+    left -= {'->'} if OPERATORS <= left else set()
     if ';' in left and spot.before.line < spot.token.line:
         return f'expected `;` at the end of line {spot.before.line}'
     for sort, words in SORTS:

@@ -173,6 +173,10 @@ def two_files(made):
     call('--strict after two files', [source, script, '--strict'], 67, reply, f'run: {script}:4: run inc a b: refused C2: unknown name\n')
     shown = call('--beside of two files', [source, '--beside', script], 0).decode()
     tell('the numbers of --beside', [] if re.match(r'1  // .*\n2  mod a int 1 +ok\n3  mod b int +refused C1', shown) else [f'wrote {shown!r}'])
+    timed = call('--time of two files', ['--time', source, made['script']], 0).decode()
+    tell('the numbers of --time', [] if re.match(r' +3  run inc a b', timed) else [f'wrote {timed!r}'])
+    drawn = call('--trace of two files', ['--trace', source, made['script']], 0).decode()
+    tell('the title of --trace', [] if f'{made["script"]}:3: a run of 2 steps' in drawn else ['another title'])
     call('a fault with a script in a file', [made['place_source'], script], 1, None, f'run: {made["place_source"]}:2:10: unexpected token\n')
     for words in (['--strict'], ['check'], ['resume']):
         call(f'swapped files, {words[0]}', [*words, script, source], 64, b'', 'begins as a script', seconds=SOON)
@@ -187,16 +191,21 @@ def strict(made, folder):
     call('--strict many', ['many', '--strict', '--fuel', '50', made['sessions']], 67, None, f'run: {made["sessions"]}:10: @b run f m: out of fuel\n')
     call('--strict save', ['--strict', 'save', made['source.ceal'], script], 0)
     unrun = made['unrun.ceal']
-    call('--strict save without a run', ['save', unrun, '--strict'], 67, b'no finished run\n', f'run: {unrun}: there is nothing to save: no finished run\n')
-    call('--strict dump without a run', ['dump', unrun, '--strict'], 67, b'no finished run\n', f'run: {unrun}: there is nothing to dump: no finished run\n')
+    for mode in ('save', 'dump'):
+        told = f'run: {unrun}: there is nothing to {mode}: no finished run\n'
+        call(f'--strict {mode} without a run', [mode, unrun, '--strict'], 67, b'no finished run\n', told)
     call('--strict dump with a refused line', ['dump', made['refused.ceal'], '--strict'], 67, None, 'frob: refused C1: unreadable line')
-    pathlib.Path(folder, 'good').write_bytes(call('dump', ['dump', 'examples/inc.ceal'], 0))
-    call('--strict verify', ['--strict', 'verify', 'examples/inc.ceal', f'{folder}/good'], 0, b'yes\n', '')
-    pathlib.Path(folder, 'bad').write_bytes(pathlib.Path(folder, 'good').read_bytes().replace(b'\nw ', b'\nw i0.0 ', 1))
-    call('--strict verify of a wrong dump', ['--strict', 'verify', 'examples/inc.ceal', f'{folder}/bad'], 67, b'no K1: unreadable dump\n', f'run: {folder}/bad: no K1: unreadable dump\n')
-    saved = pathlib.Path(folder, 'saved_once')
+    good, bad, saved, more = (pathlib.Path(folder, it) for it in ('good', 'bad', 'saved_once', 'resumed_script'))
+    good.write_bytes(call('dump', ['dump', 'examples/inc.ceal'], 0))
+    bad.write_bytes(good.read_bytes().replace(b'\nw ', b'\nw i0.0 ', 1))
+    verify = ['--strict', 'verify', 'examples/inc.ceal']
+    call('--strict verify', [*verify, str(good)], 0, b'yes\n', '')
+    call('--strict verify of a wrong dump', [*verify, str(bad)], 67, b'no K1: unreadable dump\n', f'run: {bad}: no K1: unreadable dump\n')
     saved.write_bytes(call('save', ['save', made['source.ceal'], script], 0))
-    call('--strict resume', ['resume', '--strict', str(saved), made['resumed_script']], 67, b'2\nrefused C1: unreadable line\n', f'run: {made["resumed_script"]}:2: frob')
+    told = f'run: {more}:2: frob: refused C1: unreadable line\n'
+    call('--strict resume', ['resume', '--strict', str(saved), str(more)], 67, b'2\nrefused C1: unreadable line\n', told)
+    shown = call('--beside resume', ['resume', '--beside', str(saved), str(more)], 0)
+    tell('the lines of --beside resume', [] if shown.startswith(b'1  get b ') and b'\n2  frob ' in shown else [f'wrote {shown!r}'])
 
 
 def options(made):
