@@ -99,7 +99,7 @@ class Kinds:
         if function and function.kind == 'init':
             self.arguments(self.parameters(maker), given, variables)
             if function.parameters[0][0] != f'struct {struct.text} *':
-                self.differ(struct, function.parameters[0][0].removesuffix(' *') + f', which {maker.text} makes', f'struct {struct.text}')
+                self.differ(struct, f'{struct_of(function.parameters[0][0])}, which {maker.text} makes', f'struct {struct.text}')
         return f'struct {struct.text} *'
 
     # -- expressions
@@ -155,11 +155,11 @@ class Kinds:
     def field(self, left, name, variables):
         """The field that follows a pointer."""
         kind = self.type_of(left, variables) or ''
-        fields = self.structs.get(kind.removeprefix('struct ').removesuffix(' *'), ())
+        fields = self.structs.get(struct_of(kind)[len('struct ') :], ()) if kind.startswith('struct ') else ()
         found = next((it for it in fields if it.name == name.text), None)
         if fields and found is None:
             names = [it.name for it in fields]
-            self.differ(name, f'{kind.removesuffix(" *")} has the fields {", ".join(names)}', names)
+            self.differ(name, f'{struct_of(kind)} has the fields {", ".join(names)}', names)
         return found
 
 
@@ -167,15 +167,20 @@ def fits(expected, found):
     return found == expected or found == 'null' and expected.endswith('*')
 
 
+def struct_of(kind):
+    """The struct that a pointer of some type points to; any other type as it is."""
+    return kind[: -len(' *')] if kind.startswith('struct ') else kind
+
+
 def held_by(kind):
     """What the modifiable holds that a pointer of some type points to."""
     if kind is None or not kind.startswith('mod '):
         return None
-    return 'int' if kind == 'mod int *' else kind.removeprefix('mod ')
+    return 'int' if kind == 'mod int *' else kind[len('mod ') :]
 
 
 def form_of(field):
-    kind = field.type.removesuffix(' *')
+    kind = struct_of(field.type)
     return f'the row of modifiables mod {kind} {field.name}[{field.length}]' if field.form == 'row' else f'the modifiable mod {kind} {field.name}'
 
 

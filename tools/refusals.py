@@ -164,7 +164,7 @@ def held(kind):
 
 
 def held_by(kind):
-    return 'int' if kind == 'mod int *' else kind.removeprefix('mod ')
+    return 'int' if kind == 'mod int *' else kind[len('mod ') :]
 
 
 def article(kind):
