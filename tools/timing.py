@@ -14,7 +14,7 @@ from tools.telling import hand_on
 
 TRIES, WHOLE = 7, 60  # (tries of one input; seconds for a whole script)
 LEAST, CLEAR = 0.0001, 5  # (seconds that can't be told from noise at all; how many times the noise a difference has to be)
-MORE, MOST_SESSIONS = 8, 64  # (how many times more is measured where a difference is not clear; the sessions of one process)
+MORE, MOST_SESSIONS = 64, 64  # (how many times more at most is measured next where a difference is not clear; the sessions of one process)
 
 
 class Took:
@@ -32,7 +32,7 @@ class Took:
             return f'{rounded(self.seconds / other.seconds)} times as long'
         if self.is_clear and self.seconds > other.seconds:
             return f'over {rounded(self.seconds / other.seconds)} times as long'
-        return 'too short to compare'
+        return 'not clear enough to compare'
 
 
 def rounded(number):
@@ -58,41 +58,41 @@ def spent(words, given):
     return used.ru_utime + used.ru_stime
 
 
-def difference(words, before, after, count, until):
-    """By how much one input takes longer than another, and by how much tries of one input differ, the third part that took least."""
-    tries = [], []
-    for at in range(count):
-        for taken, given in zip(tries, (before, after)):
-            taken.append(spent(words, given))
-        is_far = min(tries[1]) - min(tries[0]) > 2 * LEAST or count > TRIES
-        if at >= 2 and (not is_far or time.monotonic() > until):
-            break
-    low, high = (sorted(it) for it in tries)
-    noise = max(it[len(it) // 3] - it[0] for it in (low, high))
-    return high[0] - low[0], max(noise, LEAST)
+class Tries:
+    """The times that calls of the program have taken, by their words and inputs; an input that comes again is not tried as often again."""
 
+    def __init__(self):
+        self.taken = {}
 
-def sizes(texts):
-    """How many times something is done in one process, ever more, and with how many tries; the last time with most."""
-    times = 1
-    while texts(times):
-        yield times, TRIES
-        times *= MORE
-    yield next(it for it in (times // 2, times // 4, times // MORE) if texts(it)), 3 * TRIES
+    def difference(self, words, texts, count, until):
+        """By how much one input takes longer than another, and by how much tries of one input differ, the third part that took least."""
+        low, high = (self.taken.setdefault((tuple(words), it), []) for it in texts)
+        for at in range(count):
+            for taken, text in zip((low, high), texts):
+                if at >= len(taken):
+                    taken.append(spent(words, Input('', text)))
+            is_far = min(high) - min(low) > 2 * LEAST or count > TRIES
+            if at >= 2 and (not is_far or time.monotonic() > until):
+                break
+        noise = max(sorted(it)[len(it) // 3] - min(it) for it in (low, high))
+        return min(high) - min(low), max(noise, LEAST)
 
-
-def took(words, texts, until):
-    """How long something takes: `texts` gives two inputs by how many times it is done in the second one, or None where that is too many."""
-    least = None
-    for times, tries in sizes(texts):
-        if least is not None and time.monotonic() > until:
-            break
-        more, noise = difference(words(times), *(Input('', it) for it in texts(times)), tries, until)
-        if more >= CLEAR * noise:
-            return Took(more / times, True)
-        at_most = (max(more, 0) + CLEAR * noise) / times
-        least = at_most if least is None else min(least, at_most)
-    return Took(least, False)
+    def took(self, words, texts, until):
+        """How long something takes: `texts` gives two inputs by how many times it is done in the second one, or None where that is too many."""
+        times, least, tries = 1, None, TRIES
+        while least is None or time.monotonic() < until:
+            more, noise = self.difference(words(times), texts(times), tries, until)
+            if more >= CLEAR * noise:
+                return Took(more / times, True)
+            at_most = (max(more, 0) + CLEAR * noise) / times
+            least = at_most if least is None else min(least, at_most)
+            if tries > TRIES:
+                break
+            wanted = times * (MORE if more < noise else min(MORE, 1 + int(2 * CLEAR * noise / more)))
+            while wanted > times and not texts(wanted):
+                wanted = max(times, wanted // 2)
+            tries, times = (3 * TRIES if wanted == times else TRIES), wanted
+        return Took(least, False)
 
 
 class Session:
@@ -160,7 +160,7 @@ class Measured:
     """Measures the runs and updates of one script."""
 
     def __init__(self, words, head, lines, share):
-        self.words, self.head, self.lines, self.share = words, head, lines, share
+        self.words, self.head, self.lines, self.share, self.tries = words, head, lines, share, Tries()
 
     def until(self):
         return time.monotonic() + self.share
@@ -168,7 +168,7 @@ class Measured:
     def line(self, at):
         """What one line of the script adds, once."""
         texts = [text_of(self.head, self.lines[:end]) for end in (at, at + 1)]
-        return took(lambda _: self.words, lambda times: texts if times == 1 else None, self.until())
+        return self.tries.took(lambda _: self.words, lambda times: texts if times == 1 else None, self.until())
 
     def run(self, inputs, run):
         """A run over inputs, in as many sessions as it takes to tell."""
@@ -180,13 +180,13 @@ class Measured:
             made = [name + it for name in named for it in inputs]
             return both(text_of(self.head, made), text_of(self.head, made, [name + run for name in named]))
 
-        return took(lambda times: ['run' if times == 1 else 'many', *self.words[1:]], texts, self.until())
+        return self.tries.took(lambda times: ['run' if times == 1 else 'many', *self.words[1:]], texts, self.until())
 
     def update(self, at, session):
         """An update, made and undone; of the two the mean."""
         done, pair = self.lines[: at + 1], session.undo_and_make()
         texts = lambda times: both(text_of(self.head, done), text_of(self.head, done, pair * times))
-        found = took(lambda _: self.words, texts, self.until())
+        found = self.tries.took(lambda _: self.words, texts, self.until())
         return Took(found.seconds / 2, found.is_clear)
 
 
