@@ -1,11 +1,11 @@
 """Tells how long each run and each update of a script takes, measured from outside by the processor time of whole processes.
 
-A run is measured in one session, or in several of one process where one is too short. An update is made and undone, up to some thousand times
-in one process, and so is told with the time of its lines. The run from scratch on the inputs after the update is measured beside it. Each is
+A run is measured in one session, or in several of one process where one is too short. An update is made and undone in one process, as often as
+it takes to tell, and so is told with the time of its lines. The run from scratch on the inputs after the update is measured beside it. Each is
 the difference between two inputs, tried in turn; it is told if it is well above what tries of one input differ by, and else how long it
 takes at most.
 """
-import os, subprocess, time
+import os, subprocess, sys, time
 
 from tools import answers, grammar, scripts
 from tools.answers import Fault
@@ -225,6 +225,7 @@ def main(words, given):
     why = answers.why_unproved()
     if why:
         raise Fault(70, f'{why}, and only its times tell something: ./run --build proves and builds it')
+    sys.stdout.reconfigure(errors='replace')  # (not every terminal has a µ)
     source, mark, script = scripts.parts(given.text())
     lines, head = scripts.lines_of(script), source + mark
     timed = [at for at, it in enumerate(lines) if it.split()[:1] in ([b'run'], [b'propagate'])]
