@@ -1,7 +1,8 @@
 """Builds the proved program, and puts it where it will be used.
 
-A build leaves a record: the toolchain, the date, a sum over the sums of the sources and the program, and the line that `rt` ended the proof of
-each crate with. A record is no proof, and nobody signs it: it says what was seen here. Who did not see it builds the program again.
+A build leaves a record: the toolchain, the date, a sum over the sums of the sources and the program, and for each crate the line that `rt`
+ended its proof with, or that `rt` kept its proof from before. A record is no proof, and nobody signs it: it says what was seen here. Who did
+not see it builds the program again.
 """
 import datetime, hashlib, os, pathlib, re, shutil, subprocess, sys, time
 
@@ -10,7 +11,9 @@ from tools.answers import BUILT, CRATE, PROGRAM, TOP, Fault
 
 STARTED, LOG, RECORD = CRATE / 'out/ceal.started', CRATE / 'out/build.log', CRATE / 'out/ceal.record'
 BY_BUILD, BY_GATE = './run --build', '.ci/run'
-VERDICT = re.compile(r'^== (\w+)$|^(logic=.*)$', re.M)
+# What `rt all check` says of a crate: its head and the last line of its proof, which is not there where the proof was kept; at the end, that all is well.
+VERDICT, GOOD = re.compile(r'^== (\w+)$|^(logic=.*)$', re.M), re.compile(r'^(\w+): ok$', re.M)
+PROVED, KEPT = 'logic=proved ', 'ok, by the proof that rt kept'
 # No process of a proof was seen to take more gigabytes (docs/GATE.md).
 MEMORY = 4
 
@@ -40,7 +43,7 @@ def kit():
 
 def done_so_far():
     """The crates that the log says are done, in their order."""
-    return re.findall(r'^== (\w+)$', LOG.read_text(errors='replace'), re.M)
+    return re.findall(r'^== (?!summary$)(\w+)$', LOG.read_text(errors='replace'), re.M)
 
 
 def watch(process, all_crates, begun):
@@ -106,8 +109,8 @@ def build():
 
 
 def verdicts_of(log):
-    """The last line of each crate in what `rt` printed of their proofs."""
-    found, crate = {}, None
+    """What `rt` said of each crate: the last line of its proof, or that it is well by an earlier one."""
+    found, crate = dict.fromkeys(GOOD.findall(log), KEPT), None
     for name, line in VERDICT.findall(log):
         crate = name or crate
         if line:
@@ -136,7 +139,7 @@ def record():
     if f'sums {sum_of_text(BUILT.read_text())}' not in lines:
         raise Fault(70, f'the record of a proof is that of another program: {BY_BUILD} proves and builds this one')
     is_by_gate = any(it.startswith(f'proved by {BY_GATE} ') for it in lines)
-    unproved = [it for it in answers.crates() if not any(line.startswith(f'{it}: logic=proved') for line in lines)]
+    unproved = [it for it in answers.crates() if not any(line.startswith((f'{it}: {PROVED}', f'{it}: {KEPT}')) for line in lines)]
     if not is_by_gate and unproved:
         raise Fault(70, f'the record has no proof of {", ".join(unproved)}: {BY_BUILD} proves and builds the program')
     return text
