@@ -58,41 +58,35 @@ def spent(words, given):
     return used.ru_utime + used.ru_stime
 
 
-class Tries:
-    """The times that calls of the program have taken, by their words and inputs; an input that comes again is not tried as often again."""
+def difference(words, texts, count, until):
+    """By how much one input takes longer than another, tried in turn, and by how much tries of one differ, of the fourth part that took least."""
+    tries, inputs = ([], []), [Input('', it) for it in texts]
+    for at in range(count):
+        for taken, given in zip(tries, inputs):
+            taken.append(spent(words, given))
+        is_far = min(tries[1]) - min(tries[0]) > 2 * LEAST or count > TRIES
+        if at >= 2 and (not is_far or time.monotonic() > until):
+            break
+    noise = max(sorted(it)[max(1, len(it) // 4)] - min(it) for it in tries)
+    return min(tries[1]) - min(tries[0]), max(noise, LEAST)
 
-    def __init__(self):
-        self.taken = {}
 
-    def difference(self, words, texts, count, until):
-        """By how much one input takes longer than another, and by how much tries of one input differ, the third part that took least."""
-        low, high = (self.taken.setdefault((tuple(words), it), []) for it in texts)
-        for at in range(count):
-            for taken, text in zip((low, high), texts):
-                if at >= len(taken):
-                    taken.append(spent(words, Input('', text)))
-            is_far = min(high) - min(low) > 2 * LEAST or count > TRIES
-            if at >= 2 and (not is_far or time.monotonic() > until):
-                break
-        noise = max(sorted(it)[len(it) // 3] - min(it) for it in (low, high))
-        return min(high) - min(low), max(noise, LEAST)
-
-    def took(self, words, texts, until):
-        """How long something takes: `texts` gives two inputs by how many times it is done in the second one, or None where that is too many."""
-        times, least, tries = 1, None, TRIES
-        while least is None or time.monotonic() < until:
-            more, noise = self.difference(words(times), texts(times), tries, until)
-            if more >= CLEAR * noise:
-                return Took(more / times, True)
-            at_most = (max(more, 0) + CLEAR * noise) / times
-            least = at_most if least is None else min(least, at_most)
-            if tries > TRIES:
-                break
-            wanted = times * (MORE if more < noise else min(MORE, 1 + int(2 * CLEAR * noise / more)))
-            while wanted > times and not texts(wanted):
-                wanted = max(times, wanted // 2)
-            tries, times = (3 * TRIES if wanted == times else TRIES), wanted
-        return Took(least, False)
+def took(words, texts, until):
+    """How long something takes: `texts` gives two inputs by how many times it is done in the second one, or None where that is too many."""
+    times, least, count = 1, None, TRIES
+    while least is None or time.monotonic() < until:
+        more, noise = difference(words(times), texts(times), count, until)
+        if more >= CLEAR * noise:
+            return Took(more / times, True)
+        at_most = (max(more, 0) + CLEAR * noise) / times
+        least = at_most if least is None else min(least, at_most)
+        if count > TRIES:
+            break
+        wanted = times * (MORE if more < noise else min(MORE, 1 + int(2 * CLEAR * noise / more)))
+        while wanted > times and not texts(wanted):
+            wanted = max(times, wanted // 2)
+        count, times = (3 * TRIES if wanted == times else TRIES), wanted
+    return Took(least, False)
 
 
 class Session:
@@ -160,7 +154,7 @@ class Measured:
     """Measures the runs and updates of one script."""
 
     def __init__(self, words, head, lines, share):
-        self.words, self.head, self.lines, self.share, self.tries = words, head, lines, share, Tries()
+        self.words, self.head, self.lines, self.share = words, head, lines, share
 
     def until(self):
         return time.monotonic() + self.share
@@ -168,7 +162,7 @@ class Measured:
     def line(self, at):
         """What one line of the script adds, once."""
         texts = [text_of(self.head, self.lines[:end]) for end in (at, at + 1)]
-        return self.tries.took(lambda _: self.words, lambda times: texts if times == 1 else None, self.until())
+        return took(lambda _: self.words, lambda times: texts if times == 1 else None, self.until())
 
     def run(self, inputs, run):
         """A run over inputs, in as many sessions as it takes to tell."""
@@ -180,13 +174,13 @@ class Measured:
             made = [name + it for name in named for it in inputs]
             return both(text_of(self.head, made), text_of(self.head, made, [name + run for name in named]))
 
-        return self.tries.took(lambda times: ['run' if times == 1 else 'many', *self.words[1:]], texts, self.until())
+        return took(lambda times: ['run' if times == 1 else 'many', *self.words[1:]], texts, self.until())
 
     def update(self, at, session):
         """An update, made and undone; of the two the mean."""
         done, pair = self.lines[: at + 1], session.undo_and_make()
         texts = lambda times: both(text_of(self.head, done), text_of(self.head, done, pair * times))
-        found = self.tries.took(lambda _: self.words, texts, self.until())
+        found = took(lambda _: self.words, texts, self.until())
         return Took(found.seconds / 2, found.is_clear)
 
 
