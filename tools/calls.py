@@ -1,9 +1,10 @@
 """Calls of `./run` and what they have to end with, for the tests of `./run` itself."""
-import subprocess, threading
+import subprocess, sys, threading
 
 from tools.answers import TOP
 
 RUN = str(TOP / 'run')
+PYTHON = (sys.executable, '-S', '-B')  # (which starts sooner than by the first line of ./run; a link and signals are tried by that)
 SOON = 60  # (seconds in which is refused what is refused at once)
 passed, failed, counting = 0, 0, threading.Lock()
 
@@ -23,7 +24,7 @@ def call(name, words, status, output=None, told=None, given=subprocess.DEVNULL, 
     how = {'stdout': subprocess.PIPE, 'stderr': subprocess.PIPE, 'timeout': seconds, 'cwd': TOP, **how}
     how.update({'input': given} if isinstance(given, bytes) else {'stdin': given})
     try:
-        ended = subprocess.run([run, *words], **how)
+        ended = subprocess.run([*PYTHON, run, *words], **how)
     except subprocess.TimeoutExpired:
         tell(name, [f'not ended after {seconds} seconds'])
         return b''

@@ -42,6 +42,8 @@ MISTAKES = (
     (STRUCT + 'ceal f(struct s *pointer) { poiter = null; }', 'did you mean pointer?'),
     ('ceal f(int x) { } ceal g() { f(); }', 'f(int x) takes 1 argument'),
     ('ceal f(int x) { }\nceal g() { ff(1); }', 'did you mean f?'),
+    (STRUCT + 'ceal f(struct s *p) { int x = p.a; }', 'a field is `p->f`'),
+    ('ceal f() { int x = 1.5; }', 'no characters, strings or fractions'),
     ('ceal f(int x) {', 'a `}` is missing'),
     ('ceal f(int x) { } /* the end', 'this comment is not closed'),
     ('mod a int 4', 'this begins as a script'),

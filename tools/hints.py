@@ -62,7 +62,8 @@ Spot = namedtuple('Spot', 'code token before after first value wanted level toke
 def hints(code, line, column, source):
     """The hints beside a fault of a source text: what was expected, and how to say it."""
     if code == 'S1':
-        return of_character(source.split(b'\n')[line - 1][column - 1 :].decode('latin-1'))
+        text = source.split(b'\n')[line - 1].decode('latin-1')
+        return of_character(text[: column - 1], text[column - 1 :])
     reading = grammar.read(source)
     if reading is None:
         return []
@@ -86,8 +87,10 @@ def spot_of(code, at, reading, is_early):
     return Spot(code, tokens[at], before, after, tokens[reading.first], value, reading.wanted if is_early else [], reading.level, tokens, at)
 
 
-def of_character(text):
+def of_character(before, text):
     """The hints for a byte that begins no token."""
+    if text.startswith('.') and not before[-1:].isdigit():
+        return ['a field is `p->f`: a program has pointers to blocks, and no blocks']
     if text.startswith('/*'):
         return ['this comment is not closed: comments do not nest, and end at the next `*/`']
     if text[:1] in SIGNS:
