@@ -46,16 +46,34 @@ def start(words, **how):
 
 
 def end_all():
-    """Ends what was started and still runs: first politely, since `rt` then ends what it started, and then in any case."""
-    for sign, patience in ((signal.SIGTERM, 5), (signal.SIGKILL, 1)):
-        for process in [it for it in running if it.poll() is None]:
-            try:
-                os.killpg(process.pid, sign)
-            except ProcessLookupError:
-                pass
-        until = time.monotonic() + patience
-        while any(it.poll() is None for it in running) and time.monotonic() < until:
-            time.sleep(0.02)
+    """Ends what was started and still runs: first politely, since `rt` then ends what it started, and then in any case, with all below it."""
+    if all(it.poll() is not None for it in running):
+        return
+    from tools import processes
+
+    started = processes.below(os.getpid())
+    send(signal.SIGTERM, 5)
+    send(signal.SIGKILL, 1)
+    for number in processes.still(started):
+        try:
+            os.kill(number, signal.SIGKILL)
+        except ProcessLookupError:
+            pass
+    until = time.monotonic() + 1
+    while processes.still(started) and time.monotonic() < until:
+        time.sleep(0.02)
+
+
+def send(sign, patience):
+    """Sends a signal to what still runs, and waits some seconds for its end."""
+    for process in [it for it in running if it.poll() is None]:
+        try:
+            os.killpg(process.pid, sign)
+        except ProcessLookupError:
+            pass
+    until = time.monotonic() + patience
+    while any(it.poll() is None for it in running) and time.monotonic() < until:
+        time.sleep(0.02)
 
 
 def shown_time(seconds):

@@ -2,7 +2,7 @@
 import os, pathlib, re, signal, subprocess, sys, tempfile, time
 from concurrent.futures import ThreadPoolExecutor
 
-from tools import build_tests, calls, hint_tests, rows, scripts
+from tools import build_tests, calls, hint_tests, processes, rows, scripts
 from tools.answers import TOP
 from tools.calls import RUN, SOON, call, tell
 
@@ -54,32 +54,6 @@ def refused_at_once(folder):
     tell('a link to ./run', [] if ended.stdout.startswith(b'usage: ./run') else ['it does not run'])
 
 
-def below(number):
-    """The processes that one has started, and those that they have."""
-    parents = {}
-    for it in filter(str.isdigit, os.listdir('/proc')):
-        try:
-            with open(f'/proc/{it}/stat') as file:
-                fields = file.read().rsplit(')', 1)[1].split()
-            parents[int(it)] = int(fields[1]), fields[0]
-        except OSError:
-            continue
-    found = {number}
-    while True:
-        more = {it for it, (parent, state) in parents.items() if parent in found and state != 'Z'} - found
-        if not more:
-            return found - {number}
-        found |= more
-
-
-def alive(number):
-    try:
-        with open(f'/proc/{number}/stat') as file:
-            return file.read().rsplit(')', 1)[1].split()[0] != 'Z'
-    except OSError:
-        return False
-
-
 def catches(number, sign):
     """Whether a process has set what it does at a signal."""
     with open(f'/proc/{number}/status') as file:
@@ -87,14 +61,15 @@ def catches(number, sign):
     return bool(caught >> (sign - 1) & 1)
 
 
-def interrupted(sign, words, given, wanted):
+def interrupted(sign, words, given, wanted, run=RUN, **how):
     """Ends ./run by a signal while it waits, and looks for what it started."""
-    process = subprocess.Popen([RUN, *words], cwd=TOP, stdin=given, stdout=subprocess.PIPE, stderr=subprocess.PIPE)
+    how = {'cwd': TOP, 'stdin': given, 'stdout': subprocess.PIPE, 'stderr': subprocess.PIPE, **how}
+    process = subprocess.Popen([run, *words], **how)
     until = time.monotonic() + 60
-    started = set()
+    started = {}
     while time.monotonic() < until and not wanted(started, process):
         time.sleep(0.1)
-        started = below(process.pid)
+        started = processes.below(process.pid)
     begun = time.monotonic()
     process.send_signal(sign)
     try:
@@ -104,7 +79,7 @@ def interrupted(sign, words, given, wanted):
         process.kill()
     process.stdout.close()
     process.stderr.close()
-    left = [it for it in started if alive(it)]
+    left = processes.still(started)
     faults = [] if status == 130 else [f'status {status} in place of 130']
     faults += [f'{len(left)} processes go on'] if left else []
     faults += ['not within 20 seconds'] if time.monotonic() - begun > 20 else []
@@ -121,6 +96,14 @@ def signals(is_proved):
     else:
         for sign in (signal.SIGINT, signal.SIGTERM):
             interrupted(sign, ['examples/inc.ceal'], subprocess.DEVNULL, lambda started, _: len(started) > 2)
+
+
+def stubborn(folder):
+    """What does not end politely, and what it has started in a session of its own, is ended too."""
+    tree = build_tests.tree(f'{folder}/stubborn')
+    (tree / 'bin/rt').write_text("#!/bin/sh\ntrap '' TERM\nsetsid sleep 300 &\nsleep 300\n")
+    how = {'run': str(tree / 'run'), 'cwd': tree, 'env': build_tests.with_tools_of(tree)}
+    interrupted(signal.SIGTERM, ['file.ceal'], subprocess.DEVNULL, lambda started, _: len(started) > 2, **how)
 
 
 def files(folder):
@@ -318,6 +301,7 @@ def groups(made, folder, is_proved):
     yield refused_at_once, folder
     yield signals, is_proved
     yield several, made
+    yield stubborn, folder
     yield build_tests.all, folder
     yield hint_tests.tables,
     if not is_proved:
