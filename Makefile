@@ -3,6 +3,7 @@
 
 CRATE ?= ceal_base
 FILE ?= examples/inc.ceal
+FOLDER ?= $(HOME)/.local/bin
 BINARY = crates/ceal/out/ceal
 
 help: ## this list
@@ -17,8 +18,8 @@ test: ## runs every test that needs no proof
 build: ## proves and builds the program (some 90 minutes of processor time)
 	./run --build
 
-install: ## copies the built program to ~/.local/bin, as ./run --help says
-	./run --install
+install: ## copies the proved program to FOLDER=~/.local/bin, with the record of its proof
+	./run --install $(FOLDER)
 
 lint: ## the lint, and whether pages, examples and rows agree (seconds)
 	.ci/house

@@ -1,13 +1,14 @@
 """How the answers of the program are got: from the proved program where it is there, else from the same sources by `rt try`."""
-import hashlib, os, pathlib, re, secrets, shutil, signal, subprocess, sys, tempfile, time
+import os, pathlib, re, signal, subprocess, sys, time
 
 TOP = pathlib.Path(__file__).resolve().parent.parent
 CRATE = TOP / 'crates/ceal'
-PROGRAM, BUILT = CRATE / 'out/ceal', CRATE / 'out/ceal.built'
+PROGRAM, BUILT, SEEN, TRIED = (CRATE / 'out' / it for it in ('ceal', 'ceal.built', 'ceal.seen', 'ceal.tried'))
 # What the build takes: the sum of the first proofs of its crates, which were measured one by one (docs/GATE.md).
 BUILD_COST = 'some 90 minutes of processor time, and up to 4 GB of memory'
-# An input has at most this many bytes; one byte more is enough to be refused (docs/SCRIPT.md).
-LONGEST_INPUT = 4_194_304
+TRY_COST = 'one to three minutes'
+# A file that was changed less than this many seconds ago may be changed once more at what seems to be the same time.
+TICK = 2
 LINE = re.compile(rb'^run=ended status=(\d+) ', re.M)
 CASE = re.compile(rb'^case=(\S+) run=ended status=(\d+) ', re.M)
 running = []
@@ -45,16 +46,34 @@ def start(words, **how):
 
 
 def end_all():
-    """Ends what was started and still runs: first politely, since `rt` then ends what it started, and then in any case."""
-    for sign, patience in ((signal.SIGTERM, 5), (signal.SIGKILL, 1)):
-        for process in [it for it in running if it.poll() is None]:
-            try:
-                os.killpg(process.pid, sign)
-            except ProcessLookupError:
-                pass
-        until = time.monotonic() + patience
-        while any(it.poll() is None for it in running) and time.monotonic() < until:
-            time.sleep(0.02)
+    """Ends what was started and still runs: first politely, since `rt` then ends what it started, and then in any case, with all below it."""
+    if all(it.poll() is not None for it in running):
+        return
+    from tools import processes
+
+    started = processes.below(os.getpid())
+    send(signal.SIGTERM, 5)
+    send(signal.SIGKILL, 1)
+    for number in processes.still(started):
+        try:
+            os.kill(number, signal.SIGKILL)
+        except ProcessLookupError:
+            pass
+    until = time.monotonic() + 1
+    while processes.still(started) and time.monotonic() < until:
+        time.sleep(0.02)
+
+
+def send(sign, patience):
+    """Sends a signal to what still runs, and waits some seconds for its end."""
+    for process in [it for it in running if it.poll() is None]:
+        try:
+            os.killpg(process.pid, sign)
+        except ProcessLookupError:
+            pass
+    until = time.monotonic() + patience
+    while any(it.poll() is None for it in running) and time.monotonic() < until:
+        time.sleep(0.02)
 
 
 def shown_time(seconds):
@@ -113,6 +132,8 @@ def sources():
 
 
 def sum_of(path):
+    import hashlib  # (imported where it is needed, as what few calls need, so that a call of ./run begins soon)
+
     with open(path, 'rb') as file:
         return hashlib.sha256(file.read()).hexdigest()
 
@@ -127,83 +148,72 @@ def sums_with_program():
     return sums() + f'{sum_of(PROGRAM)} program\n'
 
 
+def stats():
+    """A line for each source, the program and its sums: the size, the times and the number of the file. While none of these is another, as
+    `git` and `make` take it too, neither is what is in the files."""
+
+    def line(path, it):
+        return f'{path} {it.st_size} {it.st_mtime_ns} {it.st_ctime_ns} {it.st_ino}'
+
+    def below(folder):
+        with os.scandir(folder) as entries:
+            for it in sorted(entries, key=lambda it: it.name):
+                if it.is_dir(follow_symlinks=False):
+                    yield from below(it.path)
+                elif it.name.endswith(('.rt', '.antt')):
+                    yield line(it.path, it.stat())
+
+    lines = [line(it, os.stat(it)) for it in (TOP / 'crates.txt', PROGRAM, BUILT)]
+    for crate in crates():
+        for folder in (f'{TOP}/crates/{crate}/{part}' for part in ('src', 'specs', 'proofs')):
+            lines += below(folder) if os.path.isdir(folder) else ()
+    return '\n'.join(lines)
+
+
+def is_current():
+    """Whether the program was built from just these sources: by their sums, or where those have been looked at, by the stats of the files."""
+    seen, now = stats(), time.time()
+    try:
+        if SEEN.read_text() == seen:
+            return True
+    except OSError:
+        pass
+    if sums_with_program() != BUILT.read_text():
+        return False
+    newest = max(int(it.split(' ')[-2]) for it in seen.splitlines())
+    if now - newest / 1e9 > TICK:
+        remember(SEEN, seen)
+    return True
+
+
+def put(path, text):
+    """Writes a file as a whole."""
+    made = path.with_name(f'{path.name}.{os.getpid()}')
+    made.write_text(text)
+    os.replace(made, path)
+
+
+def remember(path, text):
+    """Writes a file that only saves time, where that may be done at all."""
+    try:
+        path.parent.mkdir(exist_ok=True)
+        put(path, text)
+    except OSError:
+        pass
+
+
 def why_unproved():
     """Why the proved program can't answer; None where it can."""
     if not (os.access(PROGRAM, os.X_OK) and BUILT.is_file()):
         return 'the proved program is not built'
-    if sums_with_program() != BUILT.read_text():
-        return 'sources have changed since the proved program was built'
-    return None
+    return None if is_current() else 'sources have changed since the proved program was built'
 
 
 def need_toolchain():
-    if not shutil.which('rt'):
+    from shutil import which
+
+    if not which('rt'):
         raise Fault(69, 'the Rattle toolchain is missing: its command rt is not on the PATH')
-
-
-# -- inputs
-
-
-class Input:
-    """What the program is given: a name for people, and bytes, or a file that it reads itself."""
-
-    def __init__(self, name, text=None, path=None):
-        self.name, self.path, self.held = name, path, text
-
-    def text(self):
-        if self.held is None:
-            self.held = read_all(open(self.path, 'rb', 0)) if self.path else b''
-        return self.held
-
-    def stream(self):
-        """A stream of it from its first byte on."""
-        if self.path:
-            return os.fdopen(os.open(self.path, os.O_RDONLY), 'rb') if self.path != TOP else Folder()
-        stream = tempfile.TemporaryFile()
-        stream.write(self.text())
-        stream.seek(0)
-        return stream
-
-
-class Folder:
-    """A stream that can't be read."""
-
-    def __enter__(self):
-        self.number = os.open(TOP, os.O_RDONLY)
-        return self
-
-    def __exit__(self, *_):
-        os.close(self.number)
-
-    def fileno(self):
-        return self.number
-
-
-def read_all(stream):
-    """The bytes of a stream, as far as the program would look at them."""
-    with stream:
-        parts, left = [], LONGEST_INPUT + 1
-        while left:
-            part = stream.read(min(left, 1 << 20))
-            if not part:
-                break
-            parts.append(part)
-            left -= len(part)
-        return b''.join(parts)
-
-
-def opened(name):
-    """The input of this name; - is the standard input."""
-    if name == '-':
-        try:
-            return Input('standard input', read_all(open(0, 'rb', 0, closefd=False)))
-        except OSError:
-            return Input('standard input', path=TOP)  # (a folder can't be read either, so that the program says it)
-    if os.path.isdir(name) or not os.access(name, os.R_OK):
-        raise Fault(66, f'there is no readable file {name}')
-    if os.path.isfile(name):
-        return Input(name, path=os.path.abspath(name))
-    return Input(name, read_all(open(name, 'rb', 0)))
 
 
 # -- answers
@@ -232,8 +242,9 @@ def by_program(words, given, is_kept):
 def tried(words, folder, **how):
     """Runs `rt try` with the given words; returns what the program, and what `rt` wrote on standard error."""
     with open(f'{folder}/out', 'w+b') as out, open(f'{folder}/err', 'w+b') as err:
-        how = {'stdin': subprocess.DEVNULL, 'stdout': out, 'stderr': err, 'cwd': CRATE, **how}
+        how, begun = {'stdin': subprocess.DEVNULL, 'stdout': out, 'stderr': err, 'cwd': CRATE, **how}, time.monotonic()
         wait(start(['rt', 'try', '--steps', '1', '--seconds', '600', *words], **how), 'compiling, with no proof')
+        remember(TRIED, shown_time(time.monotonic() - begun))
         out.seek(0)
         err.seek(0)
         return out.read(), err.read()
@@ -241,6 +252,8 @@ def tried(words, folder, **how):
 
 def by_try(calls):
     """Answers each of some calls with no proof: the sources are compiled once."""
+    import tempfile
+
     with tempfile.TemporaryDirectory(prefix='ceal-') as folder:
         if len(calls) > 1:
             return by_cases(calls, folder)
@@ -257,6 +270,9 @@ def by_try(calls):
 
 
 def by_cases(calls, folder):
+    """Answers several calls, each by a case of one `rt try`."""
+    import secrets
+
     cases, token = pathlib.Path(folder, 'cases'), secrets.token_hex(8)
     cases.mkdir()
     names = [f'{at}-{token}' for at in range(len(calls))]
@@ -283,7 +299,9 @@ def answers(calls, is_kept=True):
     if why is None:
         return [by_program(words, given, is_kept) for words, given in calls]
     need_toolchain()
+    last = f', {TRIED.read_text()} the last time' if TRIED.is_file() else ''
     print(f'run: this run is not proved ({why}); ./run --build proves and builds the program in {BUILD_COST}', file=sys.stderr)
+    print(f'run: now all is compiled, as in each such call, in {TRY_COST}{last}; ./run FILE FILE .. compiles once for several', file=sys.stderr, flush=True)
     got = by_try(calls)
     if not is_kept:
         for it in got:

@@ -21,7 +21,7 @@ def join(tree):
     """Writes the crate that has the three as modules into a copy of the sources."""
     source = tree / 'crates' / JOINED / 'src'
     source.mkdir(parents=True)
-    names = {part.removeprefix('ceal_'): tree / 'crates' / part / 'src' for part in PARTS}
+    names = {part[len('ceal_') :]: tree / 'crates' / part / 'src' for part in PARTS}
     (source / 'lib.rt').write_text('#![tactic(auto)]\n\n' + ''.join(f'#[cfg(test)]\nmod {name};\n' for name in names))
     for name, folder in names.items():
         (source / f'{name}.rt').write_text(modules(folder / 'lib.rt'))

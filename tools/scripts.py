@@ -1,15 +1,53 @@
 """The parts of an input, the lines of a script beside their replies, and the place of a fault."""
 import re
 
+WIDEST = 100  # (columns of a line that is shown of a file)
 MARK = re.compile(rb'^%%\r?(?:\n|\Z)', re.M)
 FAULT = re.compile(rb'fault (\w+) at (\d+):(\d+): (.*)\n')
 REFUSED = re.compile(rb'(?:\w+: )?refused \w+: ')
+BLANK = re.compile(rb'[ \t\r\n]+|//[^\n]*|/\*.*?\*/', re.S)
+WORD = re.compile(rb'@|(?!mod\s+(?:int|struct)\b)[\w-]+')  # (a `mod int` begins no line of a script)
+# What the first word of a file says of it.
+OF_SOURCE = ('struct', 'ceal', 'init')
+FIRST_WORDS = {
+    'a script': ('@', 'mod', 'new', 'set', 'run', 'propagate', 'get', 'show', 'blocks', 'steps', 'work', 'bound'),
+    'a dump': ('ceal-trace',),
+    'a save': ('ceal-save',),
+}
 
 
 def parts(text):
     """The source text, the line %%, and what follows it; where there is no such line the last two are empty."""
     found = MARK.search(text)
     return (text[: found.start()], found[0], text[found.end() :]) if found else (text, b'', b'')
+
+
+def script_of(text, mode):
+    """The number of the first line of an input's script, and the script; with `resume` a save and a second line %% come before it."""
+    source, mark, script = parts(text)
+    first = source.count(b'\n') + 2
+    if mode == 'resume':
+        save, mark, script = parts(script)
+        first += save.count(b'\n') + 1
+    return first, script
+
+
+def first_word(text):
+    """The first word of a text, after blanks and comments."""
+    at = 0
+    while True:
+        found = BLANK.match(text, at)
+        if not found:
+            break
+        at = found.end()
+    found = WORD.match(text[at : at + 40])
+    return found[0].decode() if found else ''
+
+
+def no_source(text):
+    """What a text is that begins as no source text does; None where its first word does not tell."""
+    word = first_word(text)
+    return next((it for it, words in FIRST_WORDS.items() if word in words), None)
 
 
 def lines_of(text):
@@ -30,21 +68,25 @@ def is_blank_in_many(line):
     return is_blank(line[found.end() :]) if found and found[0] != b'@null' else is_blank(line)
 
 
-def replies(script, output, is_many=False):
+def session_and_words(line, mode):
+    """The session that a line names, where there are many, and its other words."""
+    words = line.split()
+    return (words[0], words[1:]) if mode == 'many' and line.startswith(b'@') else (b'', words)
+
+
+def replies(script, output, mode='run'):
     """Gives each line of a script with the lines that it is answered."""
     left, at = lines_of(output), 0
     for line in lines_of(script):
         first = at
-        if not (is_blank_in_many(line) if is_many else is_blank(line)):
-            at = reply_end(line, left, at, is_many)
+        if not (is_blank_in_many(line) if mode == 'many' else is_blank(line)):
+            at = reply_end(line, left, at, mode)
         yield line, left[first:at]
 
 
-def reply_end(line, left, at, is_many):
+def reply_end(line, left, at, mode):
     """Where the reply to a line ends that begins at a place of the lines that are left."""
-    words = line.split()
-    if is_many and words[0].startswith(b'@'):
-        words = words[1:]
+    words = session_and_words(line, mode)[1]
     if words[:1] != [b'show'] or at >= len(left) or REFUSED.match(left[at]):
         return at + 1
     while at < len(left) and left[at].split(b': ')[-1] != b'end':
@@ -52,49 +94,54 @@ def reply_end(line, left, at, is_many):
     return at + 1
 
 
-def beside(given, output, is_many):
-    """The script of an input, each line with its number in the file and its reply beside it."""
-    source, mark, script = parts(given.text())
-    first = source.count(b'\n') + 2
-    pairs = list(replies(script, output, is_many))
-    width = max([20, *(len(line.expandtabs(8).decode(errors='replace')) for line, taken in pairs if taken)]) + 3
-    digits = len(str(first + len(pairs)))
-    for number, (line, taken) in enumerate(pairs, first):
-        shown = line.expandtabs(8).decode(errors='replace')
-        told = [it.decode(errors='replace') for it in taken] or ['']
-        yield f'{number:{digits}}  {shown:{width if taken else 0}}{told[0]}'.rstrip()
-        yield from (' ' * (digits + 2 + width) + it for it in told[1:])
+def names_no_session(given):
+    """Whether a script for many sessions names none at all, as one that is for `run`."""
+    lines = [it for it in lines_of(parts(given.text())[2]) if not is_blank_in_many(it)]
+    return bool(lines) and not any(it.startswith(b'@') for it in lines)
 
 
-def refused(given, output, is_many):
-    """Each line of an input's script that was refused: its number in the file, the line and the reply."""
-    source, mark, script = parts(given.text())
-    for number, (line, taken) in enumerate(replies(script, output, is_many), source.count(b'\n') + 2):
-        if taken and REFUSED.match(taken[0]):
-            yield number, line.decode(errors='replace'), taken[0].decode(errors='replace')
+def printable(text):
+    """Bytes for people: what would move a terminal's cursor, or is no text, is one sign each."""
+    return ''.join(it if it.isprintable() or it == '\t' else '\ufffd' for it in text.decode(errors='replace').rstrip('\r\n'))
 
 
 def excerpt(given, output):
-    """The place of a fault for people: the file, the line with a caret under the column, and what may be missing."""
+    """The place of a fault for people: the file, the line with a caret under the column, and hints."""
     found = FAULT.fullmatch(output)
     if not found:
         return []
     number, column, text = int(found[2]), int(found[3]), given.text()
     lines = text.split(b'\n')
     line = lines[number - 1] if number <= len(lines) else b''
-    # a column counts bytes; what comes before it keeps its tabs, and each other character is one blank
-    before = re.sub(r'[^\t]', ' ', line[: column - 1].decode(errors='replace'))
-    shown = line.rstrip(b'\r').decode(errors='replace')
-    place = [f'{given.name}:{number}:{column}: {found[4].decode()}']
-    return place + ([f'  {shown}', f'  {before}^'] if line else []) + hint(found[1], line, text)
+    name, own = given.place(number)
+    place = [f'{name}:{own}:{column}: {found[4].decode()}']
+    return place + shown(line, column) + [f'  {it}' for it in hints(found[1].decode(), number, column, text)]
 
 
-def hint(code, line, text):
-    """What is told where the line %% may be missing."""
-    if MARK.search(text):
+def shown(line, column):
+    """A line with a caret under one of its bytes; of a long line the part round that byte."""
+    if not line:
         return []
-    if line.strip() == b'%%':
-        return ['the line that ends a source text is %% with no blanks around it']
-    if code != b'S5':
-        return []
-    return ['there is no line %% in it: one has to follow the source text, also where no script does']
+    text, at = printable(line), len(line[: column - 1].decode(errors='replace'))
+    first = max(0, at - WIDEST // 2) if len(text) > WIDEST else 0
+    last = first + WIDEST
+    head, tail = '.. ' if first else '', ' ..' if last < len(text) else ''
+    # what comes before the caret keeps its tabs, and each other character is one blank
+    before = re.sub(r'[^\t]', ' ', head + text[first:at])
+    return [f'  {head}{text[first:last]}{tail}', f'  {before}^']
+
+
+def hints(code, line, column, text):
+    """What is told of a fault besides: what may be missing, what was expected, and how to say what was probably meant."""
+    from tools import hints
+
+    source, mark, _ = parts(text)
+    told, before = [], text.split(b'\n')[line - 1 : line]
+    what = no_source(source)
+    if what:
+        told.append(f'this begins as {what}; a source text comes first, and then a line %%')
+    elif not mark and before and before[0].strip() == b'%%':
+        told.append('the line that ends a source text is %% with no blanks around it')
+    elif not mark and code == 'S5':
+        told.append('there is no line %% in it: one has to follow the source text, also where no script does')
+    return told or hints.hints(code, line, column, source)

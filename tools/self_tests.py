@@ -1,49 +1,31 @@
 """Tries what `./run` does: `python3 -m tools.self_tests proved|unproved`. Without the proved program only what needs few answers is tried."""
 import os, pathlib, re, signal, subprocess, sys, tempfile, time
+from concurrent.futures import ThreadPoolExecutor
 
-from tools import answers, rows, scripts
-from tools.answers import PROGRAM, TOP
+from tools import build_tests, calls, hint_tests, processes, rows, scripts
+from tools.answers import TOP
+from tools.calls import RUN, SOON, call, tell
 
-RUN = str(TOP / 'run')
 EXAMPLES = sorted((TOP / 'examples').glob('*.ceal'))
-SOON = 60  # (seconds in which is refused what is refused at once)
-passed = failed = 0
-
-
-def tell(name, faults):
-    global passed, failed
-    passed, failed = passed + (not faults), failed + bool(faults)
-    if faults:
-        print(f'./run: {name}:', '; '.join(faults))
-
-
-def call(name, words, status, output=None, told=None, given=subprocess.DEVNULL, seconds=600, **how):
-    """Calls ./run once, and says where it ends otherwise; `told` is looked for on standard error."""
-    how = {'stdout': subprocess.PIPE, 'stderr': subprocess.PIPE, 'timeout': seconds, **how}
-    how.update({'input': given} if isinstance(given, bytes) else {'stdin': given})
-    try:
-        ended = subprocess.run([RUN, *words], cwd=TOP, **how)
-    except subprocess.TimeoutExpired:
-        tell(name, [f'not ended after {seconds} seconds'])
-        return b''
-    faults = []
-    if ended.returncode != status:
-        faults.append(f'status {ended.returncode} in place of {status}')
-    if output is not None and ended.stdout != output:
-        faults.append(f'wrote {ended.stdout[:300]!r} in place of {output[:300]!r}')
-    if told is not None and told not in ended.stderr.decode(errors='replace'):
-        faults.append(f'told {ended.stderr[-300:]!r}, without {told!r}')
-    tell(name, faults)
-    return ended.stdout or b''
-
-
+# runs for ever if m is not 0
+ENDLESS = 'ceal f(mod int *m) {\n  int x = read(m);\n  while (x != 0) { x = 1; }\n}\n%%\n'
 def refused_at_once(folder):
     """Words and files that are refused before anything is compiled."""
     example = 'examples/inc.ceal'
     for name, words, status, told in (
         ('no words', [], 64, 'usage: ./run'),
         ('an unknown mode', ['chek', example], 64, 'there is no mode chek'),
-        ('an unknown option', ['--dto', example], 64, 'there is no option --dto'),
+        ('an unknown option', ['--dto', example], 64, 'there is no option --dto (did you mean --dot?)'),
+        ('an unknown option after the file', [example, '--fule', '5'], 64, 'there is no option --fule (did you mean --fuel?)'),
+        ('a mode without a file', ['check'], 64, 'a file is missing'),
+        ('a mode that is the name of a file', ['run'], 64, './run ./run runs the file run'),
+        ('a mode after its file', [example, 'check'], 64, f'./run check {example}'),
+        ('a fuel after the file', [example, '--fuel', '0'], 64, '--fuel goes with'),
+        ('a fuel that is there twice', ['--fuel', '5', example, '--fuel=6'], 64, '--fuel is there twice'),
+        ('two options that draw', ['--dot', '--trace', example], 64, '--dot and --trace do not go together'),
+        ('two options of which one measures', ['--time', example, '--strict'], 64, '--time and --strict do not go together'),
+        ('--strict with check', ['check', '--strict', example], 64, 'ends with 1 by itself'),
+        ('an option that is a file', ['--', '--strict'], 66, 'no readable file --strict'),
         ('an option without a file', ['--dot'], 64, 'a file is missing'),
         ('a fuel of none', ['--fuel', '0', example], 64, '--fuel goes with'),
         ('a fuel that is no number', ['run', '--fuel=much', example], 64, '--fuel goes with'),
@@ -55,42 +37,21 @@ def refused_at_once(folder):
         ('a graph of many', ['--dot', 'many', example], 64, '--dot does not go with many'),
         ('a trace of list', ['--trace', 'list', example], 64, '--trace does not go with list'),
         ('two programs beside their replies', ['--beside', example, 'examples/map.ceal'], 64, 'takes one program'),
-        ('a word after --build', ['--build', 'now'], 64, '--build takes 0 words'),
+        ('a word after --build', ['--build', 'now'], 64, '--build takes no other word'),
         ('a missing file', ['examples/none.ceal'], 66, 'no readable file examples/none.ceal'),
         ('a missing file among others', [example, 'examples/none.ceal'], 66, 'no readable file examples/none.ceal'),
         ('a folder', ['examples'], 66, 'no readable file examples'),
     ):
         call(name, words, status, b'', told, seconds=SOON)
-    call('--help', ['--help'], 0, seconds=SOON)
+    for words in (['--help'], ['-h'], ['help'], [example, '--help']):
+        tell(' '.join(words), [] if call(' '.join(words), words, 0, seconds=SOON).startswith(b'usage: ./run') else ['no usage'])
+    version = re.search(r'^## (\d+\.\d+\.\d+)', (TOP / 'CHANGELOG.md').read_text(), re.M)[1]
+    for words in (['--version'], ['-V'], ['version']):
+        said = call(words[0], words, 0, seconds=SOON).decode()
+        tell(f'{words[0]} and CHANGELOG.md', [] if re.fullmatch(rf'ceal {version}(, with later changes)?\n', said) else [f'wrote {said!r}'])
     os.symlink(RUN, f'{folder}/link')
     ended = subprocess.run([f'{folder}/link', '--help'], stdout=subprocess.PIPE, cwd='/')
     tell('a link to ./run', [] if ended.stdout.startswith(b'usage: ./run') else ['it does not run'])
-
-
-def below(number):
-    """The processes that one has started, and those that they have."""
-    parents = {}
-    for it in filter(str.isdigit, os.listdir('/proc')):
-        try:
-            with open(f'/proc/{it}/stat') as file:
-                fields = file.read().rsplit(')', 1)[1].split()
-            parents[int(it)] = int(fields[1]), fields[0]
-        except OSError:
-            continue
-    found = {number}
-    while True:
-        more = {it for it, (parent, state) in parents.items() if parent in found and state != 'Z'} - found
-        if not more:
-            return found - {number}
-        found |= more
-
-
-def alive(number):
-    try:
-        with open(f'/proc/{number}/stat') as file:
-            return file.read().rsplit(')', 1)[1].split()[0] != 'Z'
-    except OSError:
-        return False
 
 
 def catches(number, sign):
@@ -100,14 +61,15 @@ def catches(number, sign):
     return bool(caught >> (sign - 1) & 1)
 
 
-def interrupted(sign, words, given, wanted):
+def interrupted(sign, words, given, wanted, run=RUN, **how):
     """Ends ./run by a signal while it waits, and looks for what it started."""
-    process = subprocess.Popen([RUN, *words], cwd=TOP, stdin=given, stdout=subprocess.PIPE, stderr=subprocess.PIPE)
+    how = {'cwd': TOP, 'stdin': given, 'stdout': subprocess.PIPE, 'stderr': subprocess.PIPE, **how}
+    process = subprocess.Popen([run, *words], **how)
     until = time.monotonic() + 60
-    started = set()
+    started = {}
     while time.monotonic() < until and not wanted(started, process):
         time.sleep(0.1)
-        started = below(process.pid)
+        started = processes.below(process.pid)
     begun = time.monotonic()
     process.send_signal(sign)
     try:
@@ -117,7 +79,7 @@ def interrupted(sign, words, given, wanted):
         process.kill()
     process.stdout.close()
     process.stderr.close()
-    left = [it for it in started if alive(it)]
+    left = processes.still(started)
     faults = [] if status == 130 else [f'status {status} in place of 130']
     faults += [f'{len(left)} processes go on'] if left else []
     faults += ['not within 20 seconds'] if time.monotonic() - begun > 20 else []
@@ -136,6 +98,14 @@ def signals(is_proved):
             interrupted(sign, ['examples/inc.ceal'], subprocess.DEVNULL, lambda started, _: len(started) > 2)
 
 
+def stubborn(folder):
+    """What does not end politely, and what it has started in a session of its own, is ended too."""
+    tree = build_tests.tree(f'{folder}/stubborn')
+    (tree / 'bin/rt').write_text("#!/bin/sh\ntrap '' TERM\nsetsid sleep 300 &\nsleep 300\n")
+    how = {'run': str(tree / 'run'), 'cwd': tree, 'env': build_tests.with_tools_of(tree)}
+    interrupted(signal.SIGTERM, ['file.ceal'], subprocess.DEVNULL, lambda started, _: len(started) > 2, **how)
+
+
 def files(folder):
     """Small inputs, by name."""
     made = {}
@@ -145,6 +115,13 @@ def files(folder):
         ('blank_mark.ceal', 'ceal f(mod int *m) { }\n%% \nmod a int 1\n'),
         ('source.ceal', 'ceal inc(mod int *a, mod int *b) {\n  int x = read(a);\n  write(b, x + 1);\n}\n'),
         ('script', 'mod a int 1\nmod b int 0\nrun inc a b\nget b\n'),
+        ('place_source', 'ceal f(mod int *m) {\n\twrite(m\t1);\n}\n'),
+        ('refused_script', '// two lines that are refused\nmod a int 1\nmod b int\nrun inc a b\n'),
+        ('resumed_script', 'get b\nfrob\n'),
+        ('endless.ceal', ENDLESS + 'mod m int 1\nrun f m\n'),
+        ('back.ceal', ENDLESS + 'mod m int 1\nrun f m\nset m 0\npropagate\n'),
+        ('sessions', ENDLESS + '@a mod m int 0\n@b mod m int 1\n@a run f m\n// both are run\n@b run f m\n'),
+        ('unrun.ceal', ENDLESS + 'mod m int 1\n'),
         ('refused.ceal', 'ceal f(mod int *m) { write(m, 1); }\n%%\n// a comment\nmod m int 1\nget m\nrun f m\nfrob\nget m\n'),
     ):
         path = pathlib.Path(folder, name)
@@ -170,22 +147,67 @@ def faults(made):
     call('a mark with blanks', [made['blank_mark.ceal']], 1, b'fault S3 at 2:1: unexpected token\n', 'no blanks around it')
 
 
+def two_files(made):
+    """A line is told by the file that it is in, and by its number there."""
+    source, script = made['source.ceal'], made['refused_script']
+    reply = b'ok\nrefused C1: unreadable line\nrefused C2: unknown name\n'
+    told = f'run: {script}:3: mod b int: refused C1: unreadable line\nrun:   the form is mod NAME int VALUE, or mod NAME STRUCT VALUE\n'
+    call('--strict of two files', ['--strict', source, script], 67, reply, told)
+    call('--strict after two files', [source, script, '--strict'], 67, reply, f'run: {script}:4: run inc a b: refused C2: unknown name\n')
+    shown = call('--beside of two files', [source, '--beside', script], 0).decode()
+    tell('the numbers of --beside', [] if re.match(r'1  // .*\n2  mod a int 1 +ok\n3  mod b int +refused C1', shown) else [f'wrote {shown!r}'])
+    timed = call('--time of two files', ['--time', source, made['script']], 0).decode()
+    tell('the numbers of --time', [] if re.match(r' +3  run inc a b', timed) else [f'wrote {timed!r}'])
+    drawn = call('--trace of two files', ['--trace', source, made['script']], 0).decode()
+    tell('the title of --trace', [] if f'{made["script"]}:3: a run of 2 steps' in drawn else ['another title'])
+    call('a fault with a script in a file', [made['place_source'], script], 1, None, f'run: {made["place_source"]}:2:10: unexpected token\n')
+    for words in (['--strict'], ['check'], ['resume']):
+        call(f'swapped files, {words[0]}', [*words, script, source], 64, b'', 'begins as a script', seconds=SOON)
+    call('a script by itself', [made['script']], 1, None, 'this begins as a script')
+
+
+def strict(made, folder):
+    """What --strict fails for besides lines that are refused, and what it does not fail for."""
+    endless, script = made['endless.ceal'], made['script']
+    call('--strict, out of fuel at the end', ['--strict', '--fuel', '50', endless], 67, b'ok\nout of fuel\n', f'run: {endless}:7: run f m: out of fuel\n')
+    call('--strict, out of fuel and back', ['--strict', 'run', '--fuel=50', made['back.ceal']], 0, b'ok\nout of fuel\nok\nok\n', '')
+    call('--strict many', ['many', '--strict', '--fuel', '50', made['sessions']], 67, None, f'run: {made["sessions"]}:10: @b run f m: out of fuel\n')
+    call('--strict save', ['--strict', 'save', made['source.ceal'], script], 0)
+    unrun = made['unrun.ceal']
+    for mode in ('save', 'dump'):
+        told = f'run: {unrun}: there is nothing to {mode}: no finished run\n'
+        call(f'--strict {mode} without a run', [mode, unrun, '--strict'], 67, b'no finished run\n', told)
+    call('--strict dump with a refused line', ['dump', made['refused.ceal'], '--strict'], 67, None, 'frob: refused C1: unreadable line')
+    good, bad, saved, more = (pathlib.Path(folder, it) for it in ('good', 'bad', 'saved_once', 'resumed_script'))
+    good.write_bytes(call('dump', ['dump', 'examples/inc.ceal'], 0))
+    bad.write_bytes(good.read_bytes().replace(b'\nw ', b'\nw i0.0 ', 1))
+    verify = ['--strict', 'verify', 'examples/inc.ceal']
+    call('--strict verify', [*verify, str(good)], 0, b'yes\n', '')
+    call('--strict verify of a wrong dump', [*verify, str(bad)], 67, b'no K1: unreadable dump\n', f'run: {bad}: no K1: unreadable dump\n')
+    saved.write_bytes(call('save', ['save', made['source.ceal'], script], 0))
+    told = f'run: {more}:2: frob: refused C1: unreadable line\n'
+    call('--strict resume', ['resume', '--strict', str(saved), str(more)], 67, b'2\nrefused C1: unreadable line\n', told)
+    shown = call('--beside resume', ['resume', '--beside', str(saved), str(more)], 0)
+    tell('the lines of --beside resume', [] if shown.startswith(b'1  get b ') and b'\n2  frob ' in shown else [f'wrote {shown!r}'])
+
+
 def options(made):
     refused = made['refused.ceal']
     reply = b'ok\nrefused C7: no finished run\nok\nrefused C1: unreadable line\n1\n'
-    told = f'run: {refused}:5: get m: refused C7: no finished run\nrun: {refused}:7: frob: refused C1: unreadable line\n'
+    told = f'run: {refused}:5: get m: refused C7: no finished run\nrun:   nothing ran yet\nrun: {refused}:7: frob: refused C1: unreadable line\n'
     call('--strict, with refused lines', ['--strict', refused], 67, reply, told)
     call('--strict, with none', ['--strict', 'examples/inc.ceal'], 0, (TOP / 'examples/inc.expected').read_bytes(), '')
     gap = ' ' * 12
-    shown = f'3  // a comment\n4  mod m int 1{gap}ok\n5  get m{gap}      refused C7: no finished run\n6  run f m{gap}    ok\n'
-    shown += f'7  frob{gap}       refused C1: unreadable line\n8  get m{gap}      1\n'
+    shown = f'3  // a comment\n4  mod m int 1{gap}ok\n5  get m{gap}      refused C7: no finished run (nothing ran yet)\n6  run f m{gap}    ok\n'
+    shown += f'7  frob{gap}       refused C1: unreadable line (no line begins with frob)\n8  get m{gap}      1\n'
     call('--beside', ['--beside', refused], 0, shown.encode())
     call('--beside of a fault', ['--beside', made['place.ceal']], 1, b'fault S3 at 2:10: unexpected token\n', 'write(m')
     call('--dot without a graph', ['--dot', refused], 65, b'', 'needs a line show')
     call('--trace without a run', ['--trace', made['no_mark.ceal']], 1)
     call('source and script in two files', [made['source.ceal'], made['script']], 0, b'ok\nok\nok\n2\n')
     timed = call('--time', ['--time', 'examples/inc.ceal'], 0).decode()
-    is_right = re.fullmatch(r' +10  run inc a b .* ms   work 2\n +15  propagate .* ms   work 1\n', timed)
+    took = r'(under )?[\d.,]+ (s|ms|µs)'
+    is_right = re.fullmatch(rf' +10  run inc a b +{took}   work 2\n +15  propagate +{took}   work 1; from scratch {took}, .*\n', timed)
     tell('the lines of --time', [] if is_right else [f'wrote {timed!r}'])
 
 
@@ -254,11 +276,15 @@ def streams():
         call('a full standard output, for --beside', ['--beside', 'examples/inc.ceal'], 71, stdout=full)
 
 
-def unchanged():
-    """Every byte that the program answers is handed on as it is: for examples, and for some rows of each mode."""
+def examples():
+    """Every byte that the program answers to an example is handed on as it is."""
     for example in EXAMPLES:
         words = re.match(rf'// \./run (.*) examples/{example.name}\n', example.read_text())
         call(example.name, [*(words[1].split() if words else []), f'examples/{example.name}'], 0, example.with_suffix('.expected').read_bytes())
+
+
+def some_rows():
+    """The same for some rows of each mode."""
     seen = {}
     with tempfile.NamedTemporaryFile(suffix='.ceal') as file:
         for row in rows.rows():
@@ -270,25 +296,33 @@ def unchanged():
                 call(f'row {row.name}', [*words, file.name], row.status, b''.join(row.output))
 
 
+def groups(made, folder, is_proved):
+    """The tests, in groups that run side by side."""
+    yield refused_at_once, folder
+    yield signals, is_proved
+    yield several, made
+    yield stubborn, folder
+    yield build_tests.all, folder
+    yield hint_tests.tables,
+    if not is_proved:
+        yield call, '--time without a program', ['--time', 'examples/inc.ceal'], 70, b'', 'tell something'
+        return
+    for group in (faults, two_files, options, hint_tests.hints_of_calls):
+        yield group, made
+    yield strict, made, folder
+    yield dumps, folder
+    yield saves, folder, made
+    for group in (pages, long_lists, streams, examples, some_rows):
+        yield group,
+
+
 def main(is_proved):
-    with tempfile.TemporaryDirectory(prefix='ceal-') as folder:
+    with tempfile.TemporaryDirectory(prefix='ceal-') as folder, ThreadPoolExecutor(len(os.sched_getaffinity(0))) as pool:
         made = files(folder)
-        refused_at_once(folder)
-        signals(is_proved)
-        several(made)
-        if is_proved:
-            faults(made)
-            options(made)
-            dumps(folder)
-            saves(folder, made)
-            pages()
-            long_lists()
-            streams()
-            unchanged()
-        else:
-            call('--time without a program', ['--time', 'examples/inc.ceal'], 70, b'', 'tell something')
-    print(f'{passed} passed, {failed} failed')
-    return int(failed > 0)
+        for it in [pool.submit(*group) for group in groups(made, folder, is_proved)]:
+            it.result()
+    print(f'{calls.passed} passed, {calls.failed} failed')
+    return int(calls.failed > 0)
 
 
 if __name__ == '__main__':

@@ -3,10 +3,10 @@
 A part is the rows, the tests of a crate, the pages, the streams of the program, or `./run` itself. Where the proved program is there it answers
 the rows and `./run`; else they are tried by `rt try`, which compiles each part again.
 """
-import os, re, shutil, subprocess, sys, tempfile, time
+import os, re, subprocess, sys, tempfile, time
 
-from tools import answers, rows, self_tests
-from tools.answers import CRATE, PROGRAM, TOP
+from tools import answers, rows
+from tools.answers import PROGRAM, TOP
 
 ROWS = TOP / 'crates/ceal_rows/data/rows.txt'
 PASSED = re.compile(r'(\d+) passed[,;] (\d+) failed')

@@ -3,10 +3,12 @@
 A trace is had as a dump (docs/DUMP.md). For an update there are two, of the trace before and after it. They are gone through side by side by
 the rules of repair (docs/REPAIR.md), which say what was kept, reused, re-executed and revoked; the steps re-executed are the update's work.
 """
-import bisect, collections, html, re, sys
+import bisect, collections, html, re
 
 from tools import answers, scripts
-from tools.answers import Fault, Input
+from tools.answers import Fault
+from tools.inputs import Input
+from tools.telling import hand_on
 
 WIDTH, HEIGHT, ROW = 1000, 420, 18  # (a panel's pixels, and those of a row where there is room)
 COLOURS = {'kept': '#c3cad5', 'taken': '#7fc492', 'anew': '#f2a65a', 'revoked': '#d9646f', 'stale': '#fde8cd', 'run': '#8fb4dc'}
@@ -302,18 +304,10 @@ def of_update(title, update, names):
     return document(after.bottom + 20, parts)
 
 
-def refused(given, answer):
-    """Hands on the fault of a source text that is not accepted."""
-    answers.write_out(answer)
-    for it in scripts.excerpt(given, answer.output):
-        print(f'run: {it}', file=sys.stderr)
-    return answer.status
-
-
 def main(words, given):
     source, mark, script = scripts.parts(given.text())
     if not mark:
-        return refused(given, answers.answers([(words, given)])[0])
+        return hand_on(given, answers.answers([(words, given)])[0])
     lines, head = scripts.lines_of(script), source + mark
     runs = [at for at, it in enumerate(lines) if it.split()[:1] in ([b'run'], [b'propagate'])]
     until = [b'\n'.join([*lines[: at + 1], b'']) for at in runs] or [script]
@@ -322,16 +316,17 @@ def main(words, given):
     dump = ['dump', *words[1:]]
     ran, first, last = answers.answers([(words, asked), (dump, before), (dump, Input(given.name, head + until[-1]))])
     if ran.status or last.status:
-        return refused(given, ran)
-    print(picture(given.name, runs, source.count(b'\n') + 2, head, until[-1], ran, first, last), end='')
+        return hand_on(given, ran)
+    print(picture(given, runs, head, until[-1], ran, first, last), end='')
     return 0
 
 
-def picture(name, runs, first_line, head, script, ran, first, last):
+def picture(given, runs, head, script, ran, first, last):
     trace = Trace(last.output)
     work, steps = [int(it) for it in scripts.lines_of(ran.output)[-2:]]
     names = Names(head, list(scripts.replies(script, ran.output)))
-    place = f'{name}:{first_line + runs[-1]}' if runs else name
+    name, number = given.place(scripts.script_of(given.text(), 'run')[0] + (runs[-1] if runs else 0))
+    place = f'{name}:{number}' if runs else given.name
     if b'\ntrace ' not in first.output:
         return of_run(f'{place}: a run of {steps} steps', trace, names)
     update = Update(Trace(first.output), trace)

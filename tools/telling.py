@@ -1,0 +1,20 @@
+"""What `./run` itself tells, on standard error: each line begins with `run:`."""
+import sys
+
+from tools import answers, scripts
+
+
+def tell(lines):
+    for line in lines:
+        print(f'run: {line}', file=sys.stderr)
+
+
+def hand_on(given, answer, shown=None):
+    """Writes out an answer, or what was made of it, and tells the place of a fault; returns its status."""
+    fault = answer.output
+    if shown is not None:
+        answer.output = shown
+    answers.write_out(answer)
+    if answer.status == 1:
+        tell(scripts.excerpt(given, fault))
+    return answer.status
