@@ -134,6 +134,12 @@ def asked(run, more):
     return lambda size: Work(['mod p int 0', 'mod q int 0', more], f'{run} {size}', edits)
 
 
+def idle(size):
+    """One modifiable that is read so many times: an edit to what it holds, and a write of that before all reads."""
+    edits = [('to what is there', 'set m 5', 'set m 5'), ('an equal write', 'set p 1', 'set p 0')]
+    return Work(['mod m int 5', 'mod p int 0'], f'run idle m p {size}', edits)
+
+
 LONG, SHORT = (625, 2500, 10_000), (250, 1000, 4000)
 # Each program of bench/programs: its sizes, of which the middle one is that of the table, and its workload of a size.
 PROGRAMS = {
@@ -150,6 +156,7 @@ PROGRAMS = {
     'hull': (SHORT, hull),
     'tree': (LONG, tree),
     'readers': (LONG, asked('run readers p q m', 'mod m int 5')),
+    'idle': (LONG, idle),
     'keys': (LONG, asked('run keys p q m', 'mod m mark null')),
 }
 

@@ -1,5 +1,5 @@
 -- A run with which a repair goes on, and what a slice of it is of the definition's repair.
-use Rattle.std.proofs.Common.{◌≡◌, ℕ, ◌+◌, Bool, true, false, Option, Some, None, List, refl, sym, ap, subst, ◌∙◌, inl, inr, ◌⊎◌, arith}
+use Rattle.std.proofs.Common.{◌≡◌, ℕ, ◌+◌, ◌<◌, Bool, true, false, Option, Some, None, List, refl, sym, ap, subst, ◌∙◌, inl, inr, ◌⊎◌, arith}
 use Rattle.std.specs.Option.{IsSomeAnd}
 use Rattle.std.specs.Prelude.{◌↔◌, IsSome, Ok, Err}
 use Rattle.std.proofs.lemmas.Bool.{false≢true}
@@ -10,6 +10,7 @@ use Rattle.ceal_base.specs.declared.call.Call.{Call}
 use Rattle.ceal_base.specs.declared.word.BlockId.TheVariants.{Core}
 use Rattle.ceal_base.specs.declared.word.Word.{Word}
 use Rattle.ceal_code.proofs.Words.SameIsEqual.{some-same, none-some}
+use Rattle.ceal_code.specs.Alike.{Pairs, Tied, TraceAlike, OneToOne}
 use Rattle.ceal_code.specs.Program.{Code}
 use Rattle.ceal_code.specs.Replay.{IsHonest}
 use Rattle.ceal_engine.proofs.Inputs.{extended-refl}
@@ -17,29 +18,32 @@ use Rattle.ceal_engine.proofs.Present.{part-kept, part-trace}
 use Rattle.ceal_engine.proofs.Repairs.{kept-as, trace-is}
 use Rattle.ceal_engine.proofs.RunMemory.{low-numbers}
 use Rattle.ceal_engine.specs.Completed.{finished, under_way, idle, opened, IsOpenRun, IsSliceOf as IsSliceFor}
-use Rattle.ceal_engine.specs.Engine.{EngineState, IsWhole, has_run}
+use Rattle.ceal_engine.specs.Engine.{EngineState, IsWhole, has_run, trace}
 use Rattle.ceal_engine.specs.Keeping.{IsPartKept, KeepsRun, Keeps, heap_in, state_of}
-use Rattle.ceal_engine.specs.Partial.{spent_in, carried_by, CarriesFrom, IsUnderWay, RenamedFrom, progress_of, GoesOn, Ends, IsAnew, IsOut, Comes, ComesSo, KeepsWords}
+use Rattle.ceal_engine.specs.Partial.{spent_in, carried_by, CarriesFrom, IsUnderWay, RenamedFrom, progress_of, GoesOn, Ends, IsAnew, IsOut, IsRepairSoFar, Comes, ComesSo, KeepsWords}
 use Rattle.ceal_engine.specs.declared.phase.Came.{Came}
 use Rattle.ceal_engine.specs.declared.phase.Came.TheVariants as came
 use Rattle.ceal_engine.specs.declared.phase.Progress.{Progress}
+use Rattle.ceal_engine.specs.declared.phase.Progress.TheVariants.{Done as Ended}
+use Rattle.ceal_engine.specs.Repaired.{IsRepaired}
 use Rattle.ceal_engine.specs.declared.phase.Phase.{Phase}
 use Rattle.ceal_engine.specs.declared.phase.Phase.TheVariants.{New, Finished as IsFinished, Pending, Partial, Dropped}
 use Rattle.ceal_engine.specs.declared.run_error.RunError.{RunError}
 use Rattle.ceal_engine.specs.declared.run_error.RunError.TheVariants.{Memory, OutOfFuel as RanOut}
-use Rattle.ceal_heap.specs.Heap.{next, plain_of}
+use Rattle.ceal_heap.specs.Heap.{Contents, next, plain_of}
 use Rattle.ceal_repair.specs.Answers.{IsKeptRun}
 use Rattle.ceal_repair.specs.Slicing.{IsPartRun, IsSliceOf, IsSliced}
 use Rattle.ceal_repair.specs.declared.running.Running.{Running}
-use Rattle.ceal_repair.specs.declared.slice.Sliced.{Sliced}
-use Rattle.ceal_repair.specs.declared.slice.Sliced.TheVariants.{More, Done, Spent, OutOfFuel}
-use Rattle.ceal_theory.proofs.SlicedRepair.CarriedLaws.{carried-begin-law, carried-same-law, carried-on-law}
+use Rattle.ceal_repair.specs.declared.advance.Progress.{Progress as Far}
+use Rattle.ceal_repair.specs.declared.advance.Progress.TheVariants.{More, Done, Spent, OutOfFuel}
+use Rattle.ceal_theory.proofs.SlicedRepair.CarriedLaws.{alike, carried-begin-law, carried-same-law, carried-on-law, own-single}
+use Rattle.ceal_theory.proofs.Renaming.RenamedSlice.{slice-renamed}
 use Rattle.ceal_theory.proofs.SlicedRepair.SliceLaws.{begin-law, other-names-law, slice-law, slices-law, whole-law, is-done-law}
 use Rattle.ceal_theory.specs.Adjust.{Above}
 use Rattle.ceal_theory.specs.Carried.{Carried, CarriedSlices, counted_anew}
 use Rattle.ceal_theory.specs.Laws.{Edited}
 use Rattle.ceal_theory.specs.Repair.{own}
-use Rattle.ceal_theory.specs.Slices.{Repair, beginning, sliced, is_done, Sound, Slices}
+use Rattle.ceal_theory.specs.Slices.{Repair, beginning, sliced, is_done, Sound, Slices, ComesBehind, RenamedSlices}
 
 -- ---- a new repair begins
 
@@ -78,7 +82,7 @@ module _ (code : Code) (fuel : ℕ) (inputs : List Block) (call : Call) (l : Tra
 
 -- ---- the run with which a repair goes on
 
-opened-whole : (phase : Phase) (run : Running) → IsWhole phase → opened phase (Some run) ≡ Some (idle run)
+pub opened-whole : (phase : Phase) (run : Running) → IsWhole phase → opened phase (Some run) ≡ Some (idle run)
 opened-whole New run h = absurd (grind (arith, h))
 opened-whole IsFinished run h = refl
 opened-whole Pending run h = refl
@@ -113,16 +117,17 @@ module _ (code : Code) (fuel : ℕ) (inputs : List Block) (phase : Phase) where
 
 -- what of it is that of the run before
 pub record SameAs (phase : Phase) (before run : Running) : Type 0 where
+  pub tables : run.tables ≡ before.tables
   pub trace : run.tables.trace ≡ before.tables.trace
   pub heap : run.heap ≡ before.heap
   pub spent : run.spent ≡ spent_in phase before.spent
 
 pub same-as : (phase : Phase) (before run : Running) → opened phase (Some before) ≡ Some run → SameAs phase before run
-same-as New before run e = subst (SameAs New before) (some-same (idle before) run e) (record { trace = refl; heap = refl; spent = refl })
-same-as IsFinished before run e = subst (SameAs IsFinished before) (some-same (idle before) run e) (record { trace = refl; heap = refl; spent = refl })
-same-as Pending before run e = subst (SameAs Pending before) (some-same (idle before) run e) (record { trace = refl; heap = refl; spent = refl })
-same-as Partial before run e = subst (SameAs Partial before) (some-same before run e) (record { trace = refl; heap = refl; spent = refl })
-same-as Dropped before run e = subst (SameAs Dropped before) (some-same (idle before) run e) (record { trace = refl; heap = refl; spent = refl })
+same-as New before run e = subst (SameAs New before) (some-same (idle before) run e) (record { tables = refl; trace = refl; heap = refl; spent = refl })
+same-as IsFinished before run e = subst (SameAs IsFinished before) (some-same (idle before) run e) (record { tables = refl; trace = refl; heap = refl; spent = refl })
+same-as Pending before run e = subst (SameAs Pending before) (some-same (idle before) run e) (record { tables = refl; trace = refl; heap = refl; spent = refl })
+same-as Partial before run e = subst (SameAs Partial before) (some-same before run e) (record { tables = refl; trace = refl; heap = refl; spent = refl })
+same-as Dropped before run e = subst (SameAs Dropped before) (some-same (idle before) run e) (record { tables = refl; trace = refl; heap = refl; spent = refl })
 
 -- ---- the definition's repair
 
@@ -175,6 +180,48 @@ module _ (code : Code) (inputs : List Block) (f : ℕ) (args : List Word) (fuel 
     -- without a number of reads it is done
     pub whole-done : k ≡ None → IsHonest code inputs z.items
     whole-done e = whole-law code s.names inputs f args part.fits (counted_anew q) anew-sound z (subst (λ o. Slices code s.names inputs o (counted_anew q) z) e by-rules)
+
+-- The slice is the definition's with its blocks renamed: a block that was known before has the number that it had, and a
+-- new one a number that no block had.
+pub record Renames (code : Code) (next' : ℕ) (before now : Repair) (l m : Trace) : Type 0 where
+  pub pairs : Pairs
+  pub one : OneToOne pairs
+  pub alike : TraceAlike pairs l m
+  pub kept : (b c : ℕ) → Tied b c pairs → b < next' → b ≡ c
+  pub apart : (b c : ℕ) → Tied b c pairs → before.known (Core b) ≡ None → now.known (Core c) ≡ None
+
+module _ (code : Code) (inputs : List Block) (f : ℕ) (args : List Word) (fuel : ℕ) (q : Repair) (run : Running) (part : IsPartRun code inputs f args fuel q run) (k : Option ℕ) (next' : ℕ) (r : Repair)
+    (sound : Sound code own inputs f args r) (carried : Carried code inputs next' r q) (z z' : Repair) (s : IsSliceOf code inputs k fuel q (Some z)) (is : sliced code own inputs k fuel r ≡ Some z') where
+  names-sound : Sound code s.names inputs f args (counted_anew q)
+  names-sound = anew-sound code inputs f args fuel q run part k z s
+
+  same-carried : Carried code inputs next' r (counted_anew q)
+  same-carried = carried-same-law code inputs next' r q (counted_anew q) carried refl (λ b. refl) refl
+
+  known-none : (b : ℕ) (block : Block) → r.known (Core b) ≡ Some block → r.known (Core b) ≡ None → ⊥
+  known-none b block e none = none-some block (sym none ∙ e)
+
+  old-number : (b c : ℕ) → ComesBehind own s.names same-carried.pairs r (counted_anew q) b c → b < next' → b ≡ c
+  old-number b c (ComesBehind.old i) l = same-carried.kept b c i l
+  old-number b c (ComesBehind.new j e e') l = absurd (omega (arith, e, l, same-carried.above))
+
+  new-number : (b c : ℕ) → ComesBehind own s.names same-carried.pairs r (counted_anew q) b c → r.known (Core b) ≡ None → q.known (Core c) ≡ None
+  new-number b c (ComesBehind.old i) none = let w = same-carried.left b c i in absurd (known-none b w.0 w.1 none)
+  new-number b c (ComesBehind.new j e e') none = subst (λ d. q.known (Core d) ≡ None) (sym e') (s.off (0 + j))
+
+  pub renames : Renames code next' r q z'.items z.items
+  renames = of (subst (λ o. RenamedSlices code own s.names inputs same-carried.pairs r (counted_anew q) o (Some z)) is
+      (subst (λ o. RenamedSlices code own s.names inputs same-carried.pairs r (counted_anew q) (sliced code own inputs k fuel r) o) s.is
+      (slice-renamed code inputs part.fits.blocks own s.names own-single s.single same-carried.pairs r (counted_anew q) (alike code s.names inputs f args part.fits r (counted_anew q) sound names-sound next' same-carried) k fuel)))
+    where
+      of : RenamedSlices code own s.names inputs same-carried.pairs r (counted_anew q) (Some z') (Some z) → Renames code next' r q z'.items z.items
+      of (RenamedSlices.some qs wide a from) = record {
+        pairs = qs;
+        one = a.one;
+        alike = a.items;
+        kept = λ b c t l. old-number b c (from b c t) l;
+        apart = λ b c t none. new-number b c (from b c t) none;
+      }
 
 done-of : (code : Code) (inputs : List Block) (r : Repair) → IsHonest code inputs r.items → is_done code inputs r ≡ true
 done-of code inputs r = (is-done-law code inputs r).1
@@ -234,8 +281,15 @@ module _ (code : Code) (fuel : ℕ) (inputs : List Block) (phase : Phase) (call 
       repair = z.repair;
       is = z.is;
       done = done-of code inputs z.repair (z.honest.1 s.2.honest);
-      items = subst (λ o. IsSomeAnd o (RenamedFrom next' z.repair.items)) (sym (trace-is code fuel inputs call k.of.fits s.0.items run' s.2))
-          (record { pairs = z.carried.pairs; one = z.carried.one; alike = z.carried.items; kept = z.carried.kept });
+      items = subst (λ o. IsSomeAnd o (RenamedFrom e next' r z.repair.items)) (sym (trace-is code fuel inputs call k.of.fits s.0.items run' s.2))
+          (let w = renames code inputs call.function call.args fuel k.repair run k.of reads next' r h.0 h.1 s.0 z.repair s.1 z.is in
+          record {
+            pairs = w.pairs;
+            one = w.one;
+            alike = w.alike;
+            kept = w.kept;
+            apart = λ b c t none. ap (λ (g : Contents). plain_of g (Core c)) (sym same.heap) ∙ (sym (k.of.stands.known c) ∙ w.apart b c t none);
+          });
       work = s.3 ∙ sym z.carried.spent;
     }
 
@@ -277,6 +331,18 @@ ended-so before after next' r came.More c more = absurd (false≢true (more refl
 ended-so before after next' r came.Done c more = inl c
 ended-so before after next' r came.Anew c more = inr c
 
+-- a whole run is repaired, and not run again
+pub whole-repair : (e n : EngineState) (l : Trace) (far : Came) → (far ≡ came.More → IsSome all_reads) → IsRepairSoFar e n l far → IsRepairSoFar e n l came.Done
+whole-repair before after l came.More more h = absurd (false≢true (more refl))
+whole-repair before after l came.Done more h = h
+whole-repair before after l came.Anew more h = absurd h
+
+-- and so it is where a slice ends
+pub done-repair : (e n : EngineState) (l : Trace) (far : Came) (p : Progress) → p ≡ progress_of far → p ≡ Ended → IsRepairSoFar e n l far → IsSomeAnd (trace n) (IsRepaired n l)
+done-repair before after l came.More p is done h = absurd (let clash = sym is ∙ done in cc)
+done-repair before after l came.Done p is done h = h.0
+done-repair before after l came.Anew p is done h = absurd h
+
 -- the same, where it is not told whether the call was run again
 pub comes-so : (e n : EngineState) (k : Option ℕ) (next' : ℕ) (r : Repair) (far : Came) → Comes e n k next' r (Ok far) → (p : Progress) → p ≡ progress_of far → ComesSo e n k next' r (Ok p)
 comes-so before after k next' r came.More c p is = subst (λ q. ComesSo before after k next' r (Ok q)) (sym is) c
@@ -286,7 +352,7 @@ comes-so before after k next' r came.Anew c p is = subst (λ q. ComesSo before a
 -- ---- in the words of the engine's functions
 
 module _ (code : Code) (fuel : ℕ) (inputs : List Block) (phase : Phase) (call : Option Call) (before : Option Running) (keeps : Keeps code fuel inputs phase call before) (run : Running) (is : opened phase before ≡ Some run)
-    (reads : Option ℕ) (run' : Running) (s : Sliced) (slice : IsSliceFor code fuel inputs call reads run run' s) where
+    (reads : Option ℕ) (run' : Running) (s : Far) (slice : IsSliceFor code fuel inputs call reads run run' s) where
   -- what is true of a call that is there, of the run before it, and of what the slice comes to
   by-parts : (P : Option Call → Option Running → Type 0)
       → ((c : Call) (b : Running) → call ≡ Some c → before ≡ Some b → opened phase (Some b) ≡ Some run → (k : IsPartKept code fuel inputs c run) → IsSliced code inputs c.function c.args reads fuel k.repair run' s → P (Some c) (Some b)) → P call before
@@ -343,7 +409,7 @@ open-part code fuel inputs None run k = elim k [ ]
 open-part code fuel inputs (Some call) run k = (call.function, call.args, k.repair, k.of)
 
 -- what the slice promises of each call is so of this one
-pub slice-for : (code : Code) (fuel : ℕ) (inputs : List Block) (call : Option Call) (reads : Option ℕ) (run run' : Running) (s : Sliced)
+pub slice-for : (code : Code) (fuel : ℕ) (inputs : List Block) (call : Option Call) (reads : Option ℕ) (run run' : Running) (s : Far)
     → ((f : ℕ) (args : List Word) (r : Repair) → IsPartRun code inputs f args fuel r run → IsSliced code inputs f args reads fuel r run' s) → IsSliceFor code fuel inputs call reads run run' s
 slice-for code fuel inputs None reads run run' s h = tt
 slice-for code fuel inputs (Some call) reads run run' s h = h call.function call.args

@@ -1,26 +1,38 @@
 -- Which repair an engine carries.
-use Rattle.std.proofs.Common.{◌≡◌, ℕ, true, Option, Some, None, refl, sym, ap, ◌∙◌, subst}
+use Rattle.std.proofs.Common.{◌≡◌, ℕ, true, Option, Some, None, List, refl, sym, ap, ◌∙◌, subst}
 use Rattle.std.proofs.lemmas.Bool.{false≢true}
 use Rattle.std.specs.Prelude.{IfSome, is_some}
+use Rattle.ceal_base.specs.Block.{Block}
 use Rattle.ceal_base.specs.Fitting.{inputs_fit}
 use Rattle.ceal_base.specs.Trace.{Trace}
 use Rattle.ceal_base.specs.declared.call.Call.{Call}
+use Rattle.ceal_base.specs.declared.kind.Shape.{Shape}
+use Rattle.ceal_base.specs.declared.typed.StructInfo.{StructInfo}
 use Rattle.ceal_base.specs.declared.word.BlockId.TheVariants.{Core}
+use Rattle.ceal_base.specs.declared.word.Place.{Place}
+use Rattle.ceal_base.specs.declared.word.Word.{Word}
 use Rattle.ceal_code.specs.Fitting.{Fits}
+use Rattle.ceal_code.specs.Program.{Code}
 use Rattle.ceal_code.specs.Replay.{Replays, plain_of}
 use Rattle.ceal_engine.proofs.Inputs.{extended-refl}
-use Rattle.ceal_engine.proofs.Present.{whole-run}
+use Rattle.ceal_engine.proofs.Present.{sound-engine, whole-run}
+use Rattle.ceal_engine.specs.Completed.{OfRuns, SameRun, SetsBase, SetsInput}
+use Rattle.ceal_engine.specs.Keeping.{Kept, Sound as SoundInside, state_of}
 use Rattle.ceal_engine.specs.Engine.{EngineState, IsWhole, IsHeapOf, ReplaysCall, is_whole, stands_for}
-use Rattle.ceal_engine.specs.Partial.{spent_in, words_in, carried_by, CarriesFrom, BeginsLaw, KeptLaw}
+use Rattle.ceal_engine.specs.Partial.{spent_in, words_in, carried_by, CarriesFrom, SameRepair, BeginsLaw, KeptLaw}
 use Rattle.ceal_engine.specs.declared.phase.Phase.{Phase}
 use Rattle.ceal_engine.specs.declared.phase.Phase.TheVariants.{New, Finished, Pending, Partial, Dropped}
 use Rattle.ceal_heap.specs.Heap.{Contents}
 use Rattle.ceal_theory.proofs.SlicedRepair.CarriedLaws.{carried-begin-law, carried-more-law, carried-same-law}
 use Rattle.ceal_theory.proofs.SlicedRepair.SliceLaws.{begin-law, more-law}
+use Rattle.ceal_repair.specs.declared.running.Running.{Running}
+use Rattle.ceal_theory.specs.Adjust.{Extended}
 use Rattle.ceal_theory.specs.Carried.{Carried}
 use Rattle.ceal_theory.specs.Laws.{Edited}
 use Rattle.ceal_theory.specs.Repair.{own}
-use Rattle.ceal_theory.specs.Slices.{Sound, beginning}
+use Rattle.ceal_theory.specs.Slices.{Repair, Sound, beginning}
+use Rattle.ceal_trace.specs.Items.{forest_of}
+use Rattle.ceal_trace.specs.Nodes.{Timeline}
 
 none-spent : (p : Phase) (work : ℕ) → IsWhole p → spent_in p work ≡ 0
 none-spent New work h = refl
@@ -81,3 +93,42 @@ kept-law e n k m same next' r c = record {
 
     fit : inputs_fit e.code.structs n.inputs ≡ true
     fit = subst (λ code. inputs_fit code.structs n.inputs ≡ true) same.code m.inputs
+
+-- ---- after an edit and a new input
+
+module _ (code : Code) (fuel : ℕ) (inputs more : List Block) (kept : Kept) (phase after : Phase) (old run : Option Running) (before : SoundInside code fuel inputs kept phase old) (now : SoundInside code fuel more kept after run)
+    (extended : Extended code inputs more) (spent : (work : ℕ) → spent_in after work ≡ spent_in phase work) where
+  abbrev old_state : EngineState
+  old_state = state_of code fuel inputs kept.call phase old
+
+  abbrev new_state : EngineState
+  new_state = state_of code fuel more kept.call after run
+
+  -- the repair that is carried is the same
+  pub carries-still : OfRuns SameRun old run → (next' : ℕ) (r : Repair) → CarriesFrom old_state next' r → CarriesFrom new_state next' r
+  carries-still o = kept-law old_state new_state (sound-engine code fuel inputs kept phase old before) (sound-engine code fuel more kept after run now) (same old run o)
+    where
+      same : (old run : Option Running) → OfRuns SameRun old run → SameRepair (state_of code fuel inputs kept.call phase old) (state_of code fuel more kept.call after run)
+      same None None o = record { code = refl; call = refl; forest = refl; heap = refl; spent = spent 0; inputs = extended }
+      same None (Some run) o = elim o [ ]
+      same (Some old) None o = elim o [ ]
+      same (Some old) (Some run) o = record {
+        code = refl;
+        call = refl;
+        forest = ap (λ (t : Timeline). Some (forest_of t.nodes)) o.trace;
+        heap = ap Some o.heap;
+        spent = ap (spent_in after) o.spent ∙ spent old.spent;
+        inputs = extended;
+      }
+
+pub same-base : (p : Place) (w : Word) (old run : Option Running) → OfRuns (SetsBase p w) old run → OfRuns SameRun old run
+same-base p w None None o = tt
+same-base p w None (Some run) o = elim o [ ]
+same-base p w (Some old) None o = elim o [ ]
+same-base p w (Some old) (Some run) o = o.same
+
+pub same-input : (structs : List StructInfo) (input : ℕ) (shape : Shape) (words : List Word) (old run : Option Running) → OfRuns (SetsInput structs input shape words) old run → OfRuns SameRun old run
+same-input structs input shape words None None o = tt
+same-input structs input shape words None (Some run) o = elim o [ ]
+same-input structs input shape words (Some old) None o = elim o [ ]
+same-input structs input shape words (Some old) (Some run) o = o.same

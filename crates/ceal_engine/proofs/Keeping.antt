@@ -23,22 +23,20 @@ use Rattle.ceal_code.specs.Replay.{IsHonest, stored}
 use Rattle.ceal_code.specs.Value.{is_cell}
 use Rattle.ceal_engine.proofs.Inputs.{all-get, fit-all, edit-fits, call-kept, extended-edit, extended-refl}
 use Rattle.ceal_engine.proofs.MoreMemory.{core-plain}
-use Rattle.ceal_engine.proofs.Repairs.{first-of, repaired-of, no-end}
-use Rattle.ceal_engine.specs.Completed.{IsFirstOf, IsOldRun, IsRepairOf, IsStillHonest, SameRun, SetsBase, LeavesCells, OfRuns}
-use Rattle.ceal_engine.specs.Engine.{alone, fits_in, with_base, edited, fresh_call, has_run, IsWhole}
+use Rattle.ceal_engine.proofs.Repairs.{first-of}
+use Rattle.ceal_engine.specs.Completed.{IsFirstOf, SameRun, SetsBase, LeavesCells, OfRuns}
+use Rattle.ceal_engine.specs.Engine.{alone, fits_in, with_base, edited, has_run, IsWhole}
 use Rattle.ceal_engine.specs.Keeping.{contents as cell_contents, Kept, state_of, IsPartKept, KeepsRun, Keeps, Sound}
 use Rattle.ceal_engine.specs.declared.phase.Phase.{Phase}
 use Rattle.ceal_engine.specs.declared.phase.Phase.TheVariants.{New, Finished as IsFinished, Pending, Partial, Dropped}
 use Rattle.ceal_heap.specs.Heap.{Contents, standing, plain_of as heap_words}
 use Rattle.ceal_mods.specs.Cell.{latest_value}
 use Rattle.ceal_mods.specs.declared.cell.Cell.{Cell}
-use Rattle.ceal_repair.specs.Answers.{Stands, IsKeptRun, IsFirst as IsFirstAnswer, IsRepaired as IsRepairedAnswer}
+use Rattle.ceal_repair.specs.Answers.{Stands, IsKeptRun, IsFirst as IsFirstAnswer}
 use Rattle.ceal_repair.specs.Blocks.{There}
 use Rattle.ceal_repair.specs.Kept.{Kept as KeptTables}
 use Rattle.ceal_repair.specs.Slicing.{IsPartRun}
 use Rattle.ceal_repair.specs.Words.{HasBases, default_of}
-use Rattle.ceal_repair.specs.declared.propagate.Propagation.{Propagation}
-use Rattle.ceal_repair.specs.declared.propagate.Propagation.TheVariants as propagation
 use Rattle.ceal_repair.specs.declared.running.Outcome.{Outcome}
 use Rattle.ceal_repair.specs.declared.running.Outcome.TheVariants.{Done}
 use Rattle.ceal_repair.specs.declared.running.Running.{Running}
@@ -214,6 +212,7 @@ module _ (code : Code) (inputs : List Block) (p : Place) (w : Word) (fit : input
     trace = k.trace;
     of = kept-on code inputs (with_base inputs p w) call.function call.args fuel k.trace old run k.of (extended-edit code inputs p w cell-at) fits (omega (arith, long)) o.same (bases-edited old run o k.of.stands.blocks.bases);
     present = λ e. absurd (not-finished phase e);
+    idle = λ e. absurd (not-finished phase e);
   })
   keeps-edited fuel phase fits long (Some call) (Some old) (Some run) o (KeepsRun.part e k) = KeepsRun.part (still-part phase e)
       (part-kept-on code fuel inputs (with_base inputs p w) call old run k (extended-edit code inputs p w cell-at) fits (omega (arith, long)) o.same (bases-edited old run o))
@@ -248,6 +247,7 @@ keeps-same code fuel inputs phase call old run o (KeepsRun.whole k) = KeepsRun.w
   trace = k.trace;
   of = kept-on code inputs inputs call.function call.args fuel k.trace old run k.of (extended-refl code inputs) k.of.fits.blocks (omega arith) o.same (bases-left code.structs inputs old run o k.of.stands.blocks.bases);
   present = k.present;
+  idle = λ e. o.looks.queue ∙ k.idle e;
 })
 keeps-same code fuel inputs phase call old run o (KeepsRun.part e k) = KeepsRun.part e
     (part-kept-on code fuel inputs inputs call old run k (extended-refl code inputs) k.of.fits.blocks (omega arith) o.same (bases-left code.structs inputs old run o))
@@ -279,7 +279,7 @@ state-left code fuel inputs call phase None (Some run) o = elim o [ ]
 state-left code fuel inputs call phase (Some old) None o = elim o [ ]
 state-left code fuel inputs call phase (Some old) (Some run) o =
     let same : cell_contents run.tables.mods ≡ cell_contents old.tables.mods = fun_ext (λ p. ap latest_value (o.cells p)) in
-    rw (o.same.trace, o.same.heap, o.same.spent, same) refl
+    rw (o.same.trace, o.same.heap, o.same.spent, same, o.looks.looked, o.looks.differed, o.looks.queue) refl
 
 -- the tables of a run are kept
 pub run-kept : (code : Code) (fuel : ℕ) (inputs : List Block) (phase : Phase) (call : Option Call) (run : Option Running) → Keeps code fuel inputs phase call run → IfSome run (λ r. KeptTables r.tables)
@@ -359,31 +359,3 @@ module _ (code : Code) (fuel : ℕ) (inputs : List Block) where
   first-done call f args e h o a run k =
       subst (λ c. IsFirstOf code fuel inputs c run) (sym e)
       (first-of code fuel inputs (record { function = f; args = args }) (first-fits call f args e h) run (subst (λ o. IsFirstAnswer code inputs f args fuel o) k a))
-
-  -- an old run can be propagated
-  pub old-kept : (call : Option Call) (run : Running) → IsOldRun code fuel inputs call run → (f : ℕ) × (args : List Word) × (l : Trace) × IsKeptRun code inputs f args fuel l run
-  old-kept None run o = elim o [ ]
-  old-kept (Some call) run o = (call.function, call.args, o.0, o.1)
-
-  abbrev Propagates : Running → Running → Propagation → Type 0
-  Propagates old run o = (f : ℕ) (args : List Word) (l : Trace) → IsKeptRun code inputs f args fuel l old → IsRepairedAnswer code inputs f args fuel l old run o
-
-  pub repaired-out : (call : Option Call) (old run : Running) → IsOldRun code fuel inputs call old → (o : Propagation) → Propagates old run o → o ≡ propagation.OutOfFuel → fresh_call code inputs fuel call ≡ None
-  repaired-out None old run h o a k = elim h [ ]
-  repaired-out (Some call) old run h o a k = subst (λ o. IsRepairedAnswer code inputs call.function call.args fuel h.0 old run o) k (a call.function call.args h.0 h.1)
-
-  pub repaired-done : (call : Option Call) (old run : Running) → IsOldRun code fuel inputs call old → (o : Propagation) → Propagates old run o → o ≡ propagation.Done → IsRepairOf code fuel inputs call old run
-  repaired-done None old run h o a k = elim h [ ]
-  repaired-done (Some call) old run h o a k = λ l was.
-      repaired-of code fuel inputs call was.fits l old was run (subst (λ o. IsRepairedAnswer code inputs call.function call.args fuel l old run o) k (a call.function call.args l was))
-
-  -- an honest trace is not out of fuel, and has no work
-  pub honest-in : (call : Option Call) (old run : Running) → IsStillHonest code fuel inputs call old → (o : Propagation) → Propagates old run o → o ≡ propagation.OutOfFuel → ⊥
-  honest-in None old run h o a k = elim h [ ]
-  honest-in (Some call) old run h o a k =
-      no-end code inputs call.function call.args h.1.fits fuel h.0 h.1.replays h.1.few h.2
-      (subst (λ o. IsRepairedAnswer code inputs call.function call.args fuel h.0 old run o) k (a call.function call.args h.0 h.1))
-
-  pub still-honest : (call : Option Call) (old : Running) → IsStillHonest code fuel inputs call old → (f : ℕ) × (args : List Word) × (l : Trace) × IsKeptRun code inputs f args fuel l old × IsHonest code inputs l
-  still-honest None old h = elim h [ ]
-  still-honest (Some call) old h = (call.function, call.args, h.0, h.1, h.2)

@@ -13,4 +13,6 @@ pub mod Carrying
 pub mod NoneStale
 pub mod Restored
 pub mod EngineLaws
+pub mod TraceSoFar
+pub mod LooksOfCalls
 pub mod Samples

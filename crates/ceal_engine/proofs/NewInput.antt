@@ -106,6 +106,7 @@ module _ (code : Code) (fuel : ℕ) (inputs : List Block) (phase : Phase) where
           trace = k.trace;
           of = kept-on code inputs (inputs ++ b ∷ []) call.function call.args fuel k.trace old run k.of (extended-longer code inputs b) new-fits (omega (arith, longer)) o.same (bases-more old run o k.of.stands.blocks.bases);
           present = λ e. on.honest same-bases (k.present e);
+          idle = λ e. o.looks.queue ∙ k.idle e;
         })
     keeps-longer (Some call) (Some old) (Some run) o (KeepsRun.part e k) = KeepsRun.part e
         (part-kept-on code fuel inputs (inputs ++ b ∷ []) call old run k (extended-longer code inputs b) new-fits (omega (arith, longer)) o.same (bases-more old run o))

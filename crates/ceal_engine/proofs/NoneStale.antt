@@ -1,5 +1,5 @@
 -- A repair that goes on where no read is stale, and what it leaves of the nodes at the beginning.
-use Rattle.std.proofs.Common.{◌≡◌, ◌≢◌, ◌⊎◌, inl, inr, ℕ, zero, suc, ◌≤◌, Option, Some, None, List, refl, sym, ap, ◌∙◌, subst, arith}
+use Rattle.std.proofs.Common.{◌≡◌, ◌≢◌, ◌⊎◌, inl, inr, ℕ, zero, suc, ◌≤◌, Ok, Option, Some, None, List, refl, sym, ap, ◌∙◌, subst, arith}
 use Rattle.std.specs.Option.{IsSomeAnd}
 use Rattle.ceal_base.specs.Block.{Block}
 use Rattle.ceal_base.specs.Trace.{Trace, trace_of}
@@ -9,16 +9,18 @@ use Rattle.ceal_code.proofs.Words.SameIsEqual.{some-same, none-some}
 use Rattle.ceal_code.specs.Program.{Code}
 use Rattle.ceal_code.specs.Replay.{IsHonest}
 use Rattle.ceal_engine.proofs.Carrying.{opened-none, same-as, open-run}
-use Rattle.ceal_engine.proofs.Present.{part-trace}
+use Rattle.ceal_engine.proofs.Present.{part-trace, no-run, part-run, whole-run}
 use Rattle.ceal_engine.proofs.Propagated.{kept-honest}
 use Rattle.ceal_engine.proofs.Repairs.{no-end}
 use Rattle.ceal_engine.specs.Completed.{opened, IsOpenRun, IsStillHonest}
 use Rattle.ceal_engine.specs.Engine.{EngineState, IsWhole, stands_for, trace, fresh_call}
-use Rattle.ceal_engine.specs.Keeping.{Keeps, forest_in, state_of}
-use Rattle.ceal_engine.specs.Repaired.{IsFirst, KeepsFront}
+use Rattle.ceal_engine.specs.Keeping.{Keeps, KeepsRun, forest_in, state_of}
+use Rattle.ceal_engine.specs.Partial.{CarriesFrom, Comes, IsRunAgain}
+use Rattle.ceal_engine.specs.Repaired.{KeepsFront}
 use Rattle.ceal_engine.specs.declared.phase.Came.{Came}
 use Rattle.ceal_engine.specs.declared.phase.Came.TheVariants as came
 use Rattle.ceal_engine.specs.declared.phase.Phase.{Phase}
+use Rattle.ceal_engine.specs.declared.phase.Phase.TheVariants.{Partial, Dropped}
 use Rattle.ceal_repair.specs.Propagation.{KeepsFront as KeepsNodes}
 use Rattle.ceal_repair.specs.Slicing.{IsPartRun, IsSliceOf}
 use Rattle.ceal_repair.specs.declared.running.Running.{Running}
@@ -87,8 +89,24 @@ front-kept code fuel inputs call phase after None run run' is h = none-some run 
 front-kept code fuel inputs call phase after (Some before) run run' is h = λ front back e agrees.
     h front back (ap (λ (t : Timeline). t.nodes) (same-as phase before run is).trace ∙ e) agrees
 
--- they are kept, or the trace is a first one
-pub front-or-first : (e n : EngineState) (far : Came) → (far ≢ came.Anew → KeepsFront e n) → (far ≡ came.Anew → IsSomeAnd (trace n) (IsFirst n)) → KeepsFront e n ⊎ IsSomeAnd (trace n) (IsFirst n)
-front-or-first e n came.More kept first = inl (kept (λ s. absurd cc))
-front-or-first e n came.Done kept first = inl (kept (λ s. absurd cc))
-front-or-first e n came.Anew kept first = inr (first refl)
+-- they are kept, or the call was run again in place of a repair
+pub front-or-again : (e n : EngineState) (reads : Option ℕ) (far : Came) → (far ≢ came.Anew → KeepsFront e n) → (far ≡ came.Anew → e.phase ≡ Partial) → ((next : ℕ) (r : Repair) → CarriesFrom e next r → Comes e n reads next r (Ok far))
+    → KeepsFront e n ⊎ IsRunAgain e n reads
+front-or-again e n reads came.More kept part comes = inl (kept (λ s. absurd cc))
+front-or-again e n reads came.Done kept part comes = inl (kept (λ s. absurd cc))
+front-or-again e n reads came.Anew kept part comes = inr (record { part = part refl; anew = comes })
+
+-- where there is no run there are no nodes
+pub front-of-none : (code : Code) (fuel : ℕ) (inputs : List Block) (phase : Phase) (call : Option Call) (run : Option Running) → Keeps code fuel inputs phase call run → phase ≡ Dropped → (n : EngineState)
+    → KeepsFront (state_of code fuel inputs call phase run) n
+front-of-none code fuel inputs phase call None k e n = tt
+front-of-none code fuel inputs phase None (Some run) k e n = elim k [ ]
+front-of-none code fuel inputs phase (Some call) (Some run) (KeepsRun.whole k) e n = absurd (no-run phase e (whole-run phase k.whole))
+front-of-none code fuel inputs phase (Some call) (Some run) (KeepsRun.part p k) e n = absurd (no-run phase e (part-run phase p))
+
+-- and no trace
+pub no-trace : (code : Code) (fuel : ℕ) (inputs : List Block) (phase : Phase) (call : Option Call) (run : Option Running) → Keeps code fuel inputs phase call run → phase ≡ Dropped → (l : Trace) → stands_for (forest_in run) ≡ Some l → ⊥
+no-trace code fuel inputs phase call None k e l h = none-some l h
+no-trace code fuel inputs phase None (Some run) k e l h = elim k [ ]
+no-trace code fuel inputs phase (Some call) (Some run) (KeepsRun.whole k) e l h = no-run phase e (whole-run phase k.whole)
+no-trace code fuel inputs phase (Some call) (Some run) (KeepsRun.part p k) e l h = no-run phase e (part-run phase p)

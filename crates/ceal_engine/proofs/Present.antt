@@ -30,7 +30,7 @@ use Rattle.ceal_engine.proofs.MoreMemory.{core-none}
 use Rattle.ceal_engine.proofs.RunMemory.{allocs-flat, low-numbers, inputs-held, cores-held, steps-held}
 use Rattle.ceal_engine.specs.Engine.{EngineState, ReplaysCall, IsPresent, IsTraced, IsEngine, IsTidy, IsHeapOf, IsWhole, has_run, core, stands_for}
 use Rattle.ceal_engine.specs.Completed.{trace_in}
-use Rattle.ceal_engine.specs.Keeping.{Kept, forest_in, timeline_in, heap_in, steps_kept, store_in, state_of, IsKept, IsPartKept, KeepsRun, Keeps, Sound}
+use Rattle.ceal_engine.specs.Keeping.{Kept, forest_in, timeline_in, heap_in, steps_kept, queued_kept, store_in, state_of, IsKept, IsPartKept, KeepsRun, Keeps, Sound}
 use Rattle.ceal_engine.specs.declared.phase.Phase.{Phase}
 use Rattle.ceal_engine.specs.declared.phase.Phase.TheVariants.{New, Finished as IsFinished, Pending, Partial, Dropped}
 use Rattle.ceal_heap.specs.Heap.{live_count, next}
@@ -132,11 +132,19 @@ module _ (code : Code) (ok : valid code ≡ true) (fuel : ℕ) (inputs : List Bl
 pub trace-kept : (code : Code) (fuel : ℕ) (inputs : List Block) (call : Call) (run : Running) (l : Trace) → IsKeptRun code inputs call.function call.args fuel l run → trace_in run ≡ Some l
 trace-kept code fuel inputs call run l of = ap trace_of of.stands.items ∙ trace-flat l
 
-no-run : (phase : Phase) → phase ≡ Dropped → has_run phase ≡ true → ⊥
+pub no-run : (phase : Phase) → phase ≡ Dropped → has_run phase ≡ true → ⊥
 no-run phase e h = absurd (grind (arith, rw e at h))
 
-not-both : (phase : Phase) → phase ≡ Partial → IsWhole phase → ⊥
+pub not-both : (phase : Phase) → phase ≡ Partial → IsWhole phase → ⊥
 not-both phase e h = absurd (grind (arith, rw e at h))
+
+-- a run that is no part of a repair is whole
+pub other-whole : (phase : Phase) → has_run phase ≡ true → (phase ≡ Partial → ⊥) → IsWhole phase
+other-whole New h n = absurd (grind (arith, h))
+other-whole IsFinished h n = refl
+other-whole Pending h n = refl
+other-whole Partial h n = absurd (n refl)
+other-whole Dropped h n = absurd (grind (arith, h))
 
 pub whole-run : (phase : Phase) → IsWhole phase → has_run phase ≡ true
 whole-run New h = absurd (grind (arith, h))
@@ -145,7 +153,7 @@ whole-run Pending h = refl
 whole-run Partial h = refl
 whole-run Dropped h = absurd (grind (arith, h))
 
-part-run : (phase : Phase) → phase ≡ Partial → has_run phase ≡ true
+pub part-run : (phase : Phase) → phase ≡ Partial → has_run phase ≡ true
 part-run phase e = rw e refl
 
 -- a run outside Partial
@@ -227,6 +235,11 @@ module _ (code : Code) (fuel : ℕ) (inputs : List Block) (kept : Kept) (phase :
   heap-there (Some call) (Some run) (KeepsRun.whole h) = sym (whole-run phase h.whole)
   heap-there (Some call) (Some run) (KeepsRun.part e h) = sym (part-run phase e)
 
+  idle : (call : Option Call) (run : Option Running) → Keeps code fuel inputs phase call run → phase ≡ IsFinished → queued_kept run ≡ 0
+  idle call None h e = refl
+  idle None (Some run) h e = elim h [ ]
+  idle (Some call) (Some run) h e = ap (λ (q : List ℕ). length q) ((whole-kept code fuel inputs phase call run h (finished-whole phase e)).idle e)
+
   none-left : (call : Option Call) (run : Option Running) → Keeps code fuel inputs phase call run → phase ≡ Dropped → (n : ℕ) → core (state_of code fuel inputs call phase run).memory n ≡ None
   none-left call None h e n = refl
   none-left None (Some run) h e n = elim h [ ]
@@ -250,6 +263,7 @@ module _ (code : Code) (fuel : ℕ) (inputs : List Block) (kept : Kept) (phase :
     numbers = numbers;
     traced = traced;
     present = present kept.call s.calls run s.keeps;
+    idle = idle kept.call run s.keeps;
     none_left = none-left kept.call run s.keeps;
     heap_there = heap-there kept.call run s.keeps;
   }

@@ -10,7 +10,7 @@ use Rattle.ceal_code.specs.Program.{Code}
 use Rattle.ceal_code.specs.Replay.{IsHonest, bases}
 use Rattle.ceal_engine.proofs.Present.{trace-kept, whole-kept}
 use Rattle.ceal_engine.proofs.Repairs.{still-repaired}
-use Rattle.ceal_engine.specs.Completed.{finished, trace_in, idle, told, IsOldRun, IsRepairedOf, IsRepairOf, IsStillHonest}
+use Rattle.ceal_engine.specs.Completed.{trace_in, idle, told, IsStillHonest}
 use Rattle.ceal_engine.specs.Engine.{IsWhole, has_run, stands_for}
 use Rattle.ceal_engine.specs.Keeping.{Kept, forest_in, work_kept, state_of, KeepsRun, Keeps, Sound}
 use Rattle.ceal_engine.specs.Repaired.{IsRepaired, IsUnchanged}
@@ -31,44 +31,6 @@ module _ (code : Code) (fuel : ℕ) (inputs : List Block) (phase : Phase) (whole
       let same : l ≡ k.trace = some-same l k.trace (sym e ∙ trace-kept code fuel inputs call run k.trace k.of) in
       (k.trace, k.of, subst (IsHonest code inputs) same honest)
 
-  -- a run of the call
-  pub old-run : (call : Option Call) (run : Running) → Keeps code fuel inputs phase call (Some run) → IsOldRun code fuel inputs call run
-  old-run None run h = elim h [ ]
-  old-run (Some call) run h = let k = whole-kept code fuel inputs phase call run h whole in (k.trace, k.of)
-
-  module _ (call : Option Call) (old run : Running) (h : Keeps code fuel inputs phase call (Some old)) (r : IsRepairOf code fuel inputs call old run) where
-    pub repaired-kept : Keeps code fuel inputs IsFinished call (Some run)
-    repaired-kept = go call h r
-      where
-        go : (call : Option Call) → Keeps code fuel inputs phase call (Some old) → IsRepairOf code fuel inputs call old run → Keeps code fuel inputs IsFinished call (Some run)
-        go None h r = elim h [ ]
-        go (Some call) h r = let k = whole-kept code fuel inputs phase call old h whole in (r k.trace k.of).kept
-
-    of-trace : (l : Trace) → trace_in old ≡ Some l → IsRepairedOf code fuel inputs call l old run
-    of-trace l e = go call h r
-      where
-        go : (call : Option Call) → Keeps code fuel inputs phase call (Some old) → IsRepairOf code fuel inputs call old run → IsRepairedOf code fuel inputs call l old run
-        go None h r = elim h [ ]
-        go (Some call) h r = let k = whole-kept code fuel inputs phase call old h whole in
-            subst (λ l. IsRepairedOf code fuel inputs (Some call) l old run) (some-same k.trace l (sym (trace-kept code fuel inputs call old k.trace k.of) ∙ e)) (r k.trace k.of)
-
-    pub repaired-clause : (l : Trace) → trace_in old ≡ Some l → IsSomeAnd (trace_in run) (IsRepaired (finished code fuel inputs call run) l)
-    repaired-clause l e = (of-trace l e).repaired
-
-    pub unchanged-clause : (l : Trace) → trace_in old ≡ Some l → IsHonest code inputs l → IsUnchanged (finished code fuel inputs call run) l
-    unchanged-clause l e h = ((of-trace l e).unchanged h).0
-
-    pub nodes-clause : (l : Trace) → trace_in old ≡ Some l → IsHonest code inputs l → run.tables.trace ≡ old.tables.trace
-    nodes-clause l e h = ((of-trace l e).unchanged h).1
-
-    pub front-clause : (front back : List Entry) → old.tables.trace.nodes ≡ front ++ back → AgreesAll code (bases code inputs) (forest_of front) → (later : List Entry) × (run.tables.trace.nodes ≡ front ++ later)
-    front-clause = go call h r
-      where
-        go : (call : Option Call) → Keeps code fuel inputs phase call (Some old) → IsRepairOf code fuel inputs call old run
-            → (front back : List Entry) → old.tables.trace.nodes ≡ front ++ back → AgreesAll code (bases code inputs) (forest_of front) → (later : List Entry) × (run.tables.trace.nodes ≡ front ++ later)
-        go None h r = elim h [ ]
-        go (Some call) h r = let k = whole-kept code fuel inputs phase call old h whole in (r k.trace k.of).front
-
 -- in Finished nothing is to be done
 pub finished-clause : (code : Code) (fuel : ℕ) (inputs : List Block) (call : Option Call) (run : Option Running) → Keeps code fuel inputs IsFinished call run → (phase : Phase) (after : Option Running) → forest_in after ≡ forest_in run
     → work_kept after ≡ 0 → (l : Trace) → stands_for (forest_in run) ≡ Some l → IsSomeAnd (stands_for (forest_in after)) (IsRepaired (state_of code fuel inputs call phase after) l)
@@ -83,7 +45,7 @@ finished-clause code fuel inputs (Some call) (Some run) h phase after f w l e =
 -- ---- a run of which nothing was re-executed
 
 module _ (code : Code) (fuel : ℕ) (inputs : List Block) (phase : Phase) (whole : IsWhole phase) where
-  idle-run : (f : ℕ) (args : List Word) (l : Trace) (run : Running) → IsKeptRun code inputs f args fuel l run → IsKeptRun code inputs f args fuel l (idle run)
+  pub idle-run : (f : ℕ) (args : List Word) (l : Trace) (run : Running) → IsKeptRun code inputs f args fuel l run → IsKeptRun code inputs f args fuel l (idle run)
   idle-run f args l run k = record {
     stands = record { kept = k.stands.kept; nests = k.stands.nests; items = k.stands.items; words = k.stands.words; released = k.stands.released; slots = k.stands.slots; blocks = k.stands.blocks };
     fits = k.fits;
@@ -95,7 +57,7 @@ module _ (code : Code) (fuel : ℕ) (inputs : List Block) (phase : Phase) (whole
   keeps-idle call None k = k
   keeps-idle None (Some run) k = k
   keeps-idle (Some call) (Some run) h = let k = whole-kept code fuel inputs phase call run h whole in
-      KeepsRun.whole (record { whole = whole; trace = k.trace; of = idle-run call.function call.args k.trace run k.of; present = k.present })
+      KeepsRun.whole (record { whole = whole; trace = k.trace; of = idle-run call.function call.args k.trace run k.of; present = k.present; idle = k.idle })
 
   pub sound-idle : (kept : Kept) (run : Option Running) → Sound code fuel inputs kept phase run → Sound code fuel inputs kept phase (option_map idle run)
   sound-idle kept run s = record {
@@ -133,7 +95,7 @@ module _ (code : Code) (fuel : ℕ) (inputs : List Block) (phase : Phase) (whole
   keeps-told call None k = k
   keeps-told None (Some run) k = k
   keeps-told (Some call) (Some run) h = let k = whole-kept code fuel inputs phase call run h whole in
-      KeepsRun.whole (record { whole = whole; trace = k.trace; of = told-run call.function call.args k.trace run k.of; present = k.present })
+      KeepsRun.whole (record { whole = whole; trace = k.trace; of = told-run call.function call.args k.trace run k.of; present = k.present; idle = k.idle })
 
   pub sound-told : (kept : Kept) (run : Option Running) → Sound code fuel inputs kept phase run → Sound code fuel inputs kept phase (option_map (told work) run)
   sound-told kept run s = record {

@@ -120,7 +120,7 @@ module _ (code : Code) (inputs : List Block) (f : ℕ) (args : List Word) (fits 
 
 module _ (code : Code) (fuel : ℕ) (inputs : List Block) (call : Call) (fits : Fits code inputs call.function call.args) where
   pub kept-as : (l : Trace) (run : Running) → IsRunOf code inputs call.function call.args fuel l run → IsKept code fuel inputs IsFinished call run
-  kept-as l run k = record { whole = refl; trace = l; of = kept-run code inputs call.function call.args fits fuel l run k; present = λ e. k.honest }
+  kept-as l run k = record { whole = refl; trace = l; of = kept-run code inputs call.function call.args fits fuel l run k; present = λ e. k.honest; idle = λ e. k.idle }
 
   pub trace-is : (l : Trace) (run : Running) → IsRunOf code inputs call.function call.args fuel l run → trace_in run ≡ Some l
   trace-is l run k = trace-kept code fuel inputs call run l (kept-run code inputs call.function call.args fits fuel l run k)
@@ -128,6 +128,7 @@ module _ (code : Code) (fuel : ℕ) (inputs : List Block) (call : Call) (fits : 
   -- a first run can be kept, and its trace is the first one
   pub first-of : (run : Running) → IsFirstRun code inputs call.function call.args fuel run → IsFirstOf code fuel inputs (Some call) run
   first-of run k = record {
+    looks = λ l. k.pays l;
     kept = KeepsRun.whole (kept-as k.trace run k.is_run);
     first = subst (λ o. IsSomeAnd o (IsFirst (finished code fuel inputs (Some call) run))) (sym (trace-is k.trace run k.is_run)) (record {
       first = k.first;

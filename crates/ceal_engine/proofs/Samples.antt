@@ -35,6 +35,10 @@ engine phase a = record {
   steps = 2;
   live = 0;
   work = 2;
+  looked = 1;
+  differed = 0;
+  queued = 0;
+  writes = 1;
 }
 
 its_trace : trace (engine IsFinished 4) ≡ Some (items 4 5)

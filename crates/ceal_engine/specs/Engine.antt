@@ -63,7 +63,9 @@ stored_at m (Core n) = core m n
 -- trace, `timeline` its nodes and `heap` its core blocks, in Finished and Pending, and `work` is the number
 -- of steps that were re-executed for it. In Partial they are those of the repair that goes on, and `work` is
 -- what was spent on it so far. `memory`, `steps` and `live` say something only in Finished, and `work` in
--- Finished and Partial
+-- Finished and Partial. Of a run or a repair, `looked` is how many contents were looked at since the run began,
+-- `differed` how many of them were not what a read had recorded, `queued` the number of reads that are queued, and
+-- `writes` that of the writes among the nodes
 pub record EngineState : Type 0 where
   pub code : Code
   pub fuel : ℕ
@@ -77,6 +79,10 @@ pub record EngineState : Type 0 where
   pub steps : ℕ
   pub live : ℕ
   pub work : ℕ
+  pub looked : ℕ
+  pub differed : ℕ
+  pub queued : ℕ
+  pub writes : ℕ
 
 -- the trace that the items stand for, if there are items
 abbrev pub stands_for : Option (List Item) → Option Trace
@@ -194,6 +200,8 @@ pub record IsEngine (e : EngineState) : Type 0 where
   pub numbers : IsWhole e.phase → IfSome (trace e) (λ l. IfSome e.heap (λ heap. Above (next heap) l))
   pub traced : e.phase ≡ IsFinished → IfSome (trace e) (IsTraced e)
   pub present : e.phase ≡ IsFinished → IsPresent e
+  -- no read is queued where nothing is to be done
+  pub idle : e.phase ≡ IsFinished → e.queued ≡ 0
   -- in Dropped nothing of a run is there, and no core block
   pub none_left : e.phase ≡ Dropped → (n : ℕ) → core e.memory n ≡ None
   pub heap_there : is_some e.heap ≡ has_run e.phase
@@ -230,6 +238,12 @@ is_plain _ = false
 abbrev pub Shows : EngineState → BlockId → Type 0
 Shows e (Input n) = ⊤
 Shows e (Core n) = e.phase ≡ IsFinished
+
+-- memory does not run out
+abbrev pub NeedsNoMemory : {A : Type 0} → Result A RunError → Type 0
+NeedsNoMemory (Ok x) = ⊤
+NeedsNoMemory (Err Memory) = ⊥
+NeedsNoMemory (Err OutOfFuel) = ⊤
 
 -- what holds where a run was out of fuel
 abbrev pub IfOutOfFuel : {A : Type 0} → Result A RunError → Type 0 → Type 0

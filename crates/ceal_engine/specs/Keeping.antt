@@ -23,6 +23,7 @@ use Rattle.ceal_heap.specs.Heap.{Contents, plain_of, next, live_count}
 use Rattle.ceal_mods.specs.Cell.{latest_value}
 use Rattle.ceal_mods.specs.Mods.{Contents as Mods, cell_of}
 use Rattle.ceal_repair.specs.Answers.{IsKeptRun}
+use Rattle.ceal_repair.specs.Looks.{write_count}
 use Rattle.ceal_repair.specs.Slicing.{IsPartRun}
 use Rattle.ceal_repair.specs.declared.running.Running.{Running}
 use Rattle.ceal_theory.specs.Carried.{Carried}
@@ -101,6 +102,25 @@ abbrev pub work_kept : Option Running → ℕ
 work_kept None = 0
 work_kept (Some run) = run.spent
 
+-- how many contents were looked at, and how many differed from what a read had recorded
+abbrev pub looked_kept : Option Running → ℕ
+looked_kept None = 0
+looked_kept (Some run) = run.tables.mods.looked
+
+abbrev pub differed_kept : Option Running → ℕ
+differed_kept None = 0
+differed_kept (Some run) = run.tables.mods.differed
+
+-- how many reads are queued
+abbrev pub queued_kept : Option Running → ℕ
+queued_kept None = 0
+queued_kept (Some run) = length run.tables.stale.stamps
+
+-- how many writes the nodes have
+abbrev pub writes_kept : Option Running → ℕ
+writes_kept None = 0
+writes_kept (Some run) = write_count run.tables.trace.nodes
+
 -- what contracts see of an engine of these parts
 abbrev pub state_of : Code → ℕ → List Block → Option Call → Phase → Option Running → EngineState
 state_of code fuel inputs call phase run = record {
@@ -116,15 +136,20 @@ state_of code fuel inputs call phase run = record {
   steps = steps_kept run;
   live = live_kept run;
   work = work_kept run;
+  looked = looked_kept run;
+  differed = differed_kept run;
+  queued = queued_kept run;
+  writes = writes_kept run;
 }
 
--- The run's nodes stand for a trace of the call, which in Finished is honest on the present inputs.
+-- The run's nodes stand for a trace of the call. In Finished it is honest on the present inputs, and no read is queued.
 pub record IsKept
     (code : Code) (fuel : ℕ) (inputs : List Block) (phase : Phase) (call : Call) (run : Running) : Type 0 where
   pub whole : IsWhole phase
   pub trace : Trace
   pub of : IsKeptRun code inputs call.function call.args fuel trace run
   pub present : phase ≡ IsFinished → IsHonest code inputs trace
+  pub idle : phase ≡ IsFinished → run.tables.stale.stamps ≡ []
 
 -- The run's nodes stand for a repair of the call that goes on; it is one with new blocks numbered in their
 -- order, but that the new blocks have the numbers that the heap gave to them.

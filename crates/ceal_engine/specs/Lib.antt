@@ -4,5 +4,6 @@ pub mod Repaired
 pub mod Keeping
 pub mod Completed
 pub mod Partial
+pub mod Looks
 -- what its own functions say of each other
 pub mod Reading

@@ -6,9 +6,10 @@ use Rattle.ceal_base.specs.Trace.{Trace}
 use Rattle.ceal_base.specs.declared.call.Call.{Call}
 use Rattle.ceal_base.specs.declared.word.BlockId.TheVariants.{Core}
 use Rattle.ceal_code.specs.Alike.{Pairs, Tied, TraceAlike, OneToOne}
+use Rattle.ceal_code.specs.Replay.{IsHonest}
 use Rattle.ceal_code.specs.Value.{Plain}
 use Rattle.ceal_engine.specs.Engine.{EngineState, IsEngine, IsWhole, trace}
-use Rattle.ceal_engine.specs.Repaired.{IsFirst}
+use Rattle.ceal_engine.specs.Repaired.{IsFirst, IsRepaired, IsUnchanged}
 use Rattle.ceal_engine.specs.declared.phase.Came.{Came}
 use Rattle.ceal_engine.specs.declared.phase.Came.TheVariants as came
 use Rattle.ceal_engine.specs.declared.phase.Phase.{Phase}
@@ -73,12 +74,14 @@ pub record IsUnderWay (e : EngineState) : Type 0 where
   pub carries : CarriesFrom e next repair
   pub few : e.work ≤ e.fuel
 
--- the items are those of the repair with core blocks renamed one to one; those below `next` keep their numbers
-pub record RenamedFrom (next : ℕ) (l m : Trace) : Type 0 where
+-- The items are those of the repair with core blocks renamed one to one. Those below `next` keep their numbers, and a
+-- block that the repair did not know before has a number that no block had, live or revoked.
+pub record RenamedFrom (e : EngineState) (next : ℕ) (r : Repair) (l m : Trace) : Type 0 where
   pub pairs : Pairs
   pub one : OneToOne pairs
   pub alike : TraceAlike pairs l m
   pub kept : (b c : ℕ) → Tied b c pairs → b < next → b ≡ c
+  pub apart : (b c : ℕ) → Tied b c pairs → r.known (Core b) ≡ None → words_in e.heap (Core c) ≡ None
 
 -- A slice of the repair is there, and is not done; the engine goes on with it.
 pub record GoesOn (e n : EngineState) (k : Option ℕ) (next : ℕ) (r : Repair) : Type 0 where
@@ -92,13 +95,26 @@ pub record Ends (e n : EngineState) (k : Option ℕ) (next : ℕ) (r : Repair) :
   pub repair : Repair
   pub is : sliced e.code own e.inputs k e.fuel r ≡ Some repair
   pub done : is_done e.code e.inputs repair ≡ true
-  pub items : IsSomeAnd (trace n) (RenamedFrom next repair.items)
+  pub items : IsSomeAnd (trace n) (RenamedFrom e next r repair.items)
   pub work : n.work ≡ repair.spent
 
 -- No slice is there within the fuel; the call was run again.
 pub record IsAnew (e n : EngineState) (k : Option ℕ) (r : Repair) : Type 0 where
   pub none : sliced e.code own e.inputs k e.fuel r ≡ None
   pub first : IsSomeAnd (trace n) (IsFirst n)
+
+-- The call was run again in place of a repair that was under way.
+pub record IsRunAgain (e n : EngineState) (k : Option ℕ) : Type 0 where
+  pub part : e.phase ≡ Partial
+  pub anew : (next : ℕ) (r : Repair) → CarriesFrom e next r → IsAnew e n k r
+
+-- What a repair of a run makes of its trace, by how far it has come. Where nothing was stale nothing has changed.
+abbrev pub IsRepairSoFar : EngineState → EngineState → Trace → Came → Type 0
+IsRepairSoFar e n l came.More = ⊤
+IsRepairSoFar e n l came.Done =
+    IsSomeAnd (trace n) (IsRepaired n l)
+    × (IsHonest e.code e.inputs l → IsUnchanged n l × (n.timeline ≡ e.timeline))
+IsRepairSoFar e n l came.Anew = ⊥
 
 -- no slice is there within the fuel, or it is done
 abbrev pub IsOut : EngineState → Option ℕ → Repair → Type 0

@@ -1,14 +1,17 @@
 // The engine.
 
-ghost use Rattle.std.specs.Prelude.{◌≡◌, ◌∷◌, [], ◌++◌, ◌<◌, ◌+◌, ◌^◌, true, Some, None, IfOk, OnOk, OnErr, length};
+ghost use Rattle.std.specs.Prelude.{◌≡◌, ◌∷◌, ℕ, [], ◌++◌, ◌<◌, ◌+◌, ◌^◌, true, Some, None, IfOk, OnOk, OnErr, length};
 ghost use Rattle.std.specs.Option.{IsSomeAnd};
 ghost use Rattle.ceal_base.specs.Fitting.{block_fits, inputs_fit};
 ghost use Rattle.ceal_base.specs.declared.word.BlockId.TheVariants.{Input};
 ghost use Rattle.ceal_code.specs.Valid.{valid};
 ghost use Rattle.ceal_engine.specs.Engine.{InLimits, alone, trace, edited, takes, with_base};
 ghost use Rattle.ceal_engine.specs.Completed.{finished};
+ghost use Rattle.ceal_engine.specs.Looks.{LooksAtNothing, LooksOfEdit};
+ghost use Rattle.ceal_engine.specs.Partial.{CarriesFrom};
 ghost use Rattle.ceal_engine.specs.Repaired.{IsRestorable, IsRestored};
 ghost use Rattle.ceal_engine.specs.declared.phase.Phase.TheVariants.{New, Finished, Pending, Partial, Dropped};
+ghost use Rattle.ceal_theory.specs.Slices.{Repair as RepairOf};
 
 use crate::kept_call::{KeptCall, most_arguments};
 use crate::phase::Phase;
@@ -103,12 +106,7 @@ impl Engine {
 
     /// An engine without inputs. A run may take `fuel` steps. It takes the room for the arguments of a call. Any seed is
     /// right: its memo tables begin with it.
-    pub fn seeded(
-        alloc: Global,
-        code: Code,
-        fuel: u32,
-        seed: Seed,
-    ) -> Result<Engine, NoMemory>
+    pub fn seeded(alloc: Global, code: Code, fuel: u32, seed: Seed) -> Result<Engine, NoMemory>
         requires valid { valid code ≡ true }
         requires fuel { InLimits fuel }
         ensures code { IfOk result (λ e. e.code ≡ code) }
@@ -227,6 +225,9 @@ impl Engine {
         ensures nodes { self.new.timeline ≡ self.old.timeline }
         ensures heap { self.new.heap ≡ self.old.heap }
         ensures work { self.new.work ≡ self.old.work }
+        ensures carries { OnOk result ((next : ℕ) (r : RepairOf) →
+            CarriesFrom self.old next r → CarriesFrom self.new next r) }
+        ensures looks { LooksAtNothing self.old self.new }
         ensures number { IfOk result (λ id. id ≡ Input (length self.old.inputs)) }
         ensures inputs { OnOk result
             (self.new.inputs ≡ self.old.inputs ++
@@ -252,6 +253,9 @@ impl Engine {
         ensures nodes { self.new.timeline ≡ self.old.timeline }
         ensures heap { self.new.heap ≡ self.old.heap }
         ensures work { self.new.work ≡ self.old.work }
+        ensures carries { OnOk result ((next : ℕ) (r : RepairOf) →
+            CarriesFrom self.old next r → CarriesFrom self.new next r) }
+        ensures looks { LooksOfEdit self.old self.new }
         ensures phase { OnOk result (self.new.phase ≡ edited self.old.phase) }
         ensures inputs { OnOk result (self.new.inputs ≡ with_base self.old.inputs place value) }
         ensures err { OnErr result (self.new ≡ self.old) }

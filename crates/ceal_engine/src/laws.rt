@@ -1,5 +1,6 @@
 // Laws of engines, each the contract of a function that does nothing.
 
+ghost use Rattle.ceal_engine.specs.Looks.{LooksLaw};
 ghost use Rattle.ceal_engine.specs.Partial.{BeginsLaw, KeptLaw};
 
 /// An engine with a run carries the repair that begins from its trace.
@@ -10,4 +11,10 @@ pub fn begins_law()
 /// After an edit, and with one input more, an engine carries the repair that it carried.
 pub fn kept_law()
     ensures law { KeptLaw }
+{}
+
+/// What any list of edits, new inputs and repairs looks at is bounded by the edits, by the steps and the reads that are
+/// re-executed and by the writes that the trace loses, whatever its size.
+pub fn looks_law()
+    ensures law { LooksLaw }
 {}

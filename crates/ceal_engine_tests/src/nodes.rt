@@ -9,6 +9,7 @@ use ceal_base::forest::Item;
 use ceal_base::memory::Inputs;
 use ceal_base::no_memory::NoMemory;
 use ceal_code::code::Code;
+use ceal_memo::seed::Seed;
 use ceal_repair::first::first;
 use ceal_repair::running::{Outcome, Running};
 use ceal_samples::calls::fits;
@@ -83,7 +84,8 @@ fn run_of(alloc: Global, code: &Code, inputs: &Inputs, fuel: u32) -> Result<Outc
     if !fits(code, 1, &args, inputs) {
         return Err(Fail::from("the call does not fit"));
     }
-    Ok(first(alloc, code, 1, &args, inputs, fuel)?)
+    let seed = Seed::of(1, 2);
+    Ok(first(alloc, code, 1, &args, inputs, fuel, &seed)?)
 }
 
 /// MAP over the list 1, 2, 3.

@@ -15,7 +15,7 @@ use ceal_base::word::{BlockId, Place, Word};
 use ceal_compile::compile::compile;
 use ceal_compile::program::Program;
 use ceal_engine::engine::Engine;
-use ceal_engine::phase::Phase;
+use ceal_engine::phase::{Phase, Progress};
 use ceal_engine::run_error::RunError;
 use ceal_mean::run::{Outcome, interpret};
 use ceal_record::record::record;
@@ -57,6 +57,21 @@ fn recovers<R: Abort>(rt: &R, engine: &mut Engine, answer: Result<(), RunError>)
             holds(rt, engine.propagate().is_ok());
         }
     }
+}
+
+/// Slices of one read until the run is up to date, also where memory is refused once: then the run is dropped, and the next
+/// slice runs the call again.
+fn by_slices<R: Abort>(rt: &R, engine: &mut Engine) {
+    for _slice in 0..4 {
+        holds(rt, engine.phase() != Phase::New);
+        match engine.slice(1) {
+            Ok(Progress::Done) => return,
+            Ok(Progress::More) => holds(rt, engine.phase() == Phase::Partial),
+            Err(RunError::OutOfFuel) => panic!(rt; "it is out of fuel"),
+            Err(RunError::Memory) => holds(rt, engine.phase() == Phase::Dropped),
+        }
+    }
+    panic!(rt; "reads are still stale")
 }
 
 /// The run has that many steps and core blocks.
@@ -179,8 +194,8 @@ fn put_before<R: Abort>(rt: &R, engine: &mut Engine) {
     edit(rt, engine, place, input(5));
 }
 
-/// The calls of a list with a new cell before it, each made again where memory was refused.
-fn calls<R: Abort>(rt: &R, alloc: Global, program: &Typed, engine: &mut Engine) {
+/// A list and its image, made again where memory was refused.
+fn first_call<R: Abort>(rt: &R, alloc: Global, program: &Typed, engine: &mut Engine) {
     fill(rt, engine);
     let args = [at(3), at(4)];
     holds(rt, engine.takes_call(1, &args));
@@ -188,6 +203,20 @@ fn calls<R: Abort>(rt: &R, alloc: Global, program: &Typed, engine: &mut Engine) 
     recovers(rt, engine, answer);
     has(rt, engine, 18, 3);
     is_as_anew(rt, alloc, program, engine);
+}
+
+/// The same with a new cell before it, in slices.
+fn slices<R: Abort>(rt: &R, alloc: Global, program: &Typed, engine: &mut Engine) {
+    first_call(rt, alloc, program, engine);
+    put_before(rt, engine);
+    by_slices(rt, engine);
+    has(rt, engine, 23, 4);
+    is_as_anew(rt, alloc, program, engine);
+}
+
+/// The calls of a list with a new cell before it, each made again where memory was refused.
+fn calls<R: Abort>(rt: &R, alloc: Global, program: &Typed, engine: &mut Engine) {
+    first_call(rt, alloc, program, engine);
     put_before(rt, engine);
     holds(rt, engine.phase() != Phase::New);
     let answer = engine.propagate();
@@ -203,6 +232,18 @@ fn a_call_may_be_made_again(rt: HostRuntime) -> Result<(), Fail> {
         return Ok(());
     };
     calls(&rt, alloc, &program, &mut engine);
+    drop(engine);
+    drop(program);
+    Ok(())
+}
+
+#[test]
+fn a_slice_may_be_made_again(rt: HostRuntime) -> Result<(), Fail> {
+    let alloc = rt.alloc();
+    let Some((program, mut engine)) = engine(alloc) else {
+        return Ok(());
+    };
+    slices(&rt, alloc, &program, &mut engine);
     drop(engine);
     drop(program);
     Ok(())

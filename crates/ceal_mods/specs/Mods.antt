@@ -10,8 +10,8 @@ use Rattle.ceal_mods.specs.Writes.{stamps_of}
 use Rattle.ceal_mods.specs.Cell.{untouched, Rises}
 use Rattle.ceal_mods.specs.declared.cell.Cell.{Cell}
 
--- what a caller sees: the cells of the places that were touched, how often a value was looked up, and how often it differed
--- from what had been recorded of it
+-- what a caller sees: the cells of the places that were touched, how often a value was looked up, and how often it
+-- differed from what had been recorded of it
 pub record Contents : Type 0 where
   pub cells : List (Place × Cell)
   pub looked : ℕ

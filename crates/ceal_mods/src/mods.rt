@@ -55,6 +55,7 @@ impl Mods {
     pub fn new(alloc: Global) -> Result<Mods, NoMemory>
         ensures cells { IfOk result IsUntouched }
         ensures looked { IfOk result (λ mods. mods.looked ≡ 0) }
+        ensures differed { IfOk result (λ mods. mods.differed ≡ 0) }
         ensures follows { IfOk result (λ mods. (order : List ℕ) → Follows order mods) }
     {
         Ok(Mods {

@@ -1,5 +1,5 @@
 -- What a run from nothing and a repair come to.
-use Rattle.std.specs.Prelude.{◌≡◌, ℕ, ◌≤◌, ◌++◌, Some, None, List}
+use Rattle.std.specs.Prelude.{◌≡◌, ℕ, ◌≤◌, ◌++◌, Some, None, List, [], ⊤}
 use Rattle.ceal_base.specs.Block.{Block}
 use Rattle.ceal_base.specs.Trace.{Trace, Nothing, flat, steps_of}
 use Rattle.ceal_base.specs.declared.word.BlockId.{BlockId}
@@ -11,12 +11,13 @@ use Rattle.ceal_code.specs.Program.{Code}
 use Rattle.ceal_code.specs.Replay.{Replays, IsHonest, bases, plain_of}
 use Rattle.ceal_heap.specs.Heap.{Known, Revoked, HasSlots, standing, plain_of as heap_words}
 use Rattle.ceal_repair.specs.Blocks.{HasBlocks}
-use Rattle.ceal_repair.specs.declared.propagate.Propagation.{Propagation}
-use Rattle.ceal_repair.specs.declared.propagate.Propagation.TheVariants as propagation
+use Rattle.ceal_repair.specs.declared.advance.Progress.{Progress}
+use Rattle.ceal_repair.specs.declared.advance.Progress.TheVariants as progress
 use Rattle.ceal_repair.specs.declared.running.Outcome.{Outcome}
 use Rattle.ceal_repair.specs.declared.running.Outcome.TheVariants.{Done, OutOfFuel}
 use Rattle.ceal_repair.specs.declared.running.Running.{Running}
 use Rattle.ceal_repair.specs.Kept.{Kept}
+use Rattle.ceal_repair.specs.Looks.{PaysFirst}
 use Rattle.ceal_theory.specs.Adjust.{Above}
 use Rattle.ceal_theory.specs.Computed.{Repaired, adjusted, first_of}
 use Rattle.ceal_theory.specs.Named.{Apart, Named, naming, trace_by}
@@ -45,15 +46,18 @@ pub record IsKeptRun (code : Code) (inputs : List Block) (f : ℕ) (args : List 
   pub replays : Replays code inputs f args l
   pub few : steps_of l ≤ fuel
 
--- The nodes stand for a trace of the call that is honest on the inputs and has no more steps than the fuel.
+-- The nodes stand for a trace of the call that is honest on the inputs and has no more steps than the fuel, and no read
+-- is queued.
 pub record IsRunOf (code : Code) (inputs : List Block) (f : ℕ) (args : List Word) (fuel : ℕ)
     (l : Trace) (run : Running) : Type 0 where
   pub stands : Stands code inputs l run
   pub replays : Replays code inputs f args l
   pub honest : IsHonest code inputs l
   pub few : steps_of l ≤ fuel
+  pub idle : run.tables.stale.stamps ≡ []
 
--- The trace is the first trace of the call, with these names for its blocks; all its steps are work.
+-- The trace is the first trace of the call, with these names for its blocks; all its steps are work, and they pay for
+-- what was looked at.
 pub record IsFirstRun (code : Code) (inputs : List Block) (f : ℕ) (args : List Word) (fuel : ℕ)
     (run : Running) : Type 0 where
   pub trace : Trace
@@ -63,6 +67,7 @@ pub record IsFirstRun (code : Code) (inputs : List Block) (f : ℕ) (args : List
   pub names : ℕ → ℕ
   pub named : Named code inputs f args Nothing 0 names first.items trace
   pub work : run.spent ≡ first.work
+  pub pays : PaysFirst run
 
 -- out of fuel exactly when the run from scratch is
 abbrev pub IsFirst : Code → List Block → ℕ → List Word → ℕ → Outcome → Type 0
@@ -94,8 +99,11 @@ pub record IsRepairedRun (code : Code) (inputs : List Block) (f : ℕ) (args : L
       → AgreesAll code (bases code inputs) (forest_of front)
       → (later : List Entry) × (run.tables.trace.nodes ≡ front ++ later)
 
--- what a propagation makes of a run, by what it comes to
-abbrev pub IsRepaired : Code → List Block → ℕ → List Word → ℕ → Trace → Running → Running → Propagation → Type 0
-IsRepaired code inputs f args fuel old before run propagation.Done =
+-- what a propagation makes of a run of the call, by how far it has come; where the steps do not suffice, those of a
+-- run from scratch do not either
+abbrev pub IsRepaired : Code → List Block → ℕ → List Word → ℕ → Trace → Running → Running → Progress → Type 0
+IsRepaired code inputs f args fuel old before run progress.More = ⊤
+IsRepaired code inputs f args fuel old before run progress.Done =
     IsRepairedRun code inputs f args fuel old before run
-IsRepaired code inputs f args fuel old before run propagation.OutOfFuel = fresh code f args inputs fuel ≡ None
+IsRepaired code inputs f args fuel old before run progress.Spent = fresh code f args inputs fuel ≡ None
+IsRepaired code inputs f args fuel old before run progress.OutOfFuel = fresh code f args inputs fuel ≡ None

@@ -1,14 +1,15 @@
 -- Change propagation under way.
-use Rattle.std.specs.Prelude.{◌≡◌, ◌<◌, ◌≤◌, ⊤, Option, Bool, true, false, ℕ, Some, None, List, ◌++◌}
+use Rattle.std.specs.Prelude.{◌≡◌, ◌<◌, ◌≤◌, ⊤, Option, Bool, true, false, ℕ, Some, None, List, [], ◌++◌}
 use Rattle.ceal_base.specs.Block.{Block}
-use Rattle.ceal_base.specs.Trace.{flat}
+use Rattle.ceal_base.specs.Trace.{flat, steps_in}
 use Rattle.ceal_base.specs.declared.word.Word.{Word}
 use Rattle.ceal_code.specs.Program.{Code}
 use Rattle.ceal_code.specs.Replay.{IsHonest, bases}
+use Rattle.ceal_heap.specs.Heap.{HasSlots, ReleasesRevoked}
 use Rattle.ceal_repair.specs.Moment.{Start}
 use Rattle.ceal_repair.specs.Turning.{Since, later, NamesOff, IsOrigin, TurnedSoFar, TurnBegan, TurnEnded}
-use Rattle.ceal_repair.specs.declared.repair.turns.Ending.{Ending}
-use Rattle.ceal_repair.specs.declared.repair.turns.Ending.TheVariants.{Done, More, Spent}
+use Rattle.ceal_repair.specs.declared.advance.Progress.{Progress}
+use Rattle.ceal_repair.specs.declared.advance.Progress.TheVariants.{More, Done, Spent, OutOfFuel}
 use Rattle.ceal_repair.specs.declared.running.Running.{Running}
 use Rattle.ceal_theory.specs.Repair.{Single}
 use Rattle.ceal_theory.specs.Slices.{sliced}
@@ -33,11 +34,12 @@ pub record HasCome (code : Code) (inputs : List Block) (f : ℕ) (args : List Wo
   pub unchanged : IsHonest code inputs o.repair.items
       → (run.tables.trace ≡ before.tables.trace) × (run.spent ≡ o.repair.spent)
 
--- and no read is stale any more
+-- and no read is stale any more, and none is queued
 pub record IsUpToDate (code : Code) (inputs : List Block) (f : ℕ) (args : List Word)
     (o : Since) (before run : Running) : Type 0 where
   pub come : HasCome code inputs f args o before run
   pub honest : IsHonest code inputs come.so_far.repair.items
+  pub idle : run.tables.stale.stamps ≡ []
 
 -- More steps were spent in the next turn than the fuel allows: no slice of more reads than there were turns,
 -- and none without a number of reads, comes to an end within it.
@@ -63,14 +65,37 @@ pub record IsUnderWay (code : Code) (inputs : List Block) (f : ℕ) (args : List
   pub come : HasCome code inputs f args o before run
   pub stale : ¬ IsHonest code inputs come.so_far.repair.items
 
+-- all steps of the nodes of a run
+abbrev pub steps_of_run : Running → ℕ
+steps_of_run run = steps_in (forest_of run.tables.trace.nodes)
+
+-- A run that is up to date has no more steps than the fuel, and its revoked blocks were released.
+pub record IsReleased (fuel : ℕ) (old new : Running) : Type 0 where
+  pub tables : new.tables ≡ old.tables
+  pub spent : new.spent ≡ old.spent
+  pub few : steps_of_run old ≤ fuel
+  pub released : ReleasesRevoked old.heap new.heap
+  pub slots : HasSlots new.heap
+
+-- how a run that is up to date ends: it may have more steps than the fuel
+abbrev pub Concludes : Progress → ℕ → Running → Running → Type 0
+Concludes More fuel old new = ⊥
+Concludes Done fuel old new = IsReleased fuel old new
+Concludes Spent fuel old new = ⊥
+Concludes OutOfFuel fuel old new = (new ≡ old) × (fuel < steps_of_run old)
+
 -- after some turns more a run is up to date, or under way, or too many steps were spent
-abbrev pub Propagated : Ending → Code → List Block → ℕ → List Word → Option ℕ → ℕ → Since → Running → Running → Type 0
-Propagated Done code inputs f args reads fuel o before run =
-    (n : ℕ) × IsWithin n reads × IsUpToDate code inputs f args (later n o) before run
+abbrev pub Propagated :
+    Progress → Code → List Block → ℕ → List Word → Option ℕ → ℕ → Since → Running → Running → Type 0
 Propagated More code inputs f args reads fuel o before run =
     (n : ℕ) × (reads ≡ Some n) × IsUnderWay code inputs f args (later n o) before run
+Propagated Done code inputs f args reads fuel o before run =
+    (n : ℕ) × IsWithin n reads × (last : Running) × IsUpToDate code inputs f args (later n o) before last
+    × IsReleased fuel last run
 Propagated Spent code inputs f args reads fuel o before run =
     (n : ℕ) × IsLess n reads × IsSpent code inputs fuel (later n o)
+Propagated OutOfFuel code inputs f args reads fuel o before run =
+    (n : ℕ) × IsWithin n reads × IsUpToDate code inputs f args (later n o) before run × (fuel < steps_of_run run)
 
 -- one turn from a run to the next
 pub record TurnMade (code : Code) (inputs : List Block) (f : ℕ) (args : List Word)

@@ -1,7 +1,6 @@
 -- What slices of a repair that goes on come to.
 use Rattle.std.specs.Prelude.{◌≡◌, ◌≤◌, ℕ, Option, Some, None, List}
 use Rattle.ceal_base.specs.Block.{Block}
-use Rattle.ceal_base.specs.Trace.{Trace}
 use Rattle.ceal_base.specs.declared.word.BlockId.TheVariants.{Core}
 use Rattle.ceal_base.specs.declared.word.Word.{Word}
 use Rattle.ceal_code.specs.Fitting.{Fits}
@@ -10,9 +9,9 @@ use Rattle.ceal_code.specs.Program.{Code}
 use Rattle.ceal_code.specs.Replay.{IsHonest}
 use Rattle.ceal_repair.specs.Answers.{IsRunOf}
 use Rattle.ceal_repair.specs.Turning.{StandsFor}
+use Rattle.ceal_repair.specs.declared.advance.Progress.{Progress}
+use Rattle.ceal_repair.specs.declared.advance.Progress.TheVariants.{More, Done, Spent, OutOfFuel}
 use Rattle.ceal_repair.specs.declared.running.Running.{Running}
-use Rattle.ceal_repair.specs.declared.slice.Sliced.{Sliced}
-use Rattle.ceal_repair.specs.declared.slice.Sliced.TheVariants.{More, Done, Spent, OutOfFuel}
 use Rattle.ceal_theory.specs.Carried.{counted_anew}
 use Rattle.ceal_theory.specs.Repair.{Single}
 use Rattle.ceal_theory.specs.Slices.{Repair, sliced}
@@ -33,15 +32,8 @@ pub record IsSliceOf (code : Code) (inputs : List Block) (reads : Option ℕ) (f
   pub off : (k : ℕ) → r.known (Core (names k)) ≡ None
   pub is : sliced code names inputs reads fuel (counted_anew r) ≡ o
 
--- what a run that is up to date, whose items are these, comes to, and what it is then
-abbrev pub IsConcluded : Code → List Block → ℕ → List Word → ℕ → Trace → ℕ → Running → Sliced → Type 0
-IsConcluded code inputs f args fuel l spent run More = ⊥
-IsConcluded code inputs f args fuel l spent run Done = IsRunOf code inputs f args fuel l run × (run.spent ≡ spent)
-IsConcluded code inputs f args fuel l spent run Spent = ⊥
-IsConcluded code inputs f args fuel l spent run OutOfFuel = fresh code f args inputs fuel ≡ None
-
--- what a slice comes to, and what the run is then
-abbrev pub IsSliced : Code → List Block → ℕ → List Word → Option ℕ → ℕ → Repair → Running → Sliced → Type 0
+-- how far a slice has come, and what the run is then
+abbrev pub IsSliced : Code → List Block → ℕ → List Word → Option ℕ → ℕ → Repair → Running → Progress → Type 0
 IsSliced code inputs f args reads fuel r run More =
     (r' : Repair) × IsSliceOf code inputs reads fuel r (Some r')
     × (¬ IsHonest code inputs r'.items) × IsPartRun code inputs f args fuel r' run

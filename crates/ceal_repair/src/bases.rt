@@ -184,6 +184,8 @@ pub fn set_inputs(
     ensures others { (p : PlaceOf)
         → ((i : ℕ) → i < length inputs.now → same_block p.block (Input i) ≡ false)
         → base_in tables.new.mods p ≡ base_in tables.old.mods p }
+    ensures looked { tables.new.mods.looked ≡ tables.old.mods.looked }
+    ensures differed { NoneDiffers tables.old tables.new }
     ensures kept { Kept tables.new }
 {
     let count = inputs.items().len() as u32;

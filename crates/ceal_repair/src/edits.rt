@@ -9,7 +9,7 @@ ghost use Rattle.ceal_code.specs.Replay.{stored};
 ghost use Rattle.ceal_code.specs.Value.{field_kind as kind_of};
 ghost use Rattle.ceal_mods.specs.Mods.{HasCell, cell_of};
 ghost use Rattle.ceal_repair.specs.Kept.{Kept, base_in};
-ghost use Rattle.ceal_repair.specs.Looks.{NoneDiffers};
+ghost use Rattle.ceal_repair.specs.Looks.{LooksAtNothing, NoneDiffers};
 ghost use Rattle.ceal_repair.specs.Words.{base_of, IsTouched, NONE_BEHIND};
 
 use crate::bases::word_or_default;
@@ -27,6 +27,7 @@ fn touch(tables: &mut Tables, place: Place) -> Result<(), NoMemory>
     requires bare { base_in tables.old.mods place ≡ Num (pos 0) }
     ensures trace { tables.new.trace ≡ tables.old.trace }
     ensures cells { (p : PlaceOf) → cell_of tables.new.mods p ≡ cell_of tables.old.mods p }
+    ensures looks { LooksAtNothing tables.old tables.new }
     ensures touched { OnOk result (HasCell tables.new.mods place) }
     ensures others { (p : PlaceOf) → HasCell tables.old.mods p → HasCell tables.new.mods p }
     ensures kept { Kept tables.new }
@@ -46,6 +47,7 @@ pub fn touch_input(
         (record { block = Input input; field = field }) ≡ Num (pos 0) }
     ensures trace { tables.new.trace ≡ tables.old.trace }
     ensures cells { (p : PlaceOf) → cell_of tables.new.mods p ≡ cell_of tables.old.mods p }
+    ensures looks { LooksAtNothing tables.old tables.new }
     ensures touched { OnOk result (IsTouched structs.now input shape tables.new.mods) }
     ensures few { OnOk result (kind_of structs.now shape NONE_BEHIND ≡ None) }
     ensures kept { Kept tables.new }
@@ -104,6 +106,7 @@ pub fn set_input(
         ≡ base_of structs.now shape words.now p.field (base_in tables.old.mods p) }
     ensures others { (p : PlaceOf) → same_block p.block (Input input) ≡ false
         → base_in tables.new.mods p ≡ base_in tables.old.mods p }
+    ensures looks { LooksAtNothing tables.old tables.new }
     ensures kept { Kept tables.new }
 {
     for field in 0..u32::MAX {

@@ -1,5 +1,5 @@
-//! The run of trace code over the nodes of its trace, and change propagation over them: the body of the engine. Its time goes with
-//! what is re-executed, and not with the trace.
+//! The run of trace code over the nodes of its trace, and change propagation over them: the body of the engine. The number of
+//! contents that a propagation looks at is bounded by what is re-executed and revoked, whatever the size of the trace.
 //!
 //! Below it are the tables of a trace in step (`tables`): its nodes, the lists of its modifiables, the queue of its stale reads, and
 //! the memo. Their contracts speak of the list of nodes, of what each place holds before any write, and of the stamps that are
@@ -16,13 +16,14 @@
 //! (`specs/Around`). A run from nothing has no limit and nothing left over. A propagation is one turn after another (`specs/Turning`), each
 //! the first stale read with what is inside it.
 //!
-//! `running` has what a run keeps, `room` what is kept from one repair to the next, `first` the run from nothing, and `propagate`
-//! change propagation. A `repair` under way does one act of a unit at a time: it puts nodes in after
+//! `running` has what a run keeps, `room` what is kept from one repair to the next, `first` the run from nothing, and `advance`
+//! change propagation, whole or in parts. A `repair` under way does one act of a unit at a time: it puts nodes in after
 //! its cursor (`put`), takes allocations and reads that are left over (`take`, `read`), and passes kept nodes inside a taken read
 //! (`pass`). `turns` are made one after another; `turn` begins one, `complete` lets its unit act until it is over, and `end` ends it. `cutting` revokes nodes that are left over, `bases` sets what modifiables hold before any write,
 //! `edits` does so for an input that is new to a run, `sought` are keys that are looked for among the nodes, and `words` reads plain words.
 #![tactic(auto)]
 
+pub mod advance;
 mod bases;
 mod complete;
 pub mod cutting;
@@ -30,12 +31,10 @@ pub mod edits;
 pub mod first;
 mod frame;
 pub mod laws;
-pub mod propagate;
 mod recorded;
 mod repair;
 pub mod room;
 pub mod running;
-pub mod slice;
 mod sought;
 pub mod tables;
 mod words;

@@ -11,10 +11,12 @@ ghost use Rattle.ceal_order.specs.Stamps.{is_in};
 ghost use Rattle.ceal_mods.specs.Mods.{cell_of};
 ghost use Rattle.ceal_repair.specs.Words.{words_of, HasBases};
 ghost use Rattle.ceal_repair.specs.Kept.{Kept, base_in};
-ghost use Rattle.ceal_repair.specs.Looks.{NoneDiffers};
+ghost use Rattle.ceal_repair.specs.Propagation.{Concludes};
+ghost use Rattle.ceal_repair.specs.Looks.{LooksNever, NoneDiffers};
 ghost use Rattle.ceal_trace.specs.Nodes.{new_entry};
 ghost use Rattle.ceal_trace.specs.declared.node.Node.TheVariants.{Root};
 
+use crate::advance::Progress;
 use crate::bases::{renew_bases, set_inputs};
 use crate::tables::Tables;
 use crate::words::RunWords;
@@ -59,6 +61,18 @@ fn few_words(block: &BlockWords) -> Result<&[Word], NoMemory>
 }
 
 impl Running {
+    /// A run that is up to date ends: it may have more steps than the fuel allows. Otherwise its revoked blocks are released.
+    pub fn conclude(&mut self, fuel: u32) -> Progress
+        ensures { Concludes result fuel self.old self.new }
+    {
+        if self.tables.trace.steps() > u64::from(fuel) {
+            Progress::OutOfFuel
+        } else {
+            self.heap.release_revoked();
+            Progress::Done
+        }
+    }
+
     /// Before the first step: only the root, the inputs with their bases, and no core block.
     pub fn begin(
         alloc: Global,
@@ -73,6 +87,7 @@ impl Running {
         ensures bases { IfOk result
             (λ r. HasBases code.now.structs inputs.now r.heap r.tables.mods) }
         ensures spent { IfOk result (λ r. r.spent ≡ 0) }
+        ensures looks { IfOk result (λ r. LooksNever r.tables) }
         ensures kept { IfOk result (λ r. Kept r.tables) }
     {
         let mut tables = Tables::new(alloc, seed)?;

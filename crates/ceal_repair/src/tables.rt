@@ -1,6 +1,6 @@
 // The tables of a trace, kept in step with its nodes.
 
-ghost use Rattle.std.specs.Prelude.{◌≡◌, ◌<◌, ◌≤◌, ◌+◌, ℕ, [], ◌∷◌, Some, None, false, IfOk, OnOk, OnErr, IsTrue};
+ghost use Rattle.std.specs.Prelude.{◌≡◌, ◌<◌, ◌≤◌, ◌+◌, ℕ, [], ◌∷◌, Some, None, false, length, IfOk, OnOk, OnErr, IsTrue};
 ghost use Rattle.ceal_base.specs.declared.word.Place.{Place as PlaceOf};
 ghost use Rattle.ceal_code.specs.Replay.{stored};
 ghost use Rattle.ceal_mods.specs.Mods.{cell_of, IsUntouched};
@@ -8,7 +8,7 @@ ghost use Rattle.ceal_order.specs.Stamps.{is_in};
 ghost use Rattle.ceal_repair.specs.Covered.{contents_after};
 ghost use Rattle.ceal_repair.specs.Kept.{Kept, QueuedBehind, base_in};
 ghost use Rattle.ceal_repair.specs.Lists.{up_to, between};
-ghost use Rattle.ceal_repair.specs.Looks.{owed, NoneDiffers};
+ghost use Rattle.ceal_repair.specs.Looks.{owed, LooksNever, NoneDiffers};
 ghost use Rattle.ceal_trace.specs.Nodes.{has_node, node_at, position, is_read, end_in, with_entry_after, with_steps, new_entry, Inserted};
 ghost use Rattle.ceal_trace.specs.declared.node.Node.TheVariants.{Root, Alloc, Write, Read, End};
 
@@ -55,6 +55,7 @@ impl Tables {
         ensures nodes { IfOk result (λ t. t.trace.nodes ≡ new_entry 0 Root ∷ []) }
         ensures bases { IfOk result (λ t. IsUntouched t.mods) }
         ensures queue { IfOk result (λ t. t.stale.stamps ≡ []) }
+        ensures looks { IfOk result LooksNever }
         ensures kept { IfOk result Kept }
     {
         Ok(Tables {
@@ -79,7 +80,7 @@ impl Tables {
         ensures only { (s : ℕ) → IsTrue (is_in s self.new.stale.stamps)
             → is_in s self.old.stale.stamps ≡ false
             → IsTrue (is_in s (cell_of self.old.mods place).reads) }
-        ensures looks { owed self.new ≤ owed self.old + 2 }
+        ensures queued { length self.new.stale.stamps ≤ length self.old.stale.stamps + 1 }
         ensures looked { self.new.mods.looked ≡ self.old.mods.looked }
         ensures differed { NoneDiffers self.old self.new }
         ensures kept { Kept self.new }

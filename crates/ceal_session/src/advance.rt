@@ -56,7 +56,7 @@ fn continued(engine: &mut Engine, reads: Option<u32>) -> Result<Came, RunError>
 {
     // for the proof: it is an engine before and after, by the clause `whole`
     let _before = engine.phase();
-    let came = engine.go_on(reads);
+    let came = engine.advance(reads);
     let _after = engine.phase();
     came
 }

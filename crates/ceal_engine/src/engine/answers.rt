@@ -24,7 +24,6 @@ use ceal_base::no_memory::NoMemory;
 use ceal_base::word::{BlockId, Place, Word};
 use ceal_code::code::Code;
 use ceal_mods::mods::Mods;
-use ceal_repair::propagate::propagate;
 use ceal_trace::trace::Trace;
 
 impl Engine {

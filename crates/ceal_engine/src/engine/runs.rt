@@ -3,13 +3,13 @@
 ghost use Rattle.std.specs.Prelude.{◌≡◌, ◌≢◌, ◌⊎◌, ℕ, ◌<◌, ◌≤◌, ◌^◌, true, Option, Some, None, length, IfOk, IsSome, IsOk, OnOk, OnErr};
 ghost use Rattle.std.specs.Option.{IsSomeAnd};
 ghost use Rattle.ceal_base.specs.Trace.{Trace as TraceOf};
-ghost use Rattle.ceal_base.specs.declared.call.Call.{Call as CallOf};
 ghost use Rattle.ceal_code.specs.Fitting.{Fits};
 ghost use Rattle.ceal_code.specs.Replay.{IsHonest};
-ghost use Rattle.ceal_engine.specs.Engine.{trace, takes, fresh_call, fresh_of, has_run, IsWhole, IsPresent, IfOutOfFuel};
-ghost use Rattle.ceal_engine.specs.Completed.{finished, IsFirstOf, IsOldRun, IsRepairOf, IsStillHonest};
+ghost use Rattle.ceal_engine.specs.Engine.{trace, fresh_of, has_run, IsWhole, IsPresent, IfOutOfFuel, NeedsNoMemory};
+ghost use Rattle.ceal_engine.specs.Completed.{finished, IsFirstOf};
 ghost use Rattle.ceal_engine.specs.Keeping.{Keeps};
-ghost use Rattle.ceal_engine.specs.Partial.{phase_after, phase_behind, CarriesFrom, Comes, ComesSo, EndsSo, KeepsWords};
+ghost use Rattle.ceal_engine.specs.Looks.{LooksOfEither, LooksOfRepair, LooksOfRun};
+ghost use Rattle.ceal_engine.specs.Partial.{phase_after, phase_behind, CarriesFrom, Comes, ComesSo, EndsSo, IsRepairSoFar, IsRunAgain, KeepsWords};
 ghost use Rattle.ceal_engine.specs.Repaired.{IsFirst, IsRepaired, IsUnchanged, KeepsFront};
 ghost use Rattle.ceal_engine.specs.declared.phase.Phase.TheVariants.{New, Finished, Pending, Partial, Dropped};
 ghost use Rattle.ceal_theory.specs.Slices.{Repair as RepairOf};
@@ -18,40 +18,11 @@ use super::Engine;
 use crate::phase::{Came, Phase, Progress};
 use crate::run_error::RunError;
 use crate::running::{give_up, reopen, rest};
-use ceal_base::memory::Inputs;
 use ceal_base::word::Word;
-use ceal_code::code::Code;
+use ceal_repair::advance::{Progress as Repaired, advance};
 use ceal_repair::first::first;
-use ceal_repair::propagate::{Propagation, propagate};
-use ceal_repair::room::Room;
 use ceal_repair::running::{Outcome, Running};
-use ceal_repair::slice::{Sliced, slice};
 use std::mem;
-
-/// Repairs a run of the call on these inputs, in place. After an error it is of no further use.
-fn repaired(
-    room: &mut Room,
-    code: &Code,
-    inputs: &Inputs,
-    fuel: u32,
-    run: &mut Running,
-) -> Result<(), RunError>
-    requires old { (call : Option CallOf) × IsOldRun code.now fuel inputs.now call run.old }
-    requires few { length inputs.now < 2 ^ 32 }
-    ensures ok { OnOk result ((call : Option CallOf)
-        → IsOldRun code.now fuel inputs.now call run.old
-        → IsRepairOf code.now fuel inputs.now call run.old run.new) }
-    ensures out { (call : Option CallOf) → IsOldRun code.now fuel inputs.now call run.old
-        → IfOutOfFuel result (fresh_call code.now inputs.now fuel call ≡ None) }
-    ensures sure { (call : Option CallOf)
-        → IsStillHonest code.now fuel inputs.now call run.old → IsOk result }
-{
-    let outcome = propagate(room, code, inputs, fuel, run)?;
-    match outcome {
-        Propagation::OutOfFuel => Err(RunError::OutOfFuel),
-        Propagation::Done => Ok(()),
-    }
-}
 
 impl Engine {
     /// The first trace of the call, as a run.
@@ -105,50 +76,13 @@ impl Engine {
         ensures phase { OnOk result (self.new.phase ≡ Finished) }
         ensures present { OnOk result (IsPresent self.new) }
         ensures first { OnOk result (IsSomeAnd (trace self.new) (IsFirst self.new)) }
+        ensures looks { OnOk result (LooksOfRun self.new) }
         ensures out_of_fuel { IfOutOfFuel result (fresh_of self.new ≡ None) }
         ensures dropped { OnErr result (self.new.phase ≡ Dropped) }
     {
         let run = self.first()?;
         self.keep(run);
         Ok(())
-    }
-
-    /// Repairs the run after edits.
-    fn propagate_edits(&mut self) -> Result<(), RunError>
-        requires pending { self.old.phase ≡ Pending }
-        ensures code { self.new.code ≡ self.old.code }
-        ensures fuel { self.new.fuel ≡ self.old.fuel }
-        ensures inputs { self.new.inputs ≡ self.old.inputs }
-        ensures call { self.new.call ≡ self.old.call }
-        ensures phase { OnOk result (self.new.phase ≡ Finished) }
-        ensures present { OnOk result (IsPresent self.new) }
-        ensures repaired { OnOk result ((l : TraceOf) → trace self.old ≡ Some l →
-            IsSomeAnd (trace self.new) (IsRepaired self.new l)) }
-        ensures unchanged { OnOk result ((l : TraceOf) → trace self.old ≡ Some l →
-            IsHonest self.old.code self.old.inputs l → IsUnchanged self.new l) }
-        ensures unchanged_nodes { OnOk result ((l : TraceOf) → trace self.old ≡ Some l →
-            IsHonest self.old.code self.old.inputs l → self.new.timeline ≡ self.old.timeline) }
-        ensures front { OnOk result (KeepsFront self.old self.new) }
-        ensures sure_where_honest { (l : TraceOf) → trace self.old ≡ Some l →
-            IsHonest self.old.code self.old.inputs l → IsOk result }
-        ensures out_of_fuel { IfOutOfFuel result (fresh_of self.new ≡ None) }
-        ensures dropped { OnErr result (self.new.phase ≡ Dropped) }
-    {
-        match &mut self.running {
-            None => unreachable!(),
-            Some(run) => {
-                match repaired(&mut self.room, &self.code, &self.inputs, self.fuel, run) {
-                    Ok(()) => {
-                        self.phase = Phase::Finished;
-                        Ok(())
-                    }
-                    Err(error) => {
-                        give_up(&mut self.phase, &mut self.running);
-                        Err(error)
-                    }
-                }
-            }
-        }
     }
 
     /// Runs the core function of this number. OutOfFuel comes exactly when the run from scratch takes more steps than
@@ -163,6 +97,7 @@ impl Engine {
         ensures phase { OnOk result (self.new.phase ≡ Finished) }
         ensures present { OnOk result (IsPresent self.new) }
         ensures first { OnOk result (IsSomeAnd (trace self.new) (IsFirst self.new)) }
+        ensures looks { OnOk result (LooksOfRun self.new) }
         ensures out_of_fuel { IfOutOfFuel result (fresh_of self.new ≡ None) }
         ensures dropped { OnErr result (self.new.phase ≡ Dropped) }
     {
@@ -174,7 +109,7 @@ impl Engine {
     /// Brings the run up to date after edits, by change propagation (Acar, *Self-Adjusting Computation*, 2005).
     /// OutOfFuel comes exactly when the run from scratch takes more steps than the fuel, although only a part is
     /// re-executed. After an error the phase is Dropped, and another `propagate` runs the call again. In Finished it takes no
-    /// memory. In Partial it ends the repair that goes on.
+    /// memory. In Partial it ends the repair that is under way.
     pub fn propagate(&mut self) -> Result<(), RunError>
         requires { self.old.phase ≡ New → ⊥ }
         ensures code { self.new.code ≡ self.old.code }
@@ -197,8 +132,12 @@ impl Engine {
         ensures front { OnOk result (IsWhole self.old.phase → KeepsFront self.old self.new) }
         ensures partial { self.old.phase ≡ Partial → (next : ℕ) (r : RepairOf) →
             CarriesFrom self.old next r → EndsSo self.old self.new next r result }
+        ensures looks { OnOk result (IsWhole self.old.phase → LooksOfRepair self.old self.new) }
+        ensures looks_always { OnOk result (LooksOfEither self.old self.new) }
         ensures sure_where_honest { IsWhole self.old.phase → (l : TraceOf) →
             trace self.old ≡ Some l → IsHonest self.old.code self.old.inputs l → IsOk result }
+        ensures sure_in_part { (l : TraceOf) → trace self.old ≡ Some l →
+            IsHonest self.old.code self.old.inputs l → NeedsNoMemory result }
         ensures sure { self.old.phase ≡ Finished → IsOk result }
         ensures still { self.old.phase ≡ Finished → self.new ≡ record self.old { work = 0 } }
         ensures out_of_fuel { IfOutOfFuel result (fresh_of self.new ≡ None) }
@@ -210,20 +149,24 @@ impl Engine {
                 rest(&mut self.running);
                 Ok(())
             }
-            Phase::Pending => self.propagate_edits(),
+            Phase::Pending => {
+                self.advance(None)?;
+                Ok(())
+            }
             Phase::Partial => {
-                self.go_on(None)?;
+                self.advance(None)?;
                 Ok(())
             }
             Phase::Dropped => self.run_anew(),
         }
     }
 
-    /// Goes on with the repair that is under way, or begins that of a run: that many stale reads, each with all that is inside
-    /// it, or all where no number is given. What stands before the first of them stays as it is, and where none is stale in
-    /// Finished or Pending it takes no memory. Where more steps would be spent on it than the fuel, the call is run again. After
-    /// an error the phase is Dropped.
-    pub fn go_on(&mut self, reads: Option<u32>) -> Result<Came, RunError>
+    /// Continues the repair that is under way, or begins that of a run: `reads` stale reads, each with everything inside
+    /// it, or all of them if `reads` is None. The nodes before the first of them stay as they are, and where none is stale
+    /// it takes no memory. Where the steps of a repair that began in an earlier call exceed the fuel, the call is run
+    /// again; where those of one that begins here do, a run from scratch is out of fuel, too. After an error the phase is
+    /// Dropped.
+    pub fn advance(&mut self, reads: Option<u32>) -> Result<Came, RunError>
         requires run { has_run self.old.phase ≡ true }
         requires some { reads ≢ Some 0 }
         ensures code { self.new.code ≡ self.old.code }
@@ -234,14 +177,21 @@ impl Engine {
         ensures present { IfOk result (λ came. came ≢ Came.More → IsPresent self.new) }
         ensures comes { (next : ℕ) (r : RepairOf) → CarriesFrom self.old next r →
             Comes self.old self.new reads next r result }
+        ensures repaired { IfOk result (λ came. IsWhole self.old.phase → (l : TraceOf) →
+            trace self.old ≡ Some l → IsRepairSoFar self.old self.new l came) }
         ensures more { IfOk result (λ came. came ≡ Came.More → IsSome reads) }
         ensures first { IfOk result (λ came. came ≡ Came.Anew →
             IsSomeAnd (trace self.new) (IsFirst self.new)) }
+        ensures anew { IfOk result (λ came. came ≡ Came.Anew → self.old.phase ≡ Partial) }
         ensures front { IfOk result (λ came. came ≢ Came.Anew → KeepsFront self.old self.new) }
+        ensures looks { IfOk result (λ came. came ≢ Came.Anew → LooksOfRepair self.old self.new) }
+        ensures looks_anew { IfOk result (λ came. came ≡ Came.Anew → LooksOfRun self.new) }
         ensures revoked_stay { IfOk result (λ came. came ≡ Came.More →
             KeepsWords self.old.heap self.new.heap) }
         ensures sure_where_honest { IsWhole self.old.phase → (l : TraceOf) →
             trace self.old ≡ Some l → IsHonest self.old.code self.old.inputs l → IsOk result }
+        ensures sure_in_part { (l : TraceOf) → trace self.old ≡ Some l →
+            IsHonest self.old.code self.old.inputs l → NeedsNoMemory result }
         ensures out_of_fuel { IfOutOfFuel result (fresh_of self.new ≡ None) }
         ensures dropped { OnErr result (self.new.phase ≡ Dropped) }
     {
@@ -249,7 +199,7 @@ impl Engine {
         match &mut self.running {
             None => unreachable!(),
             Some(run) => {
-                match slice(
+                match advance(
                     &mut self.room,
                     &self.code,
                     &self.inputs,
@@ -257,20 +207,21 @@ impl Engine {
                     self.fuel,
                     run,
                 ) {
-                    Ok(Sliced::More) => {
+                    Ok(Repaired::More) => {
                         self.phase = Phase::Partial;
                         Ok(Came::More)
                     }
-                    Ok(Sliced::Done) => {
+                    Ok(Repaired::Done) => {
                         self.phase = Phase::Finished;
                         Ok(Came::Done)
                     }
-                    Ok(Sliced::Spent) => {
+                    Ok(Repaired::Spent) => {
+                        let began = self.phase;
                         give_up(&mut self.phase, &mut self.running);
-                        self.run_anew()?;
+                        self.run_again(began)?;
                         Ok(Came::Anew)
                     }
-                    Ok(Sliced::OutOfFuel) => {
+                    Ok(Repaired::OutOfFuel) => {
                         give_up(&mut self.phase, &mut self.running);
                         Err(RunError::OutOfFuel)
                     }
@@ -283,9 +234,33 @@ impl Engine {
         }
     }
 
-    /// Repairs at most that many stale reads, each with all that is inside it. Done: the run is up to date. More: reads are
-    /// stale still, and another `slice` or `propagate` goes on, also after edits. Where the steps re-executed since the last
-    /// completion would be more than the fuel, all is run again in the same call. After an error the phase is Dropped.
+    /// More steps were spent on a repair than the fuel allows, and the run was given up. Where the repair had begun in an
+    /// earlier call, the call is run again. Otherwise a run from scratch needs more steps, too.
+    fn run_again(&mut self, began: Phase) -> Result<(), RunError>
+        requires dropped { self.old.phase ≡ Dropped }
+        requires called { IsSome self.old.call }
+        requires out { (began ≡ Partial → ⊥) → fresh_of self.old ≡ None }
+        ensures code { self.new.code ≡ self.old.code }
+        ensures fuel { self.new.fuel ≡ self.old.fuel }
+        ensures inputs { self.new.inputs ≡ self.old.inputs }
+        ensures call { self.new.call ≡ self.old.call }
+        ensures began { OnOk result (began ≡ Partial) }
+        ensures phase { OnOk result (self.new.phase ≡ Finished) }
+        ensures present { OnOk result (IsPresent self.new) }
+        ensures first { OnOk result (IsSomeAnd (trace self.new) (IsFirst self.new)) }
+        ensures looks { OnOk result (LooksOfRun self.new) }
+        ensures out_of_fuel { IfOutOfFuel result (fresh_of self.new ≡ None) }
+        ensures dropped { OnErr result (self.new.phase ≡ Dropped) }
+    {
+        if began != Phase::Partial {
+            return Err(RunError::OutOfFuel);
+        }
+        self.run_anew()
+    }
+
+    /// Repairs at most `reads` stale reads, each with everything inside it. Done: the run is up to date. More: reads are
+    /// still stale, and another `slice` or `propagate` continues, also after edits. Where the steps re-executed since the
+    /// last completion would be more than the fuel, all is run again in the same call. After an error the phase is Dropped.
     pub fn slice(&mut self, reads: u32) -> Result<Progress, RunError>
         requires called { self.old.phase ≡ New → ⊥ }
         requires some { 1 ≤ reads }
@@ -300,12 +275,19 @@ impl Engine {
             IsSomeAnd (trace self.new) (IsFirst self.new)) }
         ensures slice { (next : ℕ) (r : RepairOf) → CarriesFrom self.old next r →
             ComesSo self.old self.new (Some reads) next r result }
+        ensures repaired { IfOk result (λ p. p ≡ Progress.Done → IsWhole self.old.phase →
+            (l : TraceOf) → trace self.old ≡ Some l →
+            IsSomeAnd (trace self.new) (IsRepaired self.new l)) }
         ensures front { OnOk result (KeepsFront self.old self.new
-            ⊎ IsSomeAnd (trace self.new) (IsFirst self.new)) }
+            ⊎ IsRunAgain self.old self.new (Some reads)) }
+        ensures looks { OnOk result (IsWhole self.old.phase → LooksOfRepair self.old self.new) }
+        ensures looks_always { OnOk result (LooksOfEither self.old self.new) }
         ensures revoked_stay { IfOk result (λ p. p ≡ Progress.More →
             KeepsWords self.old.heap self.new.heap) }
         ensures sure_where_honest { IsWhole self.old.phase → (l : TraceOf) →
             trace self.old ≡ Some l → IsHonest self.old.code self.old.inputs l → IsOk result }
+        ensures sure_in_part { (l : TraceOf) → trace self.old ≡ Some l →
+            IsHonest self.old.code self.old.inputs l → NeedsNoMemory result }
         ensures out_of_fuel { IfOutOfFuel result (fresh_of self.new ≡ None) }
         ensures dropped { OnErr result (self.new.phase ≡ Dropped) }
     {
@@ -313,7 +295,7 @@ impl Engine {
             self.run_anew()?;
             return Ok(Progress::Done);
         }
-        let came = self.go_on(Some(reads))?;
+        let came = self.advance(Some(reads))?;
         Ok(came.progress())
     }
 }

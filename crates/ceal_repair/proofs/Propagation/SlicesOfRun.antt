@@ -4,21 +4,24 @@ use Rattle.std.proofs.lemmas.Bool.{cases_order}
 use Rattle.std.proofs.lemmas.Bool.Decides.{eqb_tells}
 use Rattle.std.specs.Prelude.{IsSome}
 use Rattle.ceal_base.specs.Block.{Block}
+use Rattle.ceal_base.specs.Trace.{Trace}
 use Rattle.ceal_base.specs.declared.word.BlockId.TheVariants.{Core}
 use Rattle.ceal_base.specs.declared.word.Word.{Word}
 use Rattle.ceal_code.specs.Program.{Code}
-use Rattle.ceal_code.specs.Replay.{In, here, there, IsHonest, count}
+use Rattle.ceal_code.specs.Fitting.{Fits}
+use Rattle.ceal_code.specs.Replay.{In, here, there, IsHonest, Replays, count}
 use Rattle.ceal_heap.specs.Heap.{block_of, plain_block, Known}
 use Rattle.ceal_repair.proofs.Propagation.NewBlockNumbers.{GoesOn, goes-on}
-use Rattle.ceal_repair.specs.Propagation.{HasCome, IsUpToDate, IsUnderWay, IsSpent, IsWithin, IsLess}
+use Rattle.ceal_repair.specs.Propagation.{HasCome, IsUpToDate, IsUnderWay, IsSpent, IsWithin, IsLess, Propagated, KeepsFront}
 use Rattle.ceal_repair.proofs.Propagation.KeptRun.{same-running}
-use Rattle.ceal_repair.specs.Answers.{IsRunOf}
+use Rattle.ceal_repair.proofs.Propagation.UpToDateRun.{too-many, concluded-run, spent-out, repaired}
+use Rattle.ceal_repair.specs.Answers.{IsRunOf, IsRepaired}
 use Rattle.ceal_repair.specs.Repairs.{code_of, inputs_of}
-use Rattle.ceal_repair.specs.Slicing.{IsPartRun, IsSliceOf, IsConcluded, IsSliced}
+use Rattle.ceal_repair.specs.Slicing.{IsPartRun, IsSliceOf, IsSliced}
 use Rattle.ceal_repair.specs.declared.repair.Repair.{Repair as RepairInCode}
-use Rattle.ceal_repair.specs.declared.slice.Sliced.{Sliced}
-use Rattle.ceal_repair.specs.declared.slice.Sliced.TheVariants.{More, Done, Spent, OutOfFuel}
-use Rattle.ceal_repair.specs.Turning.{Since, turns_more, later, NamesOff, IsOrigin, StandsFor}
+use Rattle.ceal_repair.specs.declared.advance.Progress.{Progress}
+use Rattle.ceal_repair.specs.declared.advance.Progress.TheVariants.{More, Done, Spent, OutOfFuel}
+use Rattle.ceal_repair.specs.Turning.{Since, since_begun, turns_more, later, NamesOff, IsOrigin, StandsFor}
 use Rattle.ceal_repair.specs.declared.running.Running.{Running}
 use Rattle.ceal_theory.specs.Carried.{counted_anew}
 use Rattle.ceal_theory.proofs.SlicedRepair.SliceLaws.{other-names-law, slices-law, turns-law}
@@ -150,17 +153,6 @@ module _ (code : Code) (inputs : List Block) (f : ℕ) (args : List Word) (fuel 
       → HasCome (code_of rep) (inputs_of rep) f args since run rep.running.now
   begun-in rep same_code same_inputs tables heap spent = rw (same_code, same_inputs, same-running rep.running.now run tables heap spent) begun
 
-  module _ (before now : Running) (n : ℕ) (done : IsUpToDate code inputs f args (later n since) before now) (reads : Option ℕ) (some : reads ≢ Some 0) (less : IsWithin n reads) (few : now.spent ≤ fuel) where
-    pub concluded : (z : Running) (s : Sliced) → IsConcluded code inputs f args fuel done.come.so_far.repair.items now.spent z s → IsSliced code inputs f args reads fuel r z s
-    concluded z More h = absurd h
-    concluded z Done h =
-        let w = is-whole before now n done.come done.honest reads some less few in
-        (w.0, w.1, subst (λ m. IsRunOf code inputs f args fuel m z) (sym w.2) h.0, h.1 ∙ (sym done.come.so_far.stands.spent ∙ sym w.3))
-    concluded z Spent h = absurd h
-    concluded z OutOfFuel h =
-        let w = is-whole before now n done.come done.honest reads some less few in
-        (w.0, w.1, subst (λ m. IsHonest code inputs m) (sym w.2) done.honest, h)
-
   at-least : (n : ℕ) → ¬ (n ≡ 0) → 1 ≤ n
   at-least zero h = absurd (h refl)
   at-least (suc n) h = omega arith
@@ -169,3 +161,41 @@ module _ (code : Code) (inputs : List Block) (f : ℕ) (args : List Word) (fuel 
   goes-on-so before now n way reads some e few =
       let s = is-slice before now n way.come (at-least n (λ z. some (e ∙ ap Some z))) few in
       (last before now n way.come, subst (λ k. IsSliceOf code inputs k fuel r (Some (last before now n way.come))) (sym e) s, way.stale, is-part before now n way.come few)
+
+  -- so it is a slice, however far it has come
+  pub is-sliced : (p : Progress) (before now : Running) (reads : Option ℕ) → reads ≢ Some 0 → (p ≢ Spent → now.spent ≤ fuel) → Propagated p code inputs f args reads fuel since before now → IsSliced code inputs f args reads fuel r now p
+  is-sliced More before now reads some few h = goes-on-so before now h.0 h.2 reads some h.1 (few (λ e. absurd cc))
+  is-sliced Done before now reads some few h =
+      let up = h.3 in
+      let end = h.4 in
+      let last = h.2 in
+      let low : last.spent ≤ fuel = omega (arith, end.spent, few (λ e. absurd cc)) in
+      let w = is-whole before last h.0 up.come up.honest reads some h.1 low in (
+        w.0,
+        w.1,
+        subst (λ m. IsRunOf code inputs f args fuel m now) (sym w.2)
+            (concluded-run code inputs f args (later h.0 since) before last up fuel end.few now end.tables end.released end.slots),
+        end.spent ∙ (sym up.come.so_far.stands.spent ∙ sym w.3),
+      )
+  is-sliced Spent before now reads some few h = is-over h.0 reads h.1 h.2
+  is-sliced OutOfFuel before now reads some few h =
+      let up = h.2 in
+      let w = is-whole before now h.0 up.come up.honest reads some h.1 (few (λ e. absurd cc)) in
+      (w.0, w.1, subst (λ m. IsHonest code inputs m) (sym w.2) up.honest, too-many code inputs f args (later h.0 since) before now up fuel h.3)
+
+-- nodes that agreed at the beginning are as they were
+pub front-stays : (code : Code) (inputs : List Block) (f : ℕ) (args : List Word) (reads : Option ℕ) (fuel : ℕ) (o : Since) (before now : Running) (p : Progress) → p ≢ Spent → Propagated p code inputs f args reads fuel o before now
+    → KeepsFront code inputs before.tables.trace.nodes now.tables.trace.nodes
+front-stays code inputs f args reads fuel o before now More n h = h.2.come.front
+front-stays code inputs f args reads fuel o before now Done n h = rw h.4.tables h.3.come.front
+front-stays code inputs f args reads fuel o before now Spent n h = absurd (n refl)
+front-stays code inputs f args reads fuel o before now OutOfFuel n h = h.2.come.front
+
+-- so it is with the repair of a trace of the call
+pub is-repaired : (code : Code) (inputs : List Block) (f : ℕ) (args : List Word) (reads : Option ℕ) (fuel : ℕ) (l : Trace) → Fits code inputs f args → Replays code inputs f args l → (before now : Running) (p : Progress)
+    → Propagated p code inputs f args reads fuel (since_begun code inputs l) before now → IsRepaired code inputs f args fuel l before now p
+is-repaired code inputs f args reads fuel l fits replays before now More h = tt
+is-repaired code inputs f args reads fuel l fits replays before now Done h =
+    repaired code inputs f args l fits replays h.0 before h.2 h.3 fuel h.4.few now h.4.tables h.4.spent h.4.released h.4.slots
+is-repaired code inputs f args reads fuel l fits replays before now Spent h = spent-out code inputs f args l fits replays h.0 fuel h.2
+is-repaired code inputs f args reads fuel l fits replays before now OutOfFuel h = too-many code inputs f args (later h.0 (since_begun code inputs l)) before now h.2 fuel h.3

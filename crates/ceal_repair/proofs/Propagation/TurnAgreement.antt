@@ -17,15 +17,17 @@ use Rattle.ceal_repair.proofs.TableCalls.CutKeepsTables.{unqueued-honest}
 use Rattle.ceal_repair.proofs.Propagation.TurnCourse.{turn-over}
 use Rattle.ceal_repair.proofs.Propagation.UpToDateHonest.{come-now, up-to-date}
 use Rattle.ceal_repair.proofs.Runs.Paid.{stays}
-use Rattle.ceal_repair.specs.Looks.{Pays}
+use Rattle.ceal_repair.specs.Looks.{PaysBut}
 use Rattle.ceal_repair.specs.Entries.{entry, entries, closing}
 use Rattle.ceal_repair.specs.Kept.{Kept, IsStale, IsHonestRecord, QueuedBehind, Records, contents_at}
-use Rattle.ceal_repair.proofs.TableCalls.BaseEdit.{stale-same}
+use Rattle.ceal_repair.proofs.TableCalls.BaseEdit.{queue-empty, stale-same}
 use Rattle.ceal_repair.proofs.Propagation.StaleNotDone.{still-stale}
-use Rattle.ceal_repair.specs.Propagation.{HasCome, IsUpToDate, IsUnderWay, IsSpent, IsLess, IsWithin, TurnMade, KeepsFront}
+use Rattle.ceal_repair.specs.Propagation.{Concludes, Propagated, HasCome, IsUpToDate, IsUnderWay, IsSpent, IsLess, IsWithin, TurnMade, KeepsFront, steps_of_run}
 use Rattle.std.proofs.lemmas.Bool.{cases_order}
 use Rattle.ceal_repair.specs.Repairs.{code_of, inputs_of, view, Runs, SameCall}
 use Rattle.ceal_repair.specs.Turning.{Since, turns_more, later, FoundStale, ReadAt, TurnBegan, TurnEnded, TurnedSoFar, TurnRuns, IsOrigin}
+use Rattle.ceal_repair.specs.declared.advance.Progress.{Progress}
+use Rattle.ceal_repair.specs.declared.advance.Progress.TheVariants.{More, Done as Ends, Spent, OutOfFuel}
 use Rattle.ceal_repair.specs.declared.repair.Repair.{Repair}
 use Rattle.ceal_repair.specs.declared.running.Running.{Running}
 use Rattle.ceal_repair.specs.declared.tables.Tables.{Tables}
@@ -146,7 +148,7 @@ pub record TurningIn (old now : Repair) (turns : ℕ) (reads : Option ℕ) (fuel
   pub turning : Turning old now turns
   pub few : IsWithin turns reads
   pub within : old.running.now.spent ≤ fuel → now.running.now.spent ≤ fuel
-  pub pays : Pays old.running.now now.running.now
+  pub pays : PaysBut turns old.running.now now.running.now
 
 pub no-turns-in : (r : Repair) → r.frames.now.items ≡ [] → (reads : Option ℕ) (fuel : ℕ) → TurningIn r r 0 reads fuel
 no-turns-in r idle reads fuel = record { turning = no-turns r idle; few = of reads; within = λ h. h; pays = stays r.running.now r.running.now (omega arith) refl refl }
@@ -175,16 +177,16 @@ module _ (old now : Repair) (turns : ℕ) (t : Turning old now turns) (looked : 
   -- and there was none
   module _ (trace : looked.trace ≡ now.running.now.tables.trace) (none : (s : ℕ) → is_in s looked.stale.stamps ≡ true → ⊥) where
     pub is-up-to-date : (f : ℕ) (args : List Word) (o : Since) (before : Running) → HasCome (code_of old) (inputs_of old) f args o before old.running.now → IsUpToDate (code_of old) (inputs_of old) f args (later turns o) before looked_run
-    is-up-to-date f args o before h = up-to-date (code_of old) (inputs_of old) f args (later turns o) before now.running.now (t.come f args o before h) looked kept trace cells
+    is-up-to-date f args o before h = up-to-date (code_of old) (inputs_of old) f args (later turns o) before now.running.now (t.come f args o before h) looked kept trace cells (queue-empty looked.stale.stamps none)
         (λ r. unqueued-honest looked kept r (false-of (is_in r looked.stale.stamps) (λ i. absurd (none r i))) (λ z i. absurd (none z i)))
 
   pub come-here : (f : ℕ) (args : List Word) (o : Since) (before : Running) → HasCome (code_of old) (inputs_of old) f args o before old.running.now → HasCome (code_of now) (inputs_of now) f args (later turns o) before now.running.now
   come-here f args o before h = rw (t.call.code, t.call.inputs) (t.come f args o before h)
 
   -- each read has the content of its moment
-  module _ (trace : looked.trace ≡ now.running.now.tables.trace) (all : (s : ℕ) → IsHonestRecord s looked) where
+  module _ (trace : looked.trace ≡ now.running.now.tables.trace) (empty : looked.stale.stamps ≡ []) (all : (s : ℕ) → IsHonestRecord s looked) where
     pub is-done : (f : ℕ) (args : List Word) (o : Since) (before : Running) → HasCome (code_of old) (inputs_of old) f args o before old.running.now → IsUpToDate (code_of old) (inputs_of old) f args (later turns o) before looked_run
-    is-done f args o before h = up-to-date (code_of old) (inputs_of old) f args (later turns o) before now.running.now (t.come f args o before h) looked kept trace cells all
+    is-done f args o before h = up-to-date (code_of old) (inputs_of old) f args (later turns o) before now.running.now (t.come f args o before h) looked kept trace cells empty all
 
   -- one is stale still
   module _ (trace : looked.trace ≡ now.running.now.tables.trace) (z : ℕ) (stale : IsStale z now.running.now.tables) where
@@ -247,6 +249,22 @@ module _ (old now : Repair) (turns : ℕ) (t : Turning old now turns) (looked : 
       come = λ f args o before h. further f args o before h new (made f args o before h);
       sure = λ f args o before h honest. absurd (found-never f args o before h honest);
     }
+
+-- a run that is up to date has ended
+pub ends-so : (code : Code) (inputs : List Block) (f : ℕ) (args : List Word) (reads : Option ℕ) (fuel : ℕ) (o : Since) (before last run : Running) (n : ℕ) → IsWithin n reads → IsUpToDate code inputs f args (later n o) before last
+    → (p : Progress) → Concludes p fuel last run → Propagated p code inputs f args reads fuel o before run
+ends-so code inputs f args reads fuel o before last run n within done More h = absurd h
+ends-so code inputs f args reads fuel o before last run n within done Ends h = (n, within, last, done, h)
+ends-so code inputs f args reads fuel o before last run n within done Spent h = absurd h
+ends-so code inputs f args reads fuel o before last run n within done OutOfFuel h =
+    (n, within, subst (λ r. IsUpToDate code inputs f args (later n o) before r) (sym h.0) done, subst (λ r. fuel < steps_of_run r) (sym h.0) h.1)
+
+-- its steps are those of the run before
+pub spent-so : (p : Progress) (fuel : ℕ) (last run : Running) → Concludes p fuel last run → run.spent ≡ last.spent
+spent-so More fuel last run h = absurd h
+spent-so Ends fuel last run h = h.spent
+spent-so Spent fuel last run h = absurd h
+spent-so OutOfFuel fuel last run h = ap (λ r. r.spent) h.0
 
 -- ---- one turn in code
 

@@ -63,10 +63,11 @@ module _ (code : Code) (inputs : List Block) (f : ℕ) (args : List Word) (o : S
   }
 
   -- each read has the content of its moment
-  pub up-to-date : ((s : ℕ) → IsHonestRecord s t) → IsUpToDate code inputs f args o old now
+  pub up-to-date : t.stale.stamps ≡ [] → ((s : ℕ) → IsHonestRecord s t) → IsUpToDate code inputs f args o old now
   unfolding so_far come-now
-  up-to-date all = record {
+  up-to-date empty all = record {
     come = come-now;
+    idle = empty;
     honest = (start-law code so_far.stands.names inputs f args come.called.fits so_far.repair so_far.stands.sound).1
         (subst (λ is. AgreesAll code (starting code inputs so_far.repair.known) is) so_far.stands.items
         (agrees-front code inputs f args so_far.repair now come.called.fits listed-law ready-law stands t.trace.nodes [] (sym (append-nil t.trace.nodes))

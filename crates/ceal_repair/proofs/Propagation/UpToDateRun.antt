@@ -83,7 +83,7 @@ module _ (code : Code) (inputs : List Block) (f : ℕ) (args : List Word) (o : S
   -- so it is a run of the call
   pub concluded-run : (fuel : ℕ) → steps_in (forest_of run.tables.trace.nodes) ≤ fuel → (after : Running) → after.tables ≡ run.tables → ReleasesRevoked run.heap after.heap → HasSlots after.heap
       → IsRunOf code inputs f args fuel repair.items after
-  concluded-run fuel few after tables rel slots = record { stands = stands-after after tables rel slots; replays = ended.replays; honest = done.honest; few = omega (arith, few, steps-same) }
+  concluded-run fuel few after tables rel slots = record { stands = stands-after after tables rel slots; replays = ended.replays; honest = done.honest; few = omega (arith, few, steps-same); idle = rw tables done.idle }
 
 -- ---- of a trace of the call
 
@@ -141,6 +141,7 @@ module _ (code : Code) (inputs : List Block) (f : ℕ) (args : List Word) (l : T
             replays = (ended code inputs f args o old run done).replays;
             honest = done.honest;
             few = few-steps;
+            idle = rw tables done.idle;
           };
           names = new.names;
           single = new.single;

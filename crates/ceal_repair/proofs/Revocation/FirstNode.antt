@@ -33,7 +33,7 @@ use Rattle.ceal_trace.specs.declared.node.Node.TheVariants.{Root, Alloc, Write, 
 
 -- ---- lists
 
-length-more : {A : Type 0} (xs : List A) (x : A) → length (xs ++ x ∷ []) ≡ length xs + 1
+pub length-more : {A : Type 0} (xs : List A) (x : A) → length (xs ++ x ∷ []) ≡ length xs + 1
 length-more [] x = omega arith
 length-more (y ∷ ys) x = omega (arith, length-more ys x)
 

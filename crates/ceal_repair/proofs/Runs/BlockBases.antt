@@ -128,6 +128,8 @@ pub record SetInputs (structs : List StructInfo) (inputs : List Block) (old t : 
   pub trace : t.trace ≡ old.trace
   pub here : (i field : ℕ) → i < n → base_in t.mods (record { block = Input i; field = field }) ≡ content_in structs (slice_get inputs i) field
   pub others : (p : Place) → ((i : ℕ) → i < n → same_block p.block (Input i) ≡ false) → base_in t.mods p ≡ base_in old.mods p
+  pub looked : t.mods.looked ≡ old.mods.looked
+  pub differed : t.mods.differed ≡ old.mods.differed
   pub kept : Kept t
 
 module _ (structs : List StructInfo) (inputs : List Block) (old : Tables) where
@@ -135,8 +137,10 @@ module _ (structs : List StructInfo) (inputs : List Block) (old : Tables) where
       → t'.trace ≡ t.trace
       → ((p : Place) → same_block p.block (Input n) ≡ true → base_in t'.mods p ≡ base_of structs block.shape block.words p.field (base_in t.mods p))
       → ((p : Place) → same_block p.block (Input n) ≡ false → base_in t'.mods p ≡ base_in t.mods p)
-      → Kept t' → SetInputs structs inputs old t' (n + 1)
-  inputs-more fresh t t' n block s is trace here others kept = record {
+      → t'.mods.looked ≡ t.mods.looked → t'.mods.differed ≡ t.mods.differed → Kept t' → SetInputs structs inputs old t' (n + 1)
+  inputs-more fresh t t' n block s is trace here others looked differed kept = record {
+    looked = looked ∙ s.looked;
+    differed = differed ∙ s.differed;
     trace = trace ∙ s.trace;
     here = here-too;
     others = λ p away. others p (away n (omega arith)) ∙ s.others p (λ i l. away i (omega (arith, l)));

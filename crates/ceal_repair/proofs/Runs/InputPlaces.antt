@@ -26,6 +26,7 @@ use Rattle.ceal_repair.proofs.Lists.ListsOfNodes.{other-place}
 use Rattle.ceal_repair.specs.Chain.{Chained}
 use Rattle.ceal_repair.specs.Covered.{queue_of}
 use Rattle.ceal_repair.specs.Kept.{Kept, IsAwake, base_in}
+use Rattle.ceal_repair.specs.Looks.{LooksAtNothing}
 use Rattle.ceal_repair.specs.Words.{IsTouched}
 use Rattle.ceal_repair.specs.declared.tables.Tables.{Tables}
 use Rattle.ceal_trace.specs.Nodes.{Entry, stamps_in}
@@ -46,6 +47,15 @@ pub touched-either : {A E : Type 0} (r : Result A E) (old mods : Contents) (p : 
     → (q : Place) → cell_of mods q ≡ cell_of old q
 touched-either (Ok x) old mods p v bare ok err q = touched-cells old mods p v bare ok q
 touched-either (Err x) old mods p v bare ok err q = ap (λ (m : Contents). cell_of m q) err
+
+-- nothing was looked up
+pub touched-looks : {A E : Type 0} (r : Result A E) (old mods : Contents) (p : Place) (c : Cell) → OnOk r (Changes old mods p c) → OnErr r (mods ≡ old) → (mods.looked ≡ old.looked) × (mods.differed ≡ old.differed)
+touched-looks (Ok x) old mods p c ok err = (ok.looked, ok.differed)
+touched-looks (Err x) old mods p c ok err = (ap (λ (m : Contents). m.looked) err, ap (λ (m : Contents). m.differed) err)
+
+-- what two calls after one another look at
+pub looks-then : (a b c : Tables) → LooksAtNothing a b → LooksAtNothing b c → LooksAtNothing a c
+looks-then a b c h k = record { looked = k.looked ∙ h.looked; differed = k.differed ∙ h.differed; queue = k.queue ∙ h.queue }
 
 -- tables whose cells are as they were
 pub kept-cells : (old : Tables) → Kept old → (mods : Contents) → ((p : Place) → cell_of mods p ≡ cell_of old.mods p) → Mods_follow (stamps_in old.trace.nodes) mods → Kept (tables old.trace mods old.stale old.memo)
@@ -78,10 +88,11 @@ module _ (structs : List StructInfo) (input : ℕ) (shape : Shape) where
     pub trace : t.trace ≡ old.trace
     pub cells : (p : Place) → cell_of t.mods p ≡ cell_of old.mods p
     pub touched : (field : ℕ) → field < n → is_cell (field_kind structs shape field) ≡ true → HasCell t.mods (record { block = Input input; field = field })
+    pub looks : LooksAtNothing old t
     pub kept : Kept t
 
   pub touching-plain : (old t : Tables) (n : ℕ) → Touching old t n → (kind : FieldKind) → Some kind ≡ field_kind structs shape n → is_cell (Some kind) ≡ false → Touching old t (n + 1)
-  touching-plain old t n s kind is not_cell = record { trace = s.trace; cells = s.cells; touched = touched; kept = s.kept }
+  touching-plain old t n s kind is not_cell = record { trace = s.trace; cells = s.cells; touched = touched; looks = s.looks; kept = s.kept }
     where
       plain : is_cell (field_kind structs shape n) ≡ false
       plain = rw (← is) not_cell
@@ -93,8 +104,9 @@ module _ (structs : List StructInfo) (input : ℕ) (shape : Shape) where
       ]
 
   pub touching-more : (old t t' : Tables) (n : ℕ) → Touching old t n → t'.trace ≡ t.trace → ((p : Place) → cell_of t'.mods p ≡ cell_of t.mods p) → HasCell t'.mods (record { block = Input input; field = n })
-      → ((p : Place) → HasCell t.mods p → HasCell t'.mods p) → Kept t' → Touching old t' (n + 1)
-  touching-more old t t' n s trace cells here others kept = record {
+      → ((p : Place) → HasCell t.mods p → HasCell t'.mods p) → LooksAtNothing t t' → Kept t' → Touching old t' (n + 1)
+  touching-more old t t' n s trace cells here others looks kept = record {
+    looks = looks-then old t t' s.looks looks;
     trace = trace ∙ s.trace;
     cells = λ p. cells p ∙ s.cells p;
     touched = λ field l c. elim (eqb_tells field n) [
@@ -140,12 +152,16 @@ pub record Placing (structs : List StructInfo) (input : ℕ) (shape : Shape) (wo
   pub setting : Setting structs (Input input) shape (field-word structs shape words) old t n
   pub touched : IsTouched structs input shape t.mods
   pub unread : (field : ℕ) → (cell_of t.mods (record { block = Input input; field = field })).reads ≡ []
+  pub queue : t.stale.stamps ≡ old.stale.stamps
 
 module _ (structs : List StructInfo) (input : ℕ) (shape : Shape) (words : List Word) where
+  pub placed-looks : (old t : Tables) (n : ℕ) → Placing structs input shape words old t n → LooksAtNothing old t
+  placed-looks old t n s = record { looked = s.setting.looked; differed = s.setting.differed; queue = s.queue }
+
   pub placing-plain : (old t : Tables) (n : ℕ) → Placing structs input shape words old t n → (kind : FieldKind) → Some kind ≡ field_kind structs shape n → is_cell (Some kind) ≡ false
       → Placing structs input shape words old t (n + 1)
   placing-plain old t n s kind is not_cell =
-      record { setting = setting-plain structs (Input input) shape (field-word structs shape words) old t n s.setting kind is not_cell; touched = s.touched; unread = s.unread }
+      record { setting = setting-plain structs (Input input) shape (field-word structs shape words) old t n s.setting kind is not_cell; touched = s.touched; unread = s.unread; queue = s.queue }
 
   pub placing-more : (old t t' : Tables) (n : ℕ) (value : Word) → Kept old → Placing structs input shape words old t n → (kind : FieldKind) → Some kind ≡ field_kind structs shape n → is_cell (Some kind) ≡ true
       → value ≡ unwrap_or (slice_get words n) (default_of_field kind)
@@ -157,4 +173,5 @@ module _ (structs : List StructInfo) (input : ℕ) (shape : Shape) (words : List
         (λ r a b. absurd (let no : true ≡ false = sym a ∙ (ap (λ (q : Waiting). is_in r q.stamps) queue ∙ b) in cc)) kept;
     touched = λ field c. others (record { block = Input input; field = field }) (s.touched field c);
     unread = λ field. reads-same t t' s.setting.kept kept trace (record { block = Input input; field = field }) ∙ s.unread field;
+    queue = ap (λ (q : Waiting). q.stamps) queue ∙ s.queue;
   }

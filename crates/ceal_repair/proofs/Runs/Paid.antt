@@ -9,7 +9,10 @@ use Rattle.ceal_order.proofs.Places.{in_head, in_tail, length-without, other_lef
 use Rattle.ceal_order.specs.Rising.{IsRising, IsBeforeAll}
 use Rattle.ceal_order.specs.Stamps.{is_in, place, without}
 use Rattle.ceal_repair.proofs.TableCalls.FewLooks.{owed-same}
-use Rattle.ceal_repair.specs.Looks.{owed, due, NoneDiffers, OneDiffers, writes_at, write_count, PaysBut, Pays, Borrows}
+use Rattle.ceal_repair.specs.Looks.{owed, due, NoneDiffers, OneDiffers, writes_at, write_count, PaysBut, Pays, PaysFirst, LooksNever}
+use Rattle.ceal_repair.specs.Propagation.{Concludes}
+use Rattle.ceal_repair.specs.declared.advance.Progress.{Progress}
+use Rattle.ceal_repair.specs.declared.advance.Progress.TheVariants.{More, Done, Spent, OutOfFuel}
 use Rattle.ceal_repair.specs.declared.running.Running.{Running}
 use Rattle.ceal_repair.specs.declared.tables.Tables.{Tables}
 use Rattle.ceal_trace.specs.Nodes.{Entry, changed_at, valued, value_set, steps_set, with_value, with_steps, with_entry_after, new_entry}
@@ -83,9 +86,16 @@ one-more d n e l = elim (eq-or-lt_of_le (min-le_left (d + 1) (2 ^ 64 - 1))) [
   | inr h ↦ absurd (let k : n + 1 ≤ min (d + 1) (2 ^ 64 - 1) = le-min (omega (arith, e, h)) (omega (arith, l)) in omega (arith, e, k))
 ]
 
--- a content that differed
+-- what is left over need not be spent
+pub pays-less : (n : ℕ) (a b : Running) → PaysBut n a b → Pays a b
+pays-less n a b p = λ l. let r = p l in (r.0, omega (arith, r.1))
+
+-- a content that differed pays for its look, and for one more
+pub one-left : (a b : Running) → due b.tables ≤ due a.tables + 1 → b.spent ≡ a.spent → OneDiffers a.tables b.tables → PaysBut 1 a b
+one-left a b d s m = λ l. let k = one-more a.tables.mods.differed b.tables.mods.differed m l in (omega (arith, k), omega (arith, d, s, k))
+
 pub one-pays : (a b : Running) → due b.tables ≤ due a.tables + 1 → b.spent ≡ a.spent → OneDiffers a.tables b.tables → Pays a b
-one-pays a b d s m = λ l. let k = one-more a.tables.mods.differed b.tables.mods.differed m l in (omega (arith, k), omega (arith, d, s, k))
+one-pays a b d s m = pays-less 1 a b (one-left a b d s m)
 
 pub on-ok : {A E P Q : Type 0} (r : Result A E) → (P → Q) → OnOk r P → OnOk r Q
 on-ok (Ok x) f p = f p
@@ -115,17 +125,33 @@ due-made a b e l order r h =
     let k = ap (λ t. write_count t.nodes) e in
     let n = no-longer order b.stale.stamps a.stale.stamps r h in omega (arith, k, l, n)
 
--- ---- a look that is not paid yet
+-- only the tables and the steps matter
+pub pays-as : (a a' b b' : Running) → a.tables ≡ a'.tables → a.spent ≡ a'.spent → b.tables ≡ b'.tables → b.spent ≡ b'.spent → Pays a b → Pays a' b'
+pays-as a a' b b' t s u v h = rw (← t, ← s, ← u, ← v) h
+
+-- a run from nothing
+pub first-pays : (a : Running) → a.tables.trace.nodes ≡ new_entry 0 Root ∷ [] → a.tables.stale.stamps ≡ [] → LooksNever a.tables → a.spent ≡ 0 → (b c a' : Running) → a'.tables ≡ a.tables → a'.spent ≡ a.spent → c.tables ≡ b.tables → c.spent ≡ b.spent
+    → Pays a' b → PaysFirst c
+first-pays a nodes queue looks spent b c a' t s u v pays = λ l.
+    let p = (pays-as a' a b c t s (sym u) (sym v) pays) l in
+    let n = ap write_count nodes in
+    let q = ap (λ (xs : List ℕ). length xs) queue in
+    omega (arith, p.1, n, q, looks.looked, looks.differed, spent)
+
+-- ---- turns, of each of which one look is left over
 
 pub due-one : (a b : Tables) → b.trace ≡ a.trace → owed b ≤ owed a + 1 → due b ≤ due a + 1
 due-one a b e o = let k = ap (λ t. write_count t.nodes) e in omega (arith, o, k)
 
-pub borrows : (a b c : Running) → Pays a b → due c.tables ≤ due b.tables + 1 → c.spent ≡ b.spent → NoneDiffers b.tables c.tables → Borrows a c
-borrows a b c pays d s m = λ l. let p = pays (omega (arith, l, m)) in (omega (arith, p.0, m), omega (arith, p.1, d, s, m))
+-- a turn more
+pub turn-pays : (n : ℕ) (a b c : Running) → PaysBut n a b → PaysBut 1 b c → PaysBut (n + 1) a c
+turn-pays n a b c p q = λ l.
+    let s = q l in
+    let r = p (omega (arith, s.0, l)) in (omega (arith, r.0, s.0), omega (arith, r.1, s.1))
 
-pub pays-borrows : (a b : Running) → Pays a b → Borrows a b
-pays-borrows a b pays = borrows a b b pays (omega arith) refl refl
-
--- only the tables and the steps matter
-pub borrows-as : (a a' b b' : Running) → a.tables ≡ a'.tables → a.spent ≡ a'.spent → b.tables ≡ b'.tables → b.spent ≡ b'.spent → Borrows a b → Borrows a' b'
-borrows-as a a' b b' t s u v h = rw (← t, ← s, ← u, ← v) h
+-- so it is with a run that has ended
+pub pays-concluded : (p : Progress) (fuel : ℕ) (a b c : Running) → Concludes p fuel b c → Pays a b → Pays a c
+pays-concluded More fuel a b c h pays = absurd h
+pays-concluded Done fuel a b c h pays = pays-as a a b c refl refl (sym h.tables) (sym h.spent) pays
+pays-concluded Spent fuel a b c h pays = absurd h
+pays-concluded OutOfFuel fuel a b c h pays = subst (λ r. Pays a r) (sym h.0) pays

@@ -1,5 +1,5 @@
 -- A run from nothing, when its last unit is over.
-use Rattle.std.proofs.Common.{◌≡◌, ◌<◌, ◌≤◌, ℕ, Option, Some, None, List, [], ◌++◌, length, reverse, refl, sym, ap, subst, ◌∙◌, arith, append-nil}
+use Rattle.std.proofs.Common.{true, ◌≡◌, ◌<◌, ◌≤◌, ℕ, Option, Some, None, List, [], ◌++◌, length, reverse, refl, sym, ap, subst, ◌∙◌, arith, append-nil}
 use Rattle.ceal_base.specs.Block.{Block}
 use Rattle.ceal_base.specs.Trace.{flat}
 use Rattle.ceal_base.specs.declared.word.Word.{Word}
@@ -9,9 +9,14 @@ use Rattle.ceal_code.specs.Program.{Code}
 use Rattle.ceal_code.specs.Step.{Stack, Over, next}
 use Rattle.ceal_code.specs.Stacks.{stack_in}
 use Rattle.ceal_heap.specs.Heap.{HasSlots, ReleasesRevoked}
+use Rattle.ceal_order.specs.Stamps.{Distinct}
 use Rattle.ceal_order.specs.declared.stamp.Stamp.{Stamp}
 use Rattle.ceal_repair.proofs.Revocation.BlockRelease.{words-released, none-revoked, blocks-released}
+use Rattle.ceal_repair.proofs.KeptNodes.PassAll.{position-within}
+use Rattle.ceal_repair.proofs.Revocation.FirstNode.{length-more}
+use Rattle.ceal_repair.proofs.TableCalls.BaseEdit.{queue-empty}
 use Rattle.ceal_repair.specs.Answers.{IsFirstRun}
+use Rattle.ceal_repair.specs.Looks.{PaysFirst}
 use Rattle.ceal_repair.specs.Around.{Tails}
 use Rattle.ceal_repair.specs.Entries.{entries}
 use Rattle.ceal_repair.specs.Moment.{View, RunningNow, first_start, state_at, through}
@@ -27,8 +32,10 @@ use Rattle.ceal_theory.specs.Named.{then_from}
 use Rattle.ceal_theory.specs.Cover.{known_after}
 use Rattle.ceal_theory.specs.Repair.{State}
 use Rattle.ceal_theory.specs.Turns.{Ended, turn}
+use Rattle.ceal_trace.proofs.Entries.{has-read}
+use Rattle.ceal_trace.proofs.Parts.{not_before, position-part}
 use Rattle.ceal_trace.specs.Items.{forest_of, unclosed, Nests}
-use Rattle.ceal_trace.specs.Nodes.{Entry}
+use Rattle.ceal_trace.specs.Nodes.{Entry, stamps_in, has_node, position}
 
 -- ---- no frame is left
 
@@ -79,13 +86,24 @@ module _ (code : Code) (inputs : List Block) (f : ℕ) (args : List Word) (fits 
     nests : Nests v.tables.trace.nodes
     nests = ap (λ es. unclosed (Some []) es) nodes-front ∙ (now.placed.opened ∙ ap (λ rs. Some (rs ++ [])) bottom.2)
 
+    -- nothing is after the cursor, so nothing is queued
+    idle : v.tables.stale.stamps ≡ []
+    idle = queue-empty v.tables.stale.stamps
+        (λ r i.
+        let distinct = subst (λ es. Distinct (stamps_in es)) nodes-front now.placed.kept.step.whole.order.distinct in
+        let at : position v.cursor v.tables.trace.nodes ≡ length now.placed.done =
+        ap (position v.cursor) nodes-front ∙ (ap (λ s. position s front) (sym now.placed.cursor) ∙ position-part now.placed.last [] now.placed.done (not_before now.placed.done now.placed.last [] distinct)) in
+        let here = subst (λ es. has_node r es ≡ true) nodes-front (has-read r v.tables.trace.nodes (now.placed.kept.step.queued r i)) in
+        let far : position r v.tables.trace.nodes < length front = subst (λ es. position r es < length front) (append-nil front ∙ sym nodes-front) (position-within r front [] here) in
+        omega (arith, now.placed.late r i, at, far, length-more now.placed.done now.placed.last))
+
     mentions : KnownItems (length inputs) [] (flat ended.items) (known_after [] (flat ended.items))
     mentions = subst (λ is. KnownItems (length inputs) [] is (known_after [] is)) (sym (ap forest_of nodes-front) ∙ items) now.course.mentions
 
     module _ (run : Running) (same : run.tables ≡ v.tables) (spent : run.spent ≡ v.spent) (rel : ReleasesRevoked v.heap run.heap) (slots : HasSlots run.heap) where
       -- what is left is the first trace of the call
-      pub first-run : (fuel : ℕ) → v.spent ≤ fuel → IsFirstRun code inputs f args fuel run
-      first-run fuel few = record {
+      pub first-run : (fuel : ℕ) → v.spent ≤ fuel → PaysFirst run → IsFirstRun code inputs f args fuel run
+      first-run fuel few paid = record {
         trace = ended.items;
         is_run = record {
           stands = record {
@@ -100,7 +118,9 @@ module _ (code : Code) (inputs : List Block) (f : ℕ) (args : List Word) (fits 
           replays = ended.named.replays;
           honest = ended.named.honest;
           few = omega (arith, few, ended.steps);
+          idle = rw same idle;
         };
+        pays = paid;
         first = ended.a;
         is = ended.is fuel few;
         names = then_from now.course.made ended.bound;
@@ -111,9 +131,9 @@ module _ (code : Code) (inputs : List Block) (f : ℕ) (args : List Word) (fits 
 -- a repair that is over, whose revoked blocks were taken away
 module _ (code : Code) (inputs : List Block) (f : ℕ) (args : List Word) (fits : Fits code inputs f args) (laws : ChosenLaws code) (r : Repair) (same_code : code_of r ≡ code) (same_inputs : inputs_of r ≡ inputs) (fuel : ℕ) where
   pub first-done : IsOver (first_start code inputs f args) r → (view r).spent ≤ fuel → (run : Running) → run.tables ≡ r.running.now.tables → run.spent ≡ r.running.now.spent → ReleasesRevoked r.running.now.heap run.heap
-      → HasSlots run.heap → IsFirstRun code inputs f args fuel run
-  first-done over few run tables spent rel slots =
-      first-run code inputs f args fits laws over.stack (view r) (rw (same_code, same_inputs) at over.now) (rw (same_code, same_inputs) at over.over) (ap (λ fs. reverse fs) over.last) run tables spent rel slots fuel few
+      → HasSlots run.heap → PaysFirst run → IsFirstRun code inputs f args fuel run
+  first-done over few run tables spent rel slots paid =
+      first-run code inputs f args fits laws over.stack (view r) (rw (same_code, same_inputs) at over.now) (rw (same_code, same_inputs) at over.over) (ap (λ fs. reverse fs) over.last) run tables spent rel slots fuel few paid
 
   pub first-out : Runs (first_start code inputs f args) r → fuel < (view r).spent → fresh code f args inputs fuel ≡ None
   first-out runs more = first-over code inputs f args fits laws (stack_in r.stack.now) (view r) (rw (same_code, same_inputs) at runs) fuel more

@@ -11,7 +11,7 @@ use Rattle.ceal_code.specs.Replay.{stored}
 use Rattle.ceal_mods.specs.Cell.{with_base}
 use Rattle.ceal_mods.specs.Mods.{Contents, cell_of, Changes, Follows as Mods_follow}
 use Rattle.ceal_mods.specs.declared.cell.Cell.{Cell}
-use Rattle.ceal_order.proofs.Places.{place_below, place_tells}
+use Rattle.ceal_order.proofs.Places.{in_head, place_below, place_tells}
 use Rattle.ceal_order.proofs.RisingLemmas.{in_order}
 use Rattle.ceal_order.specs.Rising.{IsRising}
 use Rattle.ceal_order.specs.Stamps.{is_in, place, head_of}
@@ -108,6 +108,11 @@ looking-first old k = record { kept = k; trace = refl; cells = refl; memo = refl
 pub none-late : (old t : Tables) (n : ℕ) → Looking old t n → 2 ^ 32 ≤ n → (s : ℕ) → is_in s t.stale.stamps ≡ true → ⊥
 none-late old t n l far s i =
     omega (arith, l.late s i, far, place_below s (stamps_in t.trace.nodes) (in_order s t.stale.stamps (stamps_in t.trace.nodes) l.kept.step.stale i), l.kept.step.whole.order.few)
+
+-- a queue that has none is empty
+pub queue-empty : (q : List ℕ) → ((s : ℕ) → is_in s q ≡ true → ⊥) → q ≡ []
+queue-empty [] none = refl
+queue-empty (s ∷ ss) none = absurd (none s (in_head s ss))
 
 -- a read was popped
 module _ (t : Tables) (k : Kept t) (s : ℕ) (stale : Waiting) (first : IsEarliest (stamps_in t.trace.nodes) t.stale.stamps s) (out : IsWithout s t.stale.stamps stale.stamps) where

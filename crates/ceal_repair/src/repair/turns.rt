@@ -4,29 +4,19 @@ ghost use Rattle.std.specs.Prelude.{◌≡◌, ◌≢◌, ◌≤◌, [], ℕ, Li
 ghost use Rattle.ceal_base.specs.declared.word.Word.{Word};
 ghost use Rattle.ceal_code.specs.Replay.{IsHonest};
 ghost use Rattle.ceal_repair.specs.Propagation.{HasCome, Propagated, AfterTurn};
-ghost use Rattle.ceal_repair.specs.Looks.{Pays, Borrows};
+ghost use Rattle.ceal_repair.specs.Looks.{Pays};
 ghost use Rattle.ceal_repair.specs.Repairs.{code_of, inputs_of, running_of, frames_of, SameCall};
 ghost use Rattle.ceal_repair.specs.Turning.{Since, FoundStale};
-ghost use Rattle.ceal_repair.specs.declared.repair.turns.Ending.TheVariants.{Spent};
+ghost use Rattle.ceal_repair.specs.declared.advance.Progress.TheVariants.{Spent};
 ghost use Rattle.ceal_repair.specs.declared.running.Running.{Running};
 
 use super::Repair;
+use crate::advance::Progress;
 use crate::complete::complete;
 use ceal_base::no_memory::NoMemory;
 use ceal_order::stamp::Stamp;
 
-/// How turns have come to an end.
-#[derive(Clone, Copy)]
-pub enum Ending {
-    /// no read is stale
-    Done,
-    /// as many reads were re-executed as were to be, and one is stale still
-    More,
-    /// more steps were spent than the fuel allows
-    Spent,
-}
-
-/// Whether that many turns were made as there are to be.
+/// Whether the requested number of turns was made.
 fn is_last(reads: Option<u32>, turns: u64) -> bool
     ensures last { IsTrue result → reads ≡ Some turns }
     ensures fewer { result ≡ false → reads ≢ Some turns }
@@ -38,21 +28,22 @@ fn is_last(reads: Option<u32>, turns: u64) -> bool
 }
 
 impl<'a> Repair<'a> {
-    /// Makes turns until no read is stale, or that many of them as there are to be. Where no read was stale at the beginning no memory is
-    /// taken. No run that fits into memory comes to 2^64 turns; one that did would be answered as out of memory.
-    pub fn turns(&mut self, reads: Option<u32>, fuel: u32) -> Result<Ending, NoMemory>
+    /// Makes turns until no read is stale, or the requested number of them. Where no read was stale at the beginning no memory is
+    /// taken. No run that fits into memory has 2^64 turns; one that had would be answered as out of memory.
+    pub fn turns(&mut self, reads: Option<u32>, fuel: u32) -> Result<Progress, NoMemory>
         requires comes { (f : ℕ) × (args : List Word) × (o : Since) × (before : Running)
             × HasCome (code_of self.old) (inputs_of self.old)
             f args o before (running_of self.old) }
         requires idle { frames_of self.old ≡ [] }
+        requires some { reads ≢ Some 0 }
         ensures call { OnOk result (SameCall self.old self.new) }
-        ensures pays { OnOk result (Borrows (running_of self.old) (running_of self.new)) }
+        ensures pays { OnOk result (Pays (running_of self.old) (running_of self.new)) }
         ensures ended { IfOk result
-            (λ e. (f : ℕ) (args : List Word) (o : Since) (before : Running)
+            (λ p. (f : ℕ) (args : List Word) (o : Since) (before : Running)
             → HasCome (code_of self.old) (inputs_of self.old) f args o before (running_of self.old)
-            → Propagated e (code_of self.old) (inputs_of self.old)
+            → Propagated p (code_of self.old) (inputs_of self.old)
             f args reads fuel o before (running_of self.new)) }
-        ensures within { IfOk result (λ e. e ≢ Spent → (running_of self.old).spent ≤ fuel
+        ensures within { IfOk result (λ p. p ≢ Spent → (running_of self.old).spent ≤ fuel
             → (running_of self.new).spent ≤ fuel) }
         ensures sure { (f : ℕ) (args : List Word) (o : Since) (before : Running)
             → HasCome (code_of self.old) (inputs_of self.old) f args o before (running_of self.old)
@@ -61,15 +52,15 @@ impl<'a> Repair<'a> {
         for turn in 0..u64::MAX {
             if is_last(reads, turn) {
                 if self.running.tables.has_stale() {
-                    return Ok(Ending::More);
+                    return Ok(Progress::More);
                 }
-                return Ok(Ending::Done);
+                return Ok(self.running.conclude(fuel));
             }
             match self.running.tables.first_stale(None) {
-                None => return Ok(Ending::Done),
+                None => return Ok(self.running.conclude(fuel)),
                 Some(read) => {
                     if !self.turn_from(read, fuel)? {
-                        return Ok(Ending::Spent);
+                        return Ok(Progress::Spent);
                     }
                 }
             }

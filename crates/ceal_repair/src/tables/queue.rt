@@ -1,6 +1,6 @@
 // The queue of stale reads: which reads it has, and which of them comes first.
 
-ghost use Rattle.std.specs.Prelude.{◌≡◌, ◌<◌, ◌≤◌, ◌+◌, ◌↔◌, ◌≢◌, ℕ, length, Some, None, true, false, IfSome, IfNone, IsTrue};
+ghost use Rattle.std.specs.Prelude.{◌≡◌, ◌<◌, ◌≤◌, ◌+◌, ◌↔◌, ◌≢◌, ℕ, [], length, Some, None, true, false, IfSome, IfNone, IsTrue};
 ghost use Rattle.std.specs.Option.{ForSome};
 ghost use Rattle.ceal_base.specs.declared.word.Place.{Place as PlaceOf};
 ghost use Rattle.ceal_base.specs.declared.word.Word.{Word as WordOf};
@@ -87,6 +87,7 @@ impl Tables {
         requires kept { Kept self.old }
         ensures stale { IsTrue result → (s : ℕ) × IsStale s self.old }
         ensures honest { result ≡ false → (s : ℕ) → IsHonestRecord s self.new }
+        ensures none { result ≡ false → self.new.stale.stamps ≡ [] }
         ensures looks { owed self.new ≤ owed self.old + 1 }
         ensures idle { result ≡ false → owed self.new ≤ owed self.old }
         ensures differed { NoneDiffers self.old self.new }

@@ -230,7 +230,7 @@ module _ (e e' : EngineState) (call : Call) (code : e'.code ≡ e.code) (fuel : 
   pub after-done : (reads : Option ℕ) (r : Repair) → IsWhole e'.phase → IsPresent e' → (h : Ends e e' reads 0 r) → Same (left_by e.code e.inputs first (Some h.repair))
   after-done reads r ph present h = go (trace e') refl h.items
     where
-      go : (o : Option Trace) → trace e' ≡ o → IsSomeAnd o (RenamedFrom 0 h.repair.items) → Same (left_by e.code e.inputs first (Some h.repair))
+      go : (o : Option Trace) → trace e' ≡ o → IsSomeAnd o (RenamedFrom e 0 r h.repair.items) → Same (left_by e.code e.inputs first (Some h.repair))
       go None is i = absurd i
       go (Some l) is i =
           let a = has-a-first present in

@@ -1,5 +1,5 @@
 use Rattle.std.proofs.Common.{sym, ◌∙◌}
-use Rattle.ceal_repair.proofs.Runs.InputPlaces.{placing-plain, placing-more}
+use Rattle.ceal_repair.proofs.Runs.InputPlaces.{placing-plain, placing-more, placed-looks}
 use Rattle.ceal_repair.proofs.edits.set_input.Goals as goal
 use Rattle.ceal_repair.proofs.edits.set_input.Goals.{then-is_modifiable, else-is_modifiable}
 
@@ -16,3 +16,9 @@ loop-field-preserved c = elim c.if-is_modifiable.branch [
       (placing-plain c.args.structs.now c.args.input c.args.shape c.args.words.now c.args.tables.now c.loop-field.tables c.loop-field.field c.loop-field.invariant c.in-Some.kind
       (sym c.in-Some.is ∙ c.field_kind.ensures.value) (sym c.is_modifiable.ensures.value ∙ w.if-is_modifiable.false))
 ]
+
+pub returns-in-None-clause-looks : goal.returns-in-None-clause-looks
+returns-in-None-clause-looks c = placed-looks c.args.structs.now c.args.input c.args.shape c.args.words.now c.args.tables.now c.loop-field.tables c.loop-field.field c.loop-field.invariant
+
+pub returns-clause-looks : goal.returns-clause-looks
+returns-clause-looks c = placed-looks c.args.structs.now c.args.input c.args.shape c.args.words.now c.args.tables.now c.loop-field.tables c.loop-field.field c.loop-field.invariant

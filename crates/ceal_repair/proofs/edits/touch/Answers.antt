@@ -1,6 +1,12 @@
-use Rattle.ceal_repair.proofs.Runs.InputPlaces.{touched-either, kept-cells}
+use Rattle.std.proofs.Common.{refl}
+use Rattle.ceal_repair.proofs.Runs.InputPlaces.{touched-either, touched-looks, kept-cells}
 use Rattle.ceal_trace.specs.Nodes.{stamps_in}
 use Rattle.ceal_repair.proofs.edits.touch.Goals as goal
+
+pub returns-clause-looks : goal.returns-clause-looks
+returns-clause-looks c =
+    let l = touched-looks c.set_base.result c.args.tables.now.mods c.set_base.new.self c.args.place _ c.set_base.ensures.ok c.set_base.ensures.err in
+    record { looked = l.0; differed = l.1; queue = refl }
 
 pub returns-clause-kept : goal.returns-clause-kept
 returns-clause-kept c =

@@ -1,5 +1,6 @@
 use Rattle.std.proofs.Common.{◌≡◌, ap, ◌∙◌, rules}
 use Rattle.ceal_repair.proofs.Runs.RunEnd.{first-done, first-out}
+use Rattle.ceal_repair.proofs.Runs.Paid.{first-pays}
 use Rattle.ceal_repair.proofs.Runs.RunStart.{begun}
 use Rattle.ceal_repair.proofs.first.first.Goals as goal
 use Rattle.ceal_repair.specs.Moment.{first_start}
@@ -26,7 +27,9 @@ returns-in-Ok-true c =
       first =
           first-done c.args.code.now c.args.inputs.now c.args.function c.args.args.now c.requires.fits (c.chosen_law.ensures.law c.args.code.now) c.complete.new.repair (same.code ∙ r.code) (same.inputs ∙ r.inputs) c.args.fuel
           done.0 done.1 (record { tables = c.running-3-1.given.0.tables; heap = c.release_revoked.new.self; spent = c.running-3-1.given.0.spent }) (ap (λ (run : Running). run.tables) back)
-          (ap (λ (run : Running). run.spent) back) (rw back at c.release_revoked.ensures.released) c.release_revoked.ensures.slots;
+          (ap (λ (run : Running). run.spent) back) (rw back at c.release_revoked.ensures.released) c.release_revoked.ensures.slots
+          (first-pays c.in_ok-running.running e.nodes e.queue e.looks e.spent c.complete.new.repair.running.now (record { tables = c.running-3-1.given.0.tables; heap = c.release_revoked.new.self; spent = c.running-3-1.given.0.spent }) c.at_root-repair.result.running.now r.view r.spent
+          (ap (λ (run : Running). run.tables) back) (ap (λ (run : Running). run.spent) back) c.in-Ok-true.ensures.pays);
     }
 
 pub returns-in-Ok-false : goal.returns-in-Ok-false

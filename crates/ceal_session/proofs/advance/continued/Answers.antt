@@ -8,7 +8,7 @@ pub returns : goal.returns
 returns c = record {
   brings = λ call again.
       let e = c.args.engine.now in
-      let o = c.go_on-came in
+      let o = c.advance-came in
       brought-on e o.new.self c.phase-before.ensures.whole call
       (subst (λ a. IfSome a (λ call. Fits e.code e.inputs call.function call.args)) again c.phase-before.ensures.whole.call)
       o.ensures.code o.ensures.fuel o.ensures.inputs (o.ensures.call ∙ again) c.args.reads c.requires.run again

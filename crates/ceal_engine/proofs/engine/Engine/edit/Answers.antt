@@ -1,6 +1,15 @@
 use Rattle.std.proofs.Common.{◌≡◌, ◌∙◌, true, sym, subst}
 use Rattle.ceal_engine.proofs.Keeping.{run-kept, on-err, sound-edited, sound-left, state-left}
-use Rattle.ceal_engine.specs.Engine.{takes}
+use Rattle.ceal_base.specs.Fitting.{kind_at}
+use Rattle.ceal_code.proofs.Words.SameIsEqual.{both}
+use Rattle.ceal_code.specs.Value.{is_cell}
+use Rattle.ceal_engine.proofs.EngineLaws.{carries-still, same-base}
+use Rattle.ceal_engine.proofs.Inputs.{extended-edit}
+use Rattle.ceal_engine.proofs.LooksOfCalls.{looks-edit, looks-same, spent-edited}
+use Rattle.ceal_engine.specs.Engine.{alone, edited, fits_in, takes, with_base}
+use Rattle.ceal_engine.specs.Keeping.{state_of}
+use Rattle.ceal_engine.specs.Looks.{LooksOfEdit}
+use Rattle.ceal_engine.specs.Partial.{CarriesFrom}
 use Rattle.ceal_engine.proofs.engine.Engine.edit.Goals as goal
 
 pub invariant_of-self : goal.invariant_of-self
@@ -20,3 +29,26 @@ returns-in_err-edit-clause-err c =
 
 pub edit-requires : goal.edit-requires
 edit-requires c = record { kept = run-kept c.self.inside.code c.self.inside.fuel c.self.inside.inputs c.self.inside.phase c.self.inside.call.call c.self.inside.running c.self.invariant.keeps }
+
+pub returns-in_err-edit-clause-looks : goal.returns-in_err-edit-clause-looks
+returns-in_err-edit-clause-looks c =
+    let v = c.self.inside in
+    looks-same c.args.self.now _ (state-left v.code v.fuel v.inputs v.call.call v.phase v.running c.edit.new.run c.in_err-edit.ensures.err ∙ c.self.view_is)
+
+pub returns-clause-looks : goal.returns-clause-looks
+returns-clause-looks c =
+    let v = c.self.inside in
+    rw (c.set_base.ensures, c.phase_edited-self-inside.ensures)
+    (subst (λ e. LooksOfEdit e (state_of v.code v.fuel (with_base v.inputs c.args.place c.args.value) v.call.call (edited v.phase) c.edit.new.run)) c.self.view_is
+    (looks-edit v.code v.fuel v.inputs v.call.call v.phase c.args.place c.args.value (with_base v.inputs c.args.place c.args.value) v.running c.edit.new.run c.in_ok-edit.ensures.ok))
+
+pub returns-clause-carries : goal.returns-clause-carries
+returns-clause-carries c = λ next r carries.
+    let v = c.self.inside in
+    let takes-it = subst (λ e. takes e c.args.place c.args.value ≡ true) (sym c.self.view_is) c.requires in
+    let more = with_base v.inputs c.args.place c.args.value in
+    let sound = sound-edited v.code v.inputs c.args.place c.args.value c.self.invariant.fit takes-it v.fuel v.call v.phase v.running c.edit.new.run c.in_ok-edit.ensures.ok c.self.invariant in
+    rw (c.set_base.ensures, c.phase_edited-self-inside.ensures)
+    (carries-still v.code v.fuel v.inputs more v.call v.phase (edited v.phase) v.running c.edit.new.run c.self.invariant sound
+    (extended-edit v.code v.inputs c.args.place c.args.value (both (is_cell (kind_at v.code.structs (alone v.inputs) c.args.place)) (fits_in v.code.structs (alone v.inputs) (kind_at v.code.structs (alone v.inputs) c.args.place) c.args.value) takes-it).0)
+    (spent-edited v.phase) (same-base c.args.place c.args.value v.running c.edit.new.run c.in_ok-edit.ensures.ok) next r (subst (λ e. CarriesFrom e next r) (sym c.self.view_is) carries))

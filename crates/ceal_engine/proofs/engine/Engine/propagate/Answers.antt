@@ -1,12 +1,15 @@
-use Rattle.std.proofs.Common.{◌∙◌, ap, refl, subst}
+use Rattle.std.proofs.Common.{◌≡◌, false, true, inl, ◌∙◌, ap, refl, subst}
 use Rattle.std.proofs.lemmas.Result.{err_from_is_err_and}
 use Rattle.std.specs.Option.{option_map}
-use Rattle.ceal_engine.proofs.Carrying.{ended-so}
+use Rattle.ceal_engine.proofs.Carrying.{ended-so, whole-repair}
+use Rattle.ceal_engine.proofs.NoneStale.{no-trace}
 use Rattle.ceal_engine.proofs.Propagated.{finished-clause, sound-idle, idle-forest, idle-work}
-use Rattle.ceal_engine.proofs.Present.{sound-present}
+use Rattle.ceal_engine.proofs.Present.{not-both, sound-present}
+use Rattle.ceal_engine.proofs.LooksOfCalls.{looks-idle, looks-either, on-ok}
 use Rattle.ceal_engine.specs.Completed.{idle}
-use Rattle.ceal_engine.specs.Engine.{trace}
-use Rattle.ceal_engine.specs.Keeping.{Keeps}
+use Rattle.ceal_engine.specs.Engine.{has_run, trace}
+use Rattle.ceal_engine.specs.Keeping.{Keeps, state_of}
+use Rattle.ceal_engine.specs.Looks.{LooksOfEither, LooksOfRepair}
 use Rattle.ceal_engine.proofs.engine.Engine.propagate.Goals as goal
 
 pub returns-in-Finished-clause-present : goal.returns-in-Finished-clause-present
@@ -22,11 +25,81 @@ returns-in-Finished-clause-repaired c = λ w l e.
     (subst (λ p. Keeps c.self.inside.code c.self.inside.fuel c.self.inside.inputs p c.self.inside.call.call c.self.inside.running) c.in-Finished.is c.self.invariant.keeps) c.self.inside.phase
     (option_map idle c.self.inside.running) (idle-forest c.self.inside.running) (idle-work c.self.inside.running) l (ap trace c.self.view_is ∙ e))
 
-pub returns-in_ok-go_on-in-Partial-clause-partial : goal.returns-in_ok-go_on-in-Partial-clause-partial
-returns-in_ok-go_on-in-Partial-clause-partial c = λ e next r carries.
-    ended-so c.args.self.now c.go_on.new.self next r c.in_ok-go_on-in-Partial.field-0 (c.in_ok-go_on-in-Partial.ensures.comes next r carries) c.in_ok-go_on-in-Partial.ensures.more
+pub returns-in-Finished-clause-looks : goal.returns-in-Finished-clause-looks
+returns-in-Finished-clause-looks c = λ w.
+    let v = c.self.inside in
+    rw c.rest.ensures
+    (subst (λ e. LooksOfRepair e (state_of v.code v.fuel v.inputs v.call.call v.phase (option_map idle v.running))) c.self.view_is (looks-idle v.code v.fuel v.inputs v.call.call v.phase v.running c.in-Finished.is))
 
-pub returns-in_err-go_on-in-Partial-clause-partial : goal.returns-in_err-go_on-in-Partial-clause-partial
-returns-in_err-go_on-in-Partial-clause-partial c = λ e next r carries.
+pub returns-in-Finished-clause-looks_always : goal.returns-in-Finished-clause-looks_always
+returns-in-Finished-clause-looks_always c =
+    let v = c.self.inside in
+    rw c.rest.ensures
+    (subst (λ e. LooksOfEither e (state_of v.code v.fuel v.inputs v.call.call v.phase (option_map idle v.running))) c.self.view_is
+    (inl (rw c.in-Finished.is refl, looks-idle v.code v.fuel v.inputs v.call.call v.phase v.running c.in-Finished.is)))
+
+pub returns-in_ok-advance-in-Partial-clause-partial : goal.returns-in_ok-advance-in-Partial-clause-partial
+returns-in_ok-advance-in-Partial-clause-partial c = λ e next r carries.
+    ended-so c.args.self.now c.advance-in-Partial.new.self next r c.in_ok-advance-in-Partial.field-0 (c.in_ok-advance-in-Partial.ensures.comes next r carries) c.in_ok-advance-in-Partial.ensures.more
+
+pub returns-in_err-advance-in-Partial-clause-partial : goal.returns-in_err-advance-in-Partial-clause-partial
+returns-in_err-advance-in-Partial-clause-partial c = λ e next r carries.
+    let error = err_from_is_err_and c.from_residual-in_err-advance-in-Partial.result c.from_residual-in_err-advance-in-Partial.ensures.1 in
+    rw (error.1, error.2) (c.in_err-advance-in-Partial.ensures.comes next r carries)
+
+pub returns-in_ok-advance-in-Pending-clause-looks_always : goal.returns-in_ok-advance-in-Pending-clause-looks_always
+returns-in_ok-advance-in-Pending-clause-looks_always c =
+    let a = c.in_ok-advance-in-Pending.ensures in
+    looks-either c.args.self.now c.advance.new.self c.in_ok-advance-in-Pending.field-0 (subst (λ e. has_run e.phase ≡ true) c.self.view_is (rw c.in-Pending.is refl)) a.looks a.looks_anew a.first
+
+pub returns-in_ok-advance-in-Partial-clause-looks_always : goal.returns-in_ok-advance-in-Partial-clause-looks_always
+returns-in_ok-advance-in-Partial-clause-looks_always c =
+    let a = c.in_ok-advance-in-Partial.ensures in
+    looks-either c.args.self.now c.advance-in-Partial.new.self c.in_ok-advance-in-Partial.field-0 (subst (λ e. has_run e.phase ≡ true) c.self.view_is (rw c.in-Partial.is refl)) a.looks a.looks_anew a.first
+
+pub returns-in-Dropped-clause-looks_always : goal.returns-in-Dropped-clause-looks_always
+returns-in-Dropped-clause-looks_always c = on-ok c.args.self.now c.run_anew.new.self c.run_anew.result c.run_anew.ensures.first c.run_anew.ensures.looks
+
+-- from Pending the call is not run again, so all is repaired
+pub returns-in_ok-advance-in-Pending-clause-repaired : goal.returns-in_ok-advance-in-Pending-clause-repaired
+returns-in_ok-advance-in-Pending-clause-repaired c = λ w l e.
+    let a = c.in_ok-advance-in-Pending.ensures in
+    (whole-repair c.args.self.now c.advance.new.self l c.in_ok-advance-in-Pending.field-0 a.more (a.repaired w l e)).0
+
+pub returns-in_ok-advance-in-Pending-clause-unchanged : goal.returns-in_ok-advance-in-Pending-clause-unchanged
+returns-in_ok-advance-in-Pending-clause-unchanged c = λ w l e h.
+    let a = c.in_ok-advance-in-Pending.ensures in
+    ((whole-repair c.args.self.now c.advance.new.self l c.in_ok-advance-in-Pending.field-0 a.more (a.repaired w l e)).1 h).0
+
+pub returns-in_ok-advance-in-Pending-clause-unchanged_nodes : goal.returns-in_ok-advance-in-Pending-clause-unchanged_nodes
+returns-in_ok-advance-in-Pending-clause-unchanged_nodes c = λ w l e h.
+    let a = c.in_ok-advance-in-Pending.ensures in
+    ((whole-repair c.args.self.now c.advance.new.self l c.in_ok-advance-in-Pending.field-0 a.more (a.repaired w l e)).1 h).1
+
+pub returns-in_ok-advance-in-Pending-clause-front : goal.returns-in_ok-advance-in-Pending-clause-front
+returns-in_ok-advance-in-Pending-clause-front c = λ w.
+    let a = c.in_ok-advance-in-Pending.ensures in
+    a.front (λ anew. not-both c.args.self.now.phase (a.anew anew) w)
+
+pub returns-in_ok-advance-in-Pending-clause-looks : goal.returns-in_ok-advance-in-Pending-clause-looks
+returns-in_ok-advance-in-Pending-clause-looks c = λ w.
+    let a = c.in_ok-advance-in-Pending.ensures in
+    a.looks (λ anew. not-both c.args.self.now.phase (a.anew anew) w)
+
+pub returns-in_err-advance-in-Pending-clause-sure_where_honest : goal.returns-in_err-advance-in-Pending-clause-sure_where_honest
+returns-in_err-advance-in-Pending-clause-sure_where_honest c = λ w l e h. absurd (let no : false ≡ true = c.in_err-advance-in-Pending.ensures.sure_where_honest w l e h in cc)
+
+pub returns-in_err-advance-in-Pending-clause-sure_in_part : goal.returns-in_err-advance-in-Pending-clause-sure_in_part
+returns-in_err-advance-in-Pending-clause-sure_in_part c = λ l e h.
     let error = err_from_is_err_and c.from_residual.result c.from_residual.ensures.1 in
-    rw (error.1, error.2) (c.in_err-go_on-in-Partial.ensures.comes next r carries)
+    rw (error.1, error.2) (c.in_err-advance-in-Pending.ensures.sure_in_part l e h)
+
+pub returns-in_err-advance-in-Partial-clause-sure_in_part : goal.returns-in_err-advance-in-Partial-clause-sure_in_part
+returns-in_err-advance-in-Partial-clause-sure_in_part c = λ l e h.
+    let error = err_from_is_err_and c.from_residual-in_err-advance-in-Partial.result c.from_residual-in_err-advance-in-Partial.ensures.1 in
+    rw (error.1, error.2) (c.in_err-advance-in-Partial.ensures.sure_in_part l e h)
+
+pub returns-in-Dropped-clause-sure_in_part : goal.returns-in-Dropped-clause-sure_in_part
+returns-in-Dropped-clause-sure_in_part c = λ l e h.
+    let v = c.self.inside in
+    absurd (no-trace v.code v.fuel v.inputs v.phase v.call.call v.running c.self.invariant.keeps c.in-Dropped.is l (ap trace c.self.view_is ∙ e))

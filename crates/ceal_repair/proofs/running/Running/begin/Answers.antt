@@ -11,3 +11,9 @@ pub returns-in-Ok-clause-bases : goal.returns-in-Ok-clause-bases
 returns-in-Ok-clause-bases c =
     first-bases c.args.code.now.structs c.args.inputs.now c.in-Ok.heap c.in_ok-tables.tables.mods c.set_inputs.new.tables.mods c.in-Ok.ensures.new c.in_ok-tables.ensures.bases
     (rw (c.items.ensures.value, ap (λ (k : Code). k.structs) c.code.view_is) at c.in_default.ensures.inputs) c.in_default.ensures.others
+
+pub returns-in-Ok-clause-looks : goal.returns-in-Ok-clause-looks
+returns-in-Ok-clause-looks c = record {
+  looked = c.set_inputs.ensures.looked ∙ c.in_ok-tables.ensures.looks.looked;
+  differed = c.set_inputs.ensures.differed ∙ c.in_ok-tables.ensures.looks.differed;
+}

@@ -1,14 +1,14 @@
 use Rattle.std.proofs.Common.{refl, arith}
-use Rattle.ceal_repair.proofs.Propagation.UpToDateRun.{too-many, concluded-run}
 use Rattle.ceal_repair.proofs.running.Running.conclude.Goals as goal
 
-pub returns-then-steps-from-clause-answers : goal.returns-then-steps-from-clause-answers
-returns-then-steps-from-clause-answers c = λ code inputs f args o before done.
-    too-many code inputs f args o before c.args.self.now done c.args.fuel (omega (arith, c.if-steps-from.true, c.steps.ensures.items, c.from.ensures))
+pub returns-then-steps-from : goal.returns-then-steps-from
+returns-then-steps-from c = (refl, omega (arith, c.if-steps-from.true, c.steps.ensures.items, c.from.ensures))
 
-pub returns-else-steps-from-clause-answers : goal.returns-else-steps-from-clause-answers
-returns-else-steps-from-clause-answers c = λ code inputs f args o before done. (
-  concluded-run code inputs f args o before c.args.self.now done c.args.fuel (omega (arith, c.if-steps-from.false, c.steps.ensures.items, c.from.ensures))
-      (record { tables = c.args.self.now.tables; heap = c.release_revoked.new.self; spent = c.args.self.now.spent }) refl c.release_revoked.ensures.released c.release_revoked.ensures.slots,
-  refl,
-)
+pub returns-else-steps-from : goal.returns-else-steps-from
+returns-else-steps-from c = record {
+  tables = refl;
+  spent = refl;
+  few = omega (arith, c.if-steps-from.false, c.steps.ensures.items, c.from.ensures);
+  released = c.release_revoked.ensures.released;
+  slots = c.release_revoked.ensures.slots;
+}

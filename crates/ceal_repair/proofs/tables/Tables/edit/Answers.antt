@@ -38,18 +38,10 @@ returns-clause-kept c =
     (λ t i. c.wake.ensures.more t (rw c.reserve.ensures.stamps i)) (λ t i. c.wake.ensures.only t (rw c.reserve.ensures.stamps i)) c.wake.ensures.woken
     (c.set_base.ensures.follows (stamps_in old.trace.nodes) (rw left c.requires.kept.step.mods)) (rw c.wake.ensures.trace at c.wake.ensures.stale))
 
-pub returns-then-begun-clause-looks : goal.returns-then-begun-clause-looks
-returns-then-begun-clause-looks c =
-    let change = c.in_ok-begun.ensures.begun c.if-begun.true in
-    let a = change.looked in omega (arith, a)
-
-pub returns-clause-looks : goal.returns-clause-looks
-returns-clause-looks c =
-    let change = rw (c.in_ok-begun.ensures.left c.if-begun.false) at c.in_ok-set_base.ensures.ok in
-    let a = change.looked in
-    let b = ap (λ (m : Contents). m.looked) c.wake.ensures.mods in
+pub returns-clause-queued : goal.returns-clause-queued
+returns-clause-queued c =
     let d = c.wake.ensures.one in
-    let e = ap length c.reserve.ensures.stamps in omega (arith, a, b, d, e)
+    let e = ap length c.reserve.ensures.stamps in omega (arith, d, e)
 
 pub returns-then-begun-clause-differed : goal.returns-then-begun-clause-differed
 returns-then-begun-clause-differed c = let change = c.in_ok-begun.ensures.begun c.if-begun.true in change.differed

@@ -2,7 +2,7 @@ use Rattle.std.proofs.Common.{◌≡◌, ℕ, true, false, ◌∙◌, ap, sym, a
 use Rattle.ceal_mods.specs.Mods.{Contents}
 use Rattle.ceal_order.specs.Stamps.{is_in}
 use Rattle.ceal_trace.specs.Nodes.{stamps_in}
-use Rattle.ceal_repair.proofs.TableCalls.BaseEdit.{looking-first, none-late, looked-more, honest-same}
+use Rattle.ceal_repair.proofs.TableCalls.BaseEdit.{looking-first, none-late, looked-more, honest-same, queue-empty}
 use Rattle.ceal_repair.proofs.Lists.PartedLists.{false-of}
 use Rattle.ceal_repair.proofs.TableCalls.CutKeepsTables.{unqueued-honest}
 use Rattle.ceal_repair.specs.Kept.{Kept, IsHonestRecord}
@@ -77,3 +77,10 @@ returns-then-differs-clause-differed c = c.differs.ensures.differed ∙ c.loop-l
 
 pub returns-clause-differed : goal.returns-clause-differed
 returns-clause-differed c = c.loop-looked.invariant.differed
+
+pub returns-in-None-clause-none : goal.returns-in-None-clause-none
+returns-in-None-clause-none c = λ told. queue-empty c.loop-looked.self.stale.stamps (λ r i. absurd (let clash : true ≡ false = sym i ∙ c.in-None.ensures.none r in cc))
+
+pub returns-clause-none : goal.returns-clause-none
+returns-clause-none c = λ told. queue-empty c.loop-looked.self.stale.stamps
+    (λ r i. none-late c.args.self.now c.loop-looked.self c.loop-looked._looked c.loop-looked.invariant (omega (arith, c.loop-looked-test.false)) r i)
