@@ -106,7 +106,7 @@ fn answer_of(alloc: Global, state: &State, reply: Reply) -> Result<Answer, NoMem
         Reply::Ok => Ok(Answer::fixed("ok\n")),
         Reply::OutOfFuel => Ok(Answer::fixed("out of fuel\n")),
         Reply::More => Ok(Answer::fixed("more\n")),
-        Reply::Finished => Ok(Answer::fixed("done\n")),
+        Reply::Done => Ok(Answer::fixed("done\n")),
         Reply::Refused(refusal) => Ok(Answer::fixed(refusal_line(refusal))),
         Reply::Told(query) => told(alloc, state, query),
     }

@@ -4,7 +4,7 @@ use Rattle.ceal_adjust.proofs.known.known_below.Goals.{in-Some+in_ok-push, in_de
 use Rattle.ceal_adjust.proofs.known.known_below.Goals as goal
 
 pub loop-number-init : goal.loop-number-init
-loop-number-init c = below-zero (plain_in c.args.memory.now) c.empty-known.result c.empty-known.ensures
+loop-number-init c = below-zero (plain_in c.args.memory.now) c.new-known.result c.new-known.ensures
 
 pub loop-number-preserved : goal.loop-number-preserved
 loop-number-preserved c = elim c.match-branch-2.branch [
