@@ -1,5 +1,5 @@
 //! The tests, by public calls, of what runs and repairs: repair over whole traces (`adjust`, with `edits`), the run over nodes
-//! (`nodes`), the engine (with `drive`; beside `adjust` in `side_by_side`, in slices in `in_slices`, and where memory is refused in
+//! (`nodes`), the engine (with `drive`; beside `adjust` in `side_by_side`, in slices in `in_slices` and `known`, and where memory is refused in
 //! `recovered`), the recorded traces (`dumps`), and sessions: where memory is refused (`refused`), and saved (`saves`). No crate
 //! stands on this one.
 #![tactic(auto)]
@@ -18,6 +18,8 @@ mod edits;
 mod engine;
 #[cfg(test)]
 mod in_slices;
+#[cfg(test)]
+mod known;
 #[cfg(test)]
 mod nodes;
 #[cfg(test)]
