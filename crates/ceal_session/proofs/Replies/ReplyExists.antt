@@ -172,7 +172,7 @@ module _ (progress : ProgressLaw) (line_law : LineLaw) (whole_law : WholeLaw) (t
     settled-shapes : ShapesKept (memory_of s) (record { inputs = s.settled; made = [] })
     settled-shapes = shapes-back code s.settled s.inputs st.settled.extended st.settled.count
 
-    fits-settled : (call : Call) → IsCall s call → Fits code s.settled call.function call.args
+    pub fits-settled : (call : Call) → IsCall s call → Fits code s.settled call.function call.args
     fits-settled call h =
         call-fits s.program code st.compiled.code st.compiled.valid (record s { inputs = s.settled }) call.function call.args refl st.settled.fits
         (call-kept s s.settled settled-shapes (slice_get s.program.functions call.function) call.args h)
@@ -566,7 +566,7 @@ module _ (progress : ProgressLaw) (line_law : LineLaw) (whole_law : WholeLaw) (t
     }
 
     -- the past before a line that runs, where it is the first one
-    before-line : (call : Call) → Accepted s call → (s.call ≡ Some call) ⊎ ((s.call ≡ None) × (m.past ≡ NoTrace))
+    pub before-line : (call : Call) → Accepted s call → (s.call ≡ Some call) ⊎ ((s.call ≡ None) × (m.past ≡ NoTrace))
     before-line call a = elim a.only [ inl e ↦ inr (e, subst (λ o. IsPastIn code s o m.past) e st.past) | inr e ↦ inl e ]
 
     fits-called : (o : Option Call) → IfSome o (IsCall s) → IfSome o (λ call. Fits code s.inputs call.function call.args)

@@ -71,6 +71,10 @@ pub if-ok : {A E : Type 0} (r : Result A E) {P Q : A → Type 0} → ((x : A) �
 if-ok (Ok x) f h = f x h
 if-ok (Err e) f h = tt
 
+pub if-both-ok : {A E : Type 0} (r : Result A E) {P Q R : A → Type 0} → ((x : A) → P x → Q x → R x) → IfOk r P → IfOk r Q → IfOk r R
+if-both-ok (Ok x) f h k = f x h k
+if-both-ok (Err e) f h k = tt
+
 pub on-err : {A E P Q : Type 0} (r : Result A E) → (P → Q) → OnErr r P → OnErr r Q
 on-err (Ok x) f h = tt
 on-err (Err e) f h = f h

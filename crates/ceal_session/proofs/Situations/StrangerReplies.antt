@@ -458,5 +458,10 @@ stranger facts calls command_law answer alike program s trace compiled h items l
       right = right;
       past = t.beside;
     } in
-    subst (λ (q : Past). AreAlike (resumed program.typed code s trace) (at code (saved_state program.typed s) q (steps_in s.kept.forest)) lines) (sym (ap first_past t.is))
-    (are-alike facts calls command_law answer alike code (saved_state program.typed s) (Traced (record { items = trace; work = s.work })) (Traced t.first) s.bound (steps_in s.kept.forest) near lines)
+    record {
+      first = t.first;
+      is = t.is;
+      stands = subst (λ (q : Past). Stands (at code (saved_state program.typed s) q (steps_in s.kept.forest))) (sym (ap first_past t.is)) right;
+      alike = subst (λ (q : Past). AreAlike (resumed program.typed code s trace) (at code (saved_state program.typed s) q (steps_in s.kept.forest)) lines) (sym (ap first_past t.is))
+          (are-alike facts calls command_law answer alike code (saved_state program.typed s) (Traced (record { items = trace; work = s.work })) (Traced t.first) s.bound (steps_in s.kept.forest) near lines);
+    }
