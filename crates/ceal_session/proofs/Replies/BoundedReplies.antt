@@ -1,5 +1,5 @@
 -- Where no edit comes between the slices of a repair, the work at its end is at most the bound, and that at most the steps.
-use Rattle.std.proofs.Common.{◌≡◌, ◌⊎◌, inl, inr, ℕ, ◌≤◌, Bool, true, false, Option, Some, None, Result, Ok, Err, List, [], ◌∷◌, map, is_none, refl, sym, ap, ◌∙◌, subst, arith}
+use Rattle.std.proofs.Common.{◌≡◌, inl, inr, ℕ, ◌≤◌, Bool, true, false, Option, Some, None, Result, Ok, Err, List, [], ◌∷◌, is_none, refl, sym, ap, ◌∙◌, subst, arith}
 use Rattle.std.specs.Prelude.{⊤, IfSome}
 use Rattle.ceal_base.specs.Finished.{Finished}
 use Rattle.ceal_base.specs.Trace.{steps_of}
@@ -23,10 +23,9 @@ use Rattle.ceal_session.specs.Replies.{Leads, behind}
 use Rattle.ceal_session.specs.Runs.{run_of, with_run, with_part}
 use Rattle.ceal_session.specs.Standing.{IsPastIn, Stands}
 use Rattle.ceal_session.specs.State.{State, Situation}
-use Rattle.ceal_session.specs.Steps.{answered, answered_line, called_again, call_of}
+use Rattle.ceal_session.specs.Steps.{answered_line}
 use Rattle.ceal_session.specs.Works.{call_in, reads_in, past_in, bound_in, past_left, bound_left}
 use Rattle.ceal_session.specs.declared.refusal.Refusal.{Refusal}
-use Rattle.ceal_session.specs.declared.refusal.Refusal.TheVariants.{C1}
 use Rattle.ceal_theory.specs.Computed.{Repaired}
 use Rattle.ceal_theory.specs.Pasts.{Past, NoTrace, Traced, Going, goes}
 use Rattle.ceal_theory.specs.Repair.{own}

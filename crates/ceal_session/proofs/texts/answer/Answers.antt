@@ -1,5 +1,5 @@
-use Rattle.std.proofs.Common.{◌≡◌, ◌∙◌, ap, arith}
-use Rattle.std.specs.Prelude.{List, ℕ, ◌++◌, codes, length}
+use Rattle.std.proofs.Common.{◌∙◌, ap, arith}
+use Rattle.std.specs.Prelude.{ℕ, ◌++◌, codes}
 use Rattle.std.specs.Fmt.{decimal}
 use Rattle.ceal_session.proofs.Replies.TextOfReply.{if-ok}
 use Rattle.ceal_session.proofs.Memory.EngineTellsRun.{told-number}
