@@ -9,3 +9,5 @@ pub mod ScriptReplies
 pub mod LineKeepsSituation
 pub mod RepliesByEntries
 pub mod ReplyAfterRun
+pub mod BoundedReplies
+pub mod KeptBound

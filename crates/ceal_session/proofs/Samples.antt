@@ -13,7 +13,7 @@ use Rattle.ceal_session.specs.Senses.{words_of}
 use Rattle.ceal_session.specs.State.{State}
 use Rattle.ceal_session.specs.Steps.{stays, refuses, answered}
 use Rattle.ceal_session.specs.declared.refusal.Refusal.TheVariants.{C2, C3, C4, C7}
-use Rattle.ceal_session.specs.declared.reply.Reply.TheVariants.{Ok as Done}
+use Rattle.ceal_session.specs.declared.reply.Reply.TheVariants.{Ok}
 
 abbrev cell : ℕ → Block
 cell n = record { shape = ModInt; words = Num (pos n) ∷ [] }
@@ -32,7 +32,7 @@ with_four = record empty { names = codes "a" ∷ []; inputs = cell 4 ∷ []; set
 abbrev with_nine : State
 with_nine = record with_four { inputs = cell 9 ∷ []; pending = true }
 
-makes : answered empty false (Mod (codes "a") Int (NumWord (pos 4))) ≡ stays with_four Done
+makes : answered empty false (Mod (codes "a") Int (NumWord (pos 4))) ≡ stays with_four Ok
 unfolding words_of
 makes = refl
 
@@ -40,7 +40,7 @@ name_taken : answered with_four false (Mod (codes "a") Int (NumWord (pos 5))) �
 unfolding words_of
 name_taken = refl
 
-sets : answered with_four false (Set (place (codes "a")) (NumWord (pos 9))) ≡ stays with_nine Done
+sets : answered with_four false (Set (place (codes "a")) (NumWord (pos 9))) ≡ stays with_nine Ok
 sets = refl
 
 no_such_name : answered with_four false (Set (place (codes "b")) (NumWord (pos 9))) ≡ refuses with_four C2

@@ -20,7 +20,7 @@ use Rattle.ceal_session.specs.Keeping.{past_of}
 use Rattle.ceal_session.specs.Runs.{run_of, with_run, with_part}
 use Rattle.ceal_session.specs.State.{State, Situation}
 use Rattle.ceal_session.specs.declared.reply.Reply.{Reply}
-use Rattle.ceal_session.specs.declared.reply.Reply.TheVariants.{Ok as Whole, OutOfFuel as Exhausted, More as Part, Finished as PartDone}
+use Rattle.ceal_session.specs.declared.reply.Reply.TheVariants as reply
 use Rattle.ceal_base.specs.declared.no_memory.NoMemory.{NoMemory}
 
 -- how a run or a repair came out
@@ -49,15 +49,15 @@ journal_behind steps j (Err e) = settled_at 0
 
 -- the reply to a `run` or a whole `propagate`, and to a part of a repair
 abbrev pub reply_behind : Outcome → Result Reply NoMemory
-reply_behind (Ok c) = Ok Whole
-reply_behind (Err OutOfFuel) = Ok Exhausted
+reply_behind (Ok c) = Ok reply.Ok
+reply_behind (Err OutOfFuel) = Ok reply.OutOfFuel
 reply_behind (Err Memory) = Err (record {})
 
 abbrev pub part_behind : Outcome → Result Reply NoMemory
-part_behind (Ok More) = Ok Part
-part_behind (Ok Done) = Ok PartDone
-part_behind (Ok Anew) = Ok PartDone
-part_behind (Err OutOfFuel) = Ok Exhausted
+part_behind (Ok More) = Ok reply.More
+part_behind (Ok Done) = Ok reply.Done
+part_behind (Ok Anew) = Ok reply.Done
+part_behind (Err OutOfFuel) = Ok reply.OutOfFuel
 part_behind (Err Memory) = Err (record {})
 
 -- what the definition's slice is, by how the repair came out

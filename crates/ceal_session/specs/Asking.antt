@@ -15,7 +15,7 @@ use Rattle.ceal_session.specs.Texts.{value_text}
 use Rattle.ceal_session.specs.declared.reply.Query.{Query}
 use Rattle.ceal_session.specs.declared.reply.Query.TheVariants.{Get, Show, Blocks, Steps, Work, Bound}
 use Rattle.ceal_session.specs.declared.reply.Reply.{Reply}
-use Rattle.ceal_session.specs.declared.reply.Reply.TheVariants.{Nothing, Ok, OutOfFuel, More, Finished as PartDone, Refused, Told}
+use Rattle.ceal_session.specs.declared.reply.Reply.TheVariants.{Nothing, Ok, OutOfFuel, More, Done, Refused, Told}
 use Rattle.ceal_session.specs.declared.sense.Sense.{Sense}
 use Rattle.ceal_session.specs.declared.sense.Sense.TheVariants.{Word as IsWord}
 
@@ -46,7 +46,7 @@ CanTell s Nothing = Unit {0}
 CanTell s Ok = Unit {0}
 CanTell s OutOfFuel = Unit {0}
 CanTell s More = Unit {0}
-CanTell s PartDone = Unit {0}
+CanTell s Done = Unit {0}
 CanTell s (Refused r) = Unit {0}
 CanTell s (Told q) = IsReady s × IsFor s q
 

@@ -32,3 +32,7 @@ with_edit j e = record j { since = j.since ++ e ∷ [] }
 -- a repair is completed
 abbrev pub completed : JournalState → JournalState
 completed j = record { since = []; measure = Between j.since }
+
+-- the bound is known to be this number
+abbrev pub with_bound : JournalState → ℕ → JournalState
+with_bound j n = record j { measure = Number n }

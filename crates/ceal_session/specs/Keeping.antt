@@ -102,6 +102,17 @@ situation k = record {
   bound = bound_from k.engine k.state.settled k.journal.measure;
 }
 
+-- What a session holds belongs together: the state has the engine's fuel, inputs and call, and is out of fuel where the
+-- engine has dropped its run; an edit or a repair is pending where the engine's phase says so.
+pub record IsTied (k : Held) : Type 0 where
+  pub fuel : k.state.fuel ≡ k.engine.fuel
+  pub inputs : k.state.inputs ≡ k.engine.inputs
+  pub call : k.state.call ≡ k.engine.call
+  pub out_of_fuel : k.state.out_of_fuel ≡ is_dropped k.engine.phase
+  pub done : k.engine.phase ≡ Finished → k.state.pending ≡ false
+  pub edited : k.engine.phase ≡ Pending → k.state.pending ≡ true
+  pub partial : k.engine.phase ≡ Partial → k.state.pending ≡ true
+
 -- The call may be run on these inputs, and its run ends there within the fuel.
 pub record IsRunOn (e : EngineState) (inputs : List Block) (call : Call) : Type 0 where
   pub fits : Fits e.code inputs call.function call.args

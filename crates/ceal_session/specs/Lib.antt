@@ -18,6 +18,7 @@ pub mod Laws
 pub mod Entries
 pub mod Saves
 pub mod Strangers
+pub mod Bounded
 -- what its own functions say of each other
 pub mod Undoing
 pub mod Journal

@@ -6,7 +6,7 @@ use Rattle.ceal_compile.specs.declared.program.Program.{Program}
 use Rattle.ceal_snap.specs.SaveText.{Save}
 use Rattle.ceal_session.specs.Following.{IsAllowed}
 use Rattle.ceal_session.specs.Replies.{Leads}
-use Rattle.ceal_session.specs.Saving.{IsSaved, Holding, resumed}
+use Rattle.ceal_session.specs.Saving.{IsSaved, Holding, IsResumed, resumed}
 use Rattle.ceal_session.specs.Standing.{Stands, IsIn}
 use Rattle.ceal_session.specs.State.{Situation}
 
@@ -41,3 +41,9 @@ abbrev pub ResumedLaw : Type 0
 ResumedLaw = (program : Program) (m : Situation) (s : Save) → Stands m
     → m.code ≡ program.code → m.state.program ≡ program.typed → IsAllowed m.state.fuel → IsSaved m s
     → GoesOn m program s
+
+-- A session that goes on from what a session saved has that save again.
+abbrev pub ResavedLaw : Type 0
+ResavedLaw = (program : Program) (m session : Situation) (s t : Save) → Stands m
+    → m.code ≡ program.code → m.state.program ≡ program.typed → IsAllowed m.state.fuel → IsSaved m s
+    → IsResumed program s session → IsSaved session t → t ≡ s

@@ -19,7 +19,8 @@ use Rattle.ceal_session.specs.declared.refusal.Refusal.TheVariants.{C1, C2, C3, 
 use Rattle.ceal_session.specs.declared.reply.Query.{Query}
 use Rattle.ceal_session.specs.declared.reply.Query.TheVariants.{Get as GetOf, Show as ShowOf, Blocks as BlocksOf, Steps as StepsOf, Work as WorkOf, Bound as BoundOf}
 use Rattle.ceal_session.specs.declared.reply.Reply.{Reply}
-use Rattle.ceal_session.specs.declared.reply.Reply.TheVariants.{Nothing, Ok as Done, OutOfFuel, More, Finished as PartDone, Refused, Told}
+use Rattle.ceal_session.specs.declared.reply.Reply.TheVariants as reply
+use Rattle.ceal_session.specs.declared.reply.Reply.TheVariants.{Refused, Told}
 use Rattle.ceal_session.specs.declared.sense.Sense.{Sense}
 use Rattle.ceal_session.specs.declared.sense.Sense.TheVariants.{Word as IsWord}
 use Rattle.ceal_base.specs.declared.call.Call.{Call}
@@ -32,10 +33,10 @@ pub record Step : Type 0 where
 
 -- a reply that no change stands after
 abbrev pub IsQuiet : Reply → Type 0
-IsQuiet Done = ⊥
-IsQuiet OutOfFuel = ⊥
-IsQuiet More = ⊥
-IsQuiet PartDone = ⊥
+IsQuiet reply.Ok = ⊥
+IsQuiet reply.OutOfFuel = ⊥
+IsQuiet reply.More = ⊥
+IsQuiet reply.Done = ⊥
 IsQuiet _ = Unit {0}
 
 -- a line that changes nothing
@@ -54,7 +55,7 @@ abbrev pub block_of : Shape → List Word → Block
 block_of shape words = record { shape = shape; words = words }
 
 abbrev pub made_if : State → List ℕ → Block → Bool → Step
-made_if s name block fits = if fits then stays (with_input s name block) Done else refuses s C4
+made_if s name block fits = if fits then stays (with_input s name block) reply.Ok else refuses s C4
 
 abbrev pub made_with : State → List ℕ → Shape → Option (List Word) → Step
 made_with s name shape None = refuses s C4
@@ -81,7 +82,7 @@ fits_cell s (Some kind) word = fits_field s.program.structs (memory_of s) kind w
 
 abbrev pub set_base : State → Place → Word → Step
 set_base s p word =
-    if fits_cell s (kind_at s.program.structs (memory_of s) p) word then stays (with_base s p word) Done
+    if fits_cell s (kind_at s.program.structs (memory_of s) p) word then stays (with_base s p word) reply.Ok
     else refuses s C4
 
 abbrev pub set_word : State → Sense → Sense → Step
@@ -130,8 +131,8 @@ called_again None = Err C7
 called_again (Some call) = Ok call
 
 abbrev pub run_reply : Option Finished → Reply
-run_reply None = OutOfFuel
-run_reply (Some f) = Done
+run_reply None = reply.OutOfFuel
+run_reply (Some f) = reply.Ok
 
 -- the run from scratch on the inputs of this moment
 abbrev pub runs : State → Result Call Refusal → Step
@@ -139,13 +140,13 @@ runs s (Err r) = refuses s r
 runs s (Ok call) = record { reply = run_reply (run_of s call); state = with_run s call (is_none (run_of s call)) }
 
 abbrev pub part_reply : Option Finished → Reply
-part_reply None = OutOfFuel
-part_reply (Some f) = PartDone
+part_reply None = reply.OutOfFuel
+part_reply (Some f) = reply.Done
 
 -- a part of a repair: it goes on, or it is completed by the run from scratch on the inputs of this moment
 abbrev pub runs_part : State → Bool → Result Call Refusal → Step
 runs_part s more (Err r) = refuses s r
-runs_part s true (Ok call) = record { reply = More; state = with_part s }
+runs_part s true (Ok call) = record { reply = reply.More; state = with_part s }
 runs_part s false (Ok call) =
     record { reply = part_reply (run_of s call); state = with_run s call (is_none (run_of s call)) }
 
@@ -179,7 +180,7 @@ reads_of _ = None
 
 -- what a command is answered; `more` says whether a repair goes on after it, which a part of a repair alone looks at
 abbrev pub answered : State → Bool → Command → Step
-answered s more Blank = stays s Nothing
+answered s more Blank = stays s reply.Nothing
 answered s more (Mod name kind value) = made_of s name (mod_shape s kind) (value_sense s value ∷ [])
 answered s more (New name shape values) =
     made_of s name (struct_shape (struct_named s shape)) (map (value_sense s) values)

@@ -1,5 +1,5 @@
 -- What is believed of a save, whoever wrote it.
-use Rattle.std.specs.Prelude.{◌≡◌, ℕ, false, Option, Some, None, Ok, List, [], ◌∷◌}
+use Rattle.std.specs.Prelude.{◌≡◌, ℕ, false, Option, Some, Ok, List, [], ◌∷◌}
 use Rattle.ceal_base.specs.Trace.{Trace, flat, steps_in}
 use Rattle.ceal_base.specs.declared.call.Call.{Call}
 use Rattle.ceal_base.specs.declared.typed.Typed.{Typed}
@@ -9,10 +9,11 @@ use Rattle.ceal_compile.specs.declared.program.Program.{Program}
 use Rattle.ceal_script.specs.declared.command.Command.{Command}
 use Rattle.ceal_script.specs.declared.command.Command.TheVariants.{Work, Bound}
 use Rattle.ceal_snap.specs.SaveText.{Save}
-use Rattle.ceal_theory.specs.Computed.{first_of}
+use Rattle.ceal_theory.specs.Computed.{Repaired, first_of}
 use Rattle.ceal_theory.specs.Pasts.{first_past, goes}
 use Rattle.ceal_session.specs.Replies.{Reads, Replies, Leads}
 use Rattle.ceal_session.specs.Saving.{Holding, saved_state, resumed}
+use Rattle.ceal_session.specs.Standing.{Stands}
 use Rattle.ceal_session.specs.State.{Situation, numbers_in}
 use Rattle.ceal_session.specs.Works.{call_in}
 
@@ -58,10 +59,16 @@ AreAlike m n (line ∷ lines) =
     × ((text other : List ℕ) (o p : Situation) → Replies m line text o → Replies n line other p
     → LineAlike m n line text other o p × AreAlike o p lines)
 
+-- The first trace of the call is there, its situation is one that a session comes to, and the save's is alike.
+pub record AnswersAsFirst (program : Program) (s : Save) (trace : Trace) (lines : List (List ℕ)) : Type 0 where
+  pub first : Repaired
+  pub is : first_of program.code s.kept.inputs s.fuel s.kept.function s.kept.args ≡ Some first
+  pub stands : Stands (with_first program.typed program.code s)
+  pub alike : AreAlike (resumed program.typed program.code s trace) (with_first program.typed program.code s) lines
+
 -- Of a save that holds nothing but its work and its bound is believed, and these until the next completed run
 -- or repair: all other replies are those of a session that has the first trace of the call, and from then on
 -- all are.
 abbrev pub StrangerLaw : Type 0
 StrangerLaw = (program : Program) (s : Save) (trace : Trace) → IsCompiled program → Holding program.code s
-    → s.kept.forest ≡ flat trace → (lines : List (List ℕ))
-    → AreAlike (resumed program.typed program.code s trace) (with_first program.typed program.code s) lines
+    → s.kept.forest ≡ flat trace → (lines : List (List ℕ)) → AnswersAsFirst program s trace lines

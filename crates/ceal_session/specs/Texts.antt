@@ -15,7 +15,7 @@ use Rattle.ceal_session.specs.declared.refusal.Refusal.TheVariants.{C7}
 use Rattle.ceal_session.specs.declared.reply.Query.{Query}
 use Rattle.ceal_session.specs.declared.reply.Query.TheVariants.{Get, Show, Blocks, Steps, Work, Bound}
 use Rattle.ceal_session.specs.declared.reply.Reply.{Reply}
-use Rattle.ceal_session.specs.declared.reply.Reply.TheVariants.{Nothing, Ok, OutOfFuel, More, Finished as PartDone, Refused, Told}
+use Rattle.ceal_session.specs.declared.reply.Reply.TheVariants.{Nothing, Ok, OutOfFuel, More, Done, Refused, Told}
 use Rattle.ceal_session.specs.State.{State, Numbers}
 
 -- the name of an input
@@ -55,6 +55,6 @@ IsText s numbers Nothing text = text ≡ []
 IsText s numbers Ok text = text ≡ codes "ok\n"
 IsText s numbers OutOfFuel text = text ≡ codes "out of fuel\n"
 IsText s numbers More text = text ≡ codes "more\n"
-IsText s numbers PartDone text = text ≡ codes "done\n"
+IsText s numbers Done text = text ≡ codes "done\n"
 IsText s numbers (Refused r) text = text ≡ refusal_text r
 IsText s numbers (Told q) text = TellsOf s numbers q (present_run s) text

@@ -117,8 +117,8 @@ pub fn part_reply(came: &Result<Came, RunError>) -> Result<Reply, NoMemory>
 {
     match came {
         Ok(Came::More) => Ok(Reply::More),
-        Ok(Came::Done) => Ok(Reply::Finished),
-        Ok(Came::Anew) => Ok(Reply::Finished),
+        Ok(Came::Done) => Ok(Reply::Done),
+        Ok(Came::Anew) => Ok(Reply::Done),
         Err(RunError::OutOfFuel) => Ok(Reply::OutOfFuel),
         Err(RunError::Memory) => Err(NoMemory),
     }

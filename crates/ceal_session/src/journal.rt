@@ -2,7 +2,7 @@
 
 ghost use Rattle.std.specs.Prelude.{◌≡◌, OnOk, OnErr, length, take};
 ghost use Rattle.ceal_engine.specs.Engine.{with_base};
-ghost use Rattle.ceal_session.specs.Journal.{opened, with_edit, completed, settled_at, measure_of};
+ghost use Rattle.ceal_session.specs.Journal.{opened, with_edit, with_bound, completed, settled_at, measure_of};
 ghost use Rattle.ceal_session.specs.Undoing.{undone, base_at};
 
 use ceal_base::memory::Inputs;
@@ -138,6 +138,13 @@ impl Journal {
         ensures { self.new ≡ settled_at bound }
     {
         self.since.clear();
+        drop(mem::replace(&mut self.bounding, Bounding::Number(bound)));
+    }
+
+    /// Keeps the bound in place of what it is made of.
+    pub fn keep(&mut self, bound: u32)
+        ensures { self.new ≡ with_bound self.old bound }
+    {
         drop(mem::replace(&mut self.bounding, Bounding::Number(bound)));
     }
 

@@ -1,8 +1,9 @@
 // The laws of replies, each the contract of a function that does nothing but call the laws on which it rests.
 
+ghost use Rattle.ceal_session.specs.Bounded.{BoundedLaw};
 ghost use Rattle.ceal_session.specs.Laws.{OneCommandLaw, OneAnswerLaw, OneReplyLaw, OneStateLaw, OneScriptLaw, JoinedLaw, BegunLaw, SomeReplyLaw, SomeScriptLaw, DroppedLaw, KeptLaw};
 ghost use Rattle.ceal_session.specs.Entries.{EntriesLaw, OneTextLaw};
-ghost use Rattle.ceal_session.specs.Saves.{AlikeLaw, HeldLaw, OneSavedLaw, ResumedLaw, SavedLaw};
+ghost use Rattle.ceal_session.specs.Saves.{AlikeLaw, HeldLaw, OneSavedLaw, ResavedLaw, ResumedLaw, SavedLaw};
 ghost use Rattle.ceal_session.specs.Strangers.{StrangerLaw};
 
 /// A law: a line is one command's at most, and has one reply by a state and its numbers; so it has one in a situation, and one
@@ -76,6 +77,18 @@ pub fn alike_law()
     one_reply();
 }
 
+/// A law: after a completed run or repair, whole or in slices without an edit between them, the work is at most the bound, and
+/// the bound at most the steps.
+pub fn bounded_law()
+    ensures law { BoundedLaw }
+{
+    ceal_code::laws::progress_law();
+    ceal_script::line::command_or_none();
+    ceal_show::laws::fitting_is_whole();
+    ceal_show::laws::some_text();
+    one_reply();
+}
+
 /// A law: the save of a session is that of the situation that it is in, and a situation has one save at most.
 pub fn saved_law()
     ensures law { SavedLaw }
@@ -90,12 +103,15 @@ pub fn held_law()
     ensures law { HeldLaw }
 {}
 
-/// A law: what a session saves holds, and resumed it answers each script as the session would have answered it.
+/// A law: what a session saves holds, and resumed it answers each script as the session would have answered it, and has the same
+/// save.
 pub fn resumed_law()
     ensures law { ResumedLaw }
+    ensures again { ResavedLaw }
 {
     ceal_theory::names::renaming_law();
     alike_law();
+    saved_law();
 }
 
 /// A law: of a save that holds, whoever wrote it, nothing but its work and its bound is believed, and these until the

@@ -1,11 +1,11 @@
 // A session.
 
-ghost use Rattle.std.specs.Prelude.{◌≡◌, ◌<◌, length, IfOk, OnOk, OnErr, IfSome, IsErrOf, MatchOption};
+ghost use Rattle.std.specs.Prelude.{◌≡◌, ◌<◌, ◌↔◌, length, IfOk, OnOk, OnErr, IfSome, IsErrOf, IsTrue, MatchOption};
 ghost use Rattle.ceal_compile.specs.Compiled.{IsCompiled};
 ghost use Rattle.ceal_session.specs.Answering.{HasReply};
 ghost use Rattle.ceal_session.specs.Asking.{CanTell, IsReady};
 ghost use Rattle.ceal_session.specs.Following.{IsAllowed, opened, Repairs, Bounds, IsLeft};
-ghost use Rattle.ceal_session.specs.Keeping.{situation};
+ghost use Rattle.ceal_session.specs.Keeping.{IsTied, situation};
 ghost use Rattle.ceal_session.specs.Naming.{AreSpelled};
 ghost use Rattle.ceal_session.specs.Recording.{IsRecorded};
 ghost use Rattle.ceal_session.specs.Replies.{Answers};
@@ -95,10 +95,12 @@ fn text(alloc: Global, answer: &Answer, ready: Vec<u8>) -> Result<Text, NoMemory
 }
 
 /// The answer that a reply is.
-fn answer_of(alloc: Global, state: &State, reply: Reply) -> Result<Answer, NoMemory>
-    requires asked { CanTell state.now.state reply }
+fn answer_of(alloc: Global, state: &mut State, reply: Reply) -> Result<Answer, NoMemory>
+    requires asked { CanTell state.old.state reply }
     ensures ok { IfOk result
-        (λ answer. IsText state.now.state (numbers_in (situation state.now)) reply answer) }
+        (λ answer. IsText state.old.state (numbers_in (situation state.old)) reply answer) }
+    ensures long { IfOk result (λ answer. 12 < length answer → state.new ≡ state.old) }
+    ensures kept { situation state.new ≡ situation state.old }
     ensures err { OnErr result (IsQuiet reply) }
 {
     match reply {
@@ -106,7 +108,7 @@ fn answer_of(alloc: Global, state: &State, reply: Reply) -> Result<Answer, NoMem
         Reply::Ok => Ok(Answer::fixed("ok\n")),
         Reply::OutOfFuel => Ok(Answer::fixed("out of fuel\n")),
         Reply::More => Ok(Answer::fixed("more\n")),
-        Reply::Finished => Ok(Answer::fixed("done\n")),
+        Reply::Done => Ok(Answer::fixed("done\n")),
         Reply::Refused(refusal) => Ok(Answer::fixed(refusal_line(refusal))),
         Reply::Told(query) => told(alloc, state, query),
     }
@@ -214,6 +216,15 @@ impl Session {
         let ready = prepare(self.alloc)?;
         let answer = self.answer(line)?;
         text(self.alloc, &answer, ready)
+    }
+
+    /// Whether questions are answered: there is a run that ended within the fuel, and neither an edit nor a repair is pending.
+    /// The contract also says that the state has the fuel, the inputs and the call of the engine, and tells its phase.
+    pub fn is_ready(&self) -> bool
+        ensures ready { IsTrue result ↔ IsReady self.now.state }
+        ensures tied { IsTied self.now }
+    {
+        self.state.is_ready()
     }
 
     /// The record of the run of the accepted call on the inputs of this moment: its trace, whose blocks have the numbers 0,

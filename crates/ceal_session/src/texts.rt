@@ -1,6 +1,6 @@
 // The answers to questions.
 
-ghost use Rattle.std.specs.Prelude.{◌≡◌, ◌++◌, IfOk, codes};
+ghost use Rattle.std.specs.Prelude.{◌≡◌, ◌≤◌, ◌<◌, ◌++◌, length, IfOk, codes};
 ghost use Rattle.std.specs.Fmt.{decimal};
 ghost use Rattle.ceal_session.specs.Asking.{IsReady, IsFor};
 ghost use Rattle.ceal_session.specs.Keeping.{situation};
@@ -30,7 +30,8 @@ fn block_line(alloc: Global, state: &State, block: BlockId) -> Result<Answer, No
 }
 
 fn number_line(alloc: Global, number: u32) -> Result<Answer, NoMemory>
-    ensures { IfOk result (λ answer. answer ≡ decimal number ++ codes "\n") }
+    ensures line { IfOk result (λ answer. answer ≡ decimal number ++ codes "\n") }
+    ensures short { IfOk result (λ answer. length answer ≤ 12) }
 {
     let mut digits = Buffer::new();
     Answer::line(alloc, digits.format(number).as_bytes())
@@ -63,13 +64,29 @@ fn graph(alloc: Global, state: &State, input: u32) -> Result<Answer, NoMemory>
     Ok(Answer::owned(text))
 }
 
+/// The bound, which the state then keeps.
+fn bound_line(alloc: Global, state: &mut State) -> Result<Answer, NoMemory>
+    requires { IsReady state.old.state }
+    ensures told { IfOk result
+        (λ answer. TellsOf state.old.state (numbers_in (situation state.old)) Query.Bound
+        (present_run state.old.state) answer) }
+    ensures short { IfOk result (λ answer. length answer ≤ 12) }
+    ensures kept { situation state.new ≡ situation state.old }
+{
+    let bound = state.bound(alloc)?;
+    state.keep_bound(bound);
+    number_line(alloc, bound)
+}
+
 /// The answer to a question.
-pub fn answer(alloc: Global, state: &State, query: Query) -> Result<Answer, NoMemory>
-    requires ready { IsReady state.now.state }
-    requires there { IsFor state.now.state query }
-    ensures { IfOk result
-        (λ answer. TellsOf state.now.state (numbers_in (situation state.now)) query
-        (present_run state.now.state) answer) }
+pub fn answer(alloc: Global, state: &mut State, query: Query) -> Result<Answer, NoMemory>
+    requires ready { IsReady state.old.state }
+    requires there { IsFor state.old.state query }
+    ensures told { IfOk result
+        (λ answer. TellsOf state.old.state (numbers_in (situation state.old)) query
+        (present_run state.old.state) answer) }
+    ensures long { IfOk result (λ answer. 12 < length answer → state.new ≡ state.old) }
+    ensures kept { situation state.new ≡ situation state.old }
 {
     match query {
         Query::Get(place) => word_line(alloc, state, state.content(place)),
@@ -77,6 +94,6 @@ pub fn answer(alloc: Global, state: &State, query: Query) -> Result<Answer, NoMe
         Query::Blocks => number_line(alloc, state.blocks()),
         Query::Steps => number_line(alloc, state.steps()),
         Query::Work => number_line(alloc, state.work()),
-        Query::Bound => number_line(alloc, state.bound(alloc)?),
+        Query::Bound => bound_line(alloc, state),
     }
 }

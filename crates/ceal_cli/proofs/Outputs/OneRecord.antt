@@ -15,7 +15,7 @@ use Rattle.ceal_session.specs.State.{State, Situation, last}
 use Rattle.ceal_session.specs.Steps.{asked}
 use Rattle.ceal_session.specs.declared.reply.Query.TheVariants.{Steps}
 use Rattle.ceal_session.specs.declared.reply.Reply.{Reply}
-use Rattle.ceal_session.specs.declared.reply.Reply.TheVariants.{Nothing, Ok as Done, OutOfFuel, More, Finished, Refused, Told}
+use Rattle.ceal_session.specs.declared.reply.Reply.TheVariants.{Nothing, Ok, OutOfFuel, More, Done, Refused, Told}
 use Rattle.ceal_snap.specs.Answers.{OneSaveLaw}
 use Rattle.ceal_theory.specs.Computed.{Repaired}
 use Rattle.ceal_traceck.specs.Laws.{OneVerdictLaw}
@@ -43,10 +43,10 @@ module _ (records : OneRecordLaw) (write : Record → List ℕ) where
   text-by : (reply : Reply) (m : Situation) (a b : List ℕ) → IsWrittenBy reply m write a → IsWrittenBy reply m write b → a ≡ b
   text-by (Told q) m a b h k = h.2 ∙ (ap write (record-in m m.state.call (last m) h.0 k.0 h.1 k.1) ∙ sym k.2)
   text-by Nothing m a b h k = h ∙ sym k
-  text-by Done m a b h k = h ∙ sym k
+  text-by Ok m a b h k = h ∙ sym k
   text-by OutOfFuel m a b h k = h ∙ sym k
   text-by More m a b h k = h ∙ sym k
-  text-by Finished m a b h k = h ∙ sym k
+  text-by Done m a b h k = h ∙ sym k
   text-by (Refused r) m a b h k = h ∙ sym k
 
 module _ (records : OneRecordLaw) (script : OneScriptLaw) where

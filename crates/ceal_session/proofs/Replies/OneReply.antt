@@ -19,7 +19,7 @@ use Rattle.ceal_session.specs.Works.{past_in}
 use Rattle.ceal_session.specs.declared.reply.Query.{Query}
 use Rattle.ceal_session.specs.declared.reply.Query.TheVariants.{Get, Show, Blocks, Steps, Work, Bound}
 use Rattle.ceal_session.specs.declared.reply.Reply.{Reply}
-use Rattle.ceal_session.specs.declared.reply.Reply.TheVariants.{Nothing, Ok, OutOfFuel, More, Finished as PartDone, Refused, Told}
+use Rattle.ceal_session.specs.declared.reply.Reply.TheVariants.{Nothing, Ok, OutOfFuel, More, Done, Refused, Told}
 use Rattle.ceal_show.specs.Graph.{IsGraphText}
 use Rattle.ceal_show.specs.Shown.{Shown}
 
@@ -55,7 +55,7 @@ module _ (law : GraphLaw) (s : State) (w : Numbers) where
   same-text Ok a b h k = h ∙ sym k
   same-text OutOfFuel a b h k = h ∙ sym k
   same-text More a b h k = h ∙ sym k
-  same-text PartDone a b h k = h ∙ sym k
+  same-text Done a b h k = h ∙ sym k
   same-text (Refused r) a b h k = h ∙ sym k
   same-text (Told q) a b h k = same-told-of q (present_run s) a b h k
 

@@ -16,7 +16,8 @@ use Rattle.ceal_session.specs.Texts.{IsText}
 use Rattle.ceal_session.specs.Works.{call_in, past_in, past_left, bound_in, bound_left, reads_in}
 use Rattle.ceal_session.specs.declared.refusal.Refusal.{Refusal}
 use Rattle.ceal_session.specs.declared.reply.Reply.{Reply}
-use Rattle.ceal_session.specs.declared.reply.Reply.TheVariants.{Nothing, Ok as Done, OutOfFuel, More, Finished as PartDone, Refused, Told as Asked}
+use Rattle.ceal_session.specs.declared.reply.Reply.TheVariants as reply
+use Rattle.ceal_session.specs.declared.reply.Reply.TheVariants.{Refused, Told as Asked}
 use Rattle.ceal_theory.specs.Computed.{Repaired}
 use Rattle.ceal_theory.specs.Pasts.{Past, NoTrace, Traced, Going, goes}
 
@@ -54,11 +55,11 @@ same-numbers m latest st h r =
     ap (λ p. record { work = latest_work (completed p); bound = m.bound }) t.1 ∙ sym (h t.0 t.1)
 
 text-by : (s : State) (v w : Numbers) (r : Reply) → CanTell s r → (IsReady s → v ≡ w) → (text : List ℕ) → IsText s v r text → IsText s w r text
-text-by s v w Nothing c e text h = h
-text-by s v w Done c e text h = h
-text-by s v w OutOfFuel c e text h = h
-text-by s v w More c e text h = h
-text-by s v w PartDone c e text h = h
+text-by s v w reply.Nothing c e text h = h
+text-by s v w reply.Ok c e text h = h
+text-by s v w reply.OutOfFuel c e text h = h
+text-by s v w reply.More c e text h = h
+text-by s v w reply.Done c e text h = h
 text-by s v w (Refused r) c e text h = h
 text-by s v w (Asked q) c e text h = subst (λ n. IsText s n (Asked q) text) (e c.0) h
 

@@ -12,7 +12,7 @@ use Rattle.ceal_session.specs.Runs.{run_of, with_run}
 use Rattle.ceal_session.specs.State.{State, Situation}
 use Rattle.ceal_session.specs.Steps.{Step, IsQuiet, called_again, runs, part_reply, runs_part}
 use Rattle.ceal_session.specs.declared.reply.Reply.{Reply}
-use Rattle.ceal_session.specs.declared.reply.Reply.TheVariants.{Ok as Whole, OutOfFuel as Exhausted, Finished as PartDone}
+use Rattle.ceal_session.specs.declared.reply.Reply.TheVariants as reply
 use Rattle.ceal_theory.specs.Pasts.{goes}
 
 abbrev At : Reply → Situation → Step
@@ -20,18 +20,18 @@ At reply n = record { reply = reply; state = n.state }
 
 module _ (m n : Situation) (call : Call) where
   -- a completed run, and one that is out of fuel
-  of-run : (o : Option Finished) → run_of m.state call ≡ o → is_some o ≡ true → n.state ≡ with_run m.state call false → At Whole n ≡ runs m.state (Ok call)
+  of-run : (o : Option Finished) → run_of m.state call ≡ o → is_some o ≡ true → n.state ≡ with_run m.state call false → At reply.Ok n ≡ runs m.state (Ok call)
   of-run None i h e = absurd (grind (arith, h))
   of-run (Some f) i h e = rw (i, e) refl
 
-  of-out : run_of m.state call ≡ None → n.state ≡ with_run m.state call true → At Exhausted n ≡ runs m.state (Ok call)
+  of-out : run_of m.state call ≡ None → n.state ≡ with_run m.state call true → At reply.OutOfFuel n ≡ runs m.state (Ok call)
   of-out i e = rw (i, e) refl
 
-  part-run : (o : Option Finished) → run_of m.state call ≡ o → is_some o ≡ true → n.state ≡ with_run m.state call false → At PartDone n ≡ runs_part m.state false (Ok call)
+  part-run : (o : Option Finished) → run_of m.state call ≡ o → is_some o ≡ true → n.state ≡ with_run m.state call false → At reply.Done n ≡ runs_part m.state false (Ok call)
   part-run None i h e = absurd (grind (arith, h))
   part-run (Some f) i h e = rw (i, e) refl
 
-  part-out : run_of m.state call ≡ None → n.state ≡ with_run m.state call true → At Exhausted n ≡ runs_part m.state false (Ok call)
+  part-out : run_of m.state call ≡ None → n.state ≡ with_run m.state call true → At reply.OutOfFuel n ≡ runs_part m.state false (Ok call)
   part-out i e = rw (i, e) refl
 
   pub whole-ok : (o : Outcome) → IsAdvanced m call None o n → (r : Result Reply NoMemory) → r ≡ reply_behind o → IfOk r (λ reply. At reply n ≡ runs m.state (Ok call))

@@ -62,7 +62,8 @@ use Rattle.ceal_session.specs.declared.refusal.Refusal.TheVariants.{C1, C2, C3, 
 use Rattle.ceal_session.specs.declared.reply.Query.{Query}
 use Rattle.ceal_session.specs.declared.reply.Query.TheVariants.{Get as GetOf, Show as ShowOf, Blocks as BlocksOf, Steps as StepsOf, Work as WorkOf, Bound as BoundOf}
 use Rattle.ceal_session.specs.declared.reply.Reply.{Reply}
-use Rattle.ceal_session.specs.declared.reply.Reply.TheVariants.{Nothing, Ok as Done, OutOfFuel, More, Finished as PartDone, Refused, Told}
+use Rattle.ceal_session.specs.declared.reply.Reply.TheVariants as reply
+use Rattle.ceal_session.specs.declared.reply.Reply.TheVariants.{Refused, Told}
 use Rattle.ceal_session.specs.declared.sense.Sense.{Sense}
 use Rattle.ceal_session.specs.declared.sense.Sense.TheVariants.{Unknown, Plain, Word as IsWord}
 use Rattle.ceal_show.specs.Graph.{IsGraphText}
@@ -171,7 +172,7 @@ module _ (progress : ProgressLaw) (line_law : LineLaw) (whole_law : WholeLaw) (t
     settled-shapes : ShapesKept (memory_of s) (record { inputs = s.settled; made = [] })
     settled-shapes = shapes-back code s.settled s.inputs st.settled.extended st.settled.count
 
-    fits-settled : (call : Call) → IsCall s call → Fits code s.settled call.function call.args
+    pub fits-settled : (call : Call) → IsCall s call → Fits code s.settled call.function call.args
     fits-settled call h =
         call-fits s.program code st.compiled.code st.compiled.valid (record s { inputs = s.settled }) call.function call.args refl st.settled.fits
         (call-kept s s.settled settled-shapes (slice_get s.program.functions call.function) call.args h)
@@ -213,7 +214,7 @@ module _ (progress : ProgressLaw) (line_law : LineLaw) (whole_law : WholeLaw) (t
         sound = more-law code _ s.inputs t.inputs call.function call.args (fits-call call c) code-fit (extended-longer code s.inputs block) r h.sound;
       }
 
-      with-input : IsName name → list_any (bytes_eq name) s.names ≡ false → has_known_shape s.program.structs block ≡ true → Calm (stays t Done)
+      with-input : IsName name → list_any (bytes_eq name) s.names ≡ false → has_known_shape s.program.structs block ≡ true → Calm (stays t reply.Ok)
       with-input spells new known = record {
         text = codes "ok\n";
         is = refl;
@@ -250,7 +251,7 @@ module _ (progress : ProgressLaw) (line_law : LineLaw) (whole_law : WholeLaw) (t
     made-with name spells new shape known (Some words) = go (block_fits s.program.structs (memory_of s) (block_of shape words)) refl
       where
         go : (b : Bool) → block_fits s.program.structs (memory_of s) (block_of shape words) ≡ b
-            → Calm (if b then stays (with_input s name (block_of shape words)) Done else refuses s C4)
+            → Calm (if b then stays (with_input s name (block_of shape words)) reply.Ok else refuses s C4)
         go true e = with-input name (block_of shape words) e spells new known
         go false e = refused C4
 
@@ -292,7 +293,7 @@ module _ (progress : ProgressLaw) (line_law : LineLaw) (whole_law : WholeLaw) (t
         sound = more-law code _ s.inputs u.inputs call.function call.args (fits-call call c) fit edited r h.sound;
       }
 
-      fits-base : Calm (stays u Done)
+      fits-base : Calm (stays u reply.Ok)
       fits-base =
           let e = edit-fits s.program.structs s.inputs p word st.fits (same-cell (kind_at s.program.structs (memory_of s) p) h) in
           record {
@@ -314,7 +315,7 @@ module _ (progress : ProgressLaw) (line_law : LineLaw) (whole_law : WholeLaw) (t
           }
 
     base-good : (p : Place) (word : Word) → IsCellOf s p → (b : Bool) → fits_cell s (kind_at s.program.structs (memory_of s) p) word ≡ b
-        → Calm (if b then stays (with_base s p word) Done else refuses s C4)
+        → Calm (if b then stays (with_base s p word) reply.Ok else refuses s C4)
     base-good p word cell true e = fits-base p word cell e
     base-good p word cell false e = refused C4
 
@@ -519,11 +520,11 @@ module _ (progress : ProgressLaw) (line_law : LineLaw) (whole_law : WholeLaw) (t
     told BoundOf h (Some f) e = (_, refl)
 
     text-of : (r : Reply) → CanTell s r → (text : List ℕ) × IsText s (numbers_in m) r text
-    text-of Nothing h = (_, refl)
-    text-of Done h = (_, refl)
-    text-of OutOfFuel h = (_, refl)
-    text-of More h = (_, refl)
-    text-of PartDone h = (_, refl)
+    text-of reply.Nothing h = (_, refl)
+    text-of reply.Ok h = (_, refl)
+    text-of reply.OutOfFuel h = (_, refl)
+    text-of reply.More h = (_, refl)
+    text-of reply.Done h = (_, refl)
     text-of (Refused r) h = (_, refl)
     text-of (Told q) h = told q h (present_run s) refl
 
@@ -565,7 +566,7 @@ module _ (progress : ProgressLaw) (line_law : LineLaw) (whole_law : WholeLaw) (t
     }
 
     -- the past before a line that runs, where it is the first one
-    before-line : (call : Call) → Accepted s call → (s.call ≡ Some call) ⊎ ((s.call ≡ None) × (m.past ≡ NoTrace))
+    pub before-line : (call : Call) → Accepted s call → (s.call ≡ Some call) ⊎ ((s.call ≡ None) × (m.past ≡ NoTrace))
     before-line call a = elim a.only [ inl e ↦ inr (e, subst (λ o. IsPastIn code s o m.past) e st.past) | inr e ↦ inl e ]
 
     fits-called : (o : Option Call) → IfSome o (IsCall s) → IfSome o (λ call. Fits code s.inputs call.function call.args)

@@ -10,28 +10,29 @@ use Rattle.ceal_session.specs.Replies.{Answers}
 use Rattle.ceal_session.specs.Steps.{Step, IsQuiet, answered}
 use Rattle.ceal_session.specs.Texts.{IsText}
 use Rattle.ceal_session.specs.declared.reply.Reply.{Reply}
-use Rattle.ceal_session.specs.declared.reply.Reply.TheVariants.{Nothing, Ok as Done, OutOfFuel, More, Finished, Refused, Told}
+use Rattle.ceal_session.specs.declared.reply.Reply.TheVariants as reply
+use Rattle.ceal_session.specs.declared.reply.Reply.TheVariants.{Refused, Told}
 use Rattle.ceal_session.specs.Keeping.{Held, situation}
 use Rattle.ceal_session.specs.State.{State, Numbers, numbers_in}
 
 -- a reply that no change stands after is that of the session before
 pub text-back : (m n : Held) (reply : Reply) (text : List ℕ) → (IsQuiet reply → n ≡ m) → IsText n.state (numbers_in (situation n)) reply text
     → IsText m.state (numbers_in (situation m)) reply text
-text-back m n Nothing text same h = h
-text-back m n Done text same h = h
-text-back m n OutOfFuel text same h = h
-text-back m n More text same h = h
-text-back m n Finished text same h = h
+text-back m n reply.Nothing text same h = h
+text-back m n reply.Ok text same h = h
+text-back m n reply.OutOfFuel text same h = h
+text-back m n reply.More text same h = h
+text-back m n reply.Done text same h = h
 text-back m n (Refused r) text same h = h
 text-back m n (Told q) text same h = rw (← same tt) h
 
 -- and can be told after it where it could before
 tell-after : (m n : Held) (reply : Reply) → (IsQuiet reply → n ≡ m) → CanTell m.state reply → CanTell n.state reply
-tell-after m n Nothing same h = tt
-tell-after m n Done same h = tt
-tell-after m n OutOfFuel same h = tt
-tell-after m n More same h = tt
-tell-after m n Finished same h = tt
+tell-after m n reply.Nothing same h = tt
+tell-after m n reply.Ok same h = tt
+tell-after m n reply.OutOfFuel same h = tt
+tell-after m n reply.More same h = tt
+tell-after m n reply.Done same h = tt
 tell-after m n (Refused r) same h = tt
 tell-after m n (Told q) same h = rw (same tt) h
 
@@ -58,17 +59,21 @@ not-so-long text n e k l = omega (arith, e, k, l)
 
 -- no change stands after a long answer
 pub long-quiet : (s : State) (numbers : Numbers) (reply : Reply) (text : List ℕ) → IsText s numbers reply text → 12 < length text → IsQuiet reply
-long-quiet s numbers Nothing text h l = tt
-long-quiet s numbers Done text h l = not-so-long text 3 (ap length h) (omega arith) l
-long-quiet s numbers OutOfFuel text h l = not-so-long text 12 (ap length h) (omega arith) l
-long-quiet s numbers More text h l = not-so-long text 5 (ap length h) (omega arith) l
-long-quiet s numbers Finished text h l = not-so-long text 5 (ap length h) (omega arith) l
+long-quiet s numbers reply.Nothing text h l = tt
+long-quiet s numbers reply.Ok text h l = not-so-long text 3 (ap length h) (omega arith) l
+long-quiet s numbers reply.OutOfFuel text h l = not-so-long text 12 (ap length h) (omega arith) l
+long-quiet s numbers reply.More text h l = not-so-long text 5 (ap length h) (omega arith) l
+long-quiet s numbers reply.Done text h l = not-so-long text 5 (ap length h) (omega arith) l
 long-quiet s numbers (Refused r) text h l = tt
 long-quiet s numbers (Told q) text h l = tt
 
 pub if-ok : {A E : Type 0} (r : Result A E) {P Q : A → Type 0} → ((x : A) → P x → Q x) → IfOk r P → IfOk r Q
 if-ok (Ok x) f h = f x h
 if-ok (Err e) f h = tt
+
+pub if-both-ok : {A E : Type 0} (r : Result A E) {P Q R : A → Type 0} → ((x : A) → P x → Q x → R x) → IfOk r P → IfOk r Q → IfOk r R
+if-both-ok (Ok x) f h k = f x h k
+if-both-ok (Err e) f h k = tt
 
 pub on-err : {A E P Q : Type 0} (r : Result A E) → (P → Q) → OnErr r P → OnErr r Q
 on-err (Ok x) f h = tt

@@ -25,7 +25,7 @@ use Rattle.ceal_session.proofs.Saves.SaveOfSession.{traced-in}
 use Rattle.ceal_session.specs.Following.{IsAllowed}
 use Rattle.ceal_session.specs.Naming.{AreSpelled, AreDistinct, HaveKnownShapes}
 use Rattle.ceal_session.specs.Recording.{IsRecorded}
-use Rattle.ceal_session.specs.Saves.{AlikeLaw, GoesOn, ResumedLaw}
+use Rattle.ceal_session.specs.Saves.{AlikeLaw, GoesOn, OneSavedLaw, ResavedLaw, ResumedLaw, SavedLaw}
 use Rattle.ceal_session.specs.Saving.{IsSaved, Holding, saved_state, resumed}
 use Rattle.ceal_session.specs.Standing.{IsTraceIn, IsPastIn, IsIn, IsSamePast, Stands}
 use Rattle.ceal_session.specs.State.{State, Situation, latest_work, last}
@@ -162,3 +162,13 @@ resumed-law renaming alike program m s st code typed allowed h =
   where
     compiled : IsCompiled program
     compiled = subst (λ c. IsCompiled (record { typed = program.typed; code = c })) code (subst (λ p. IsCompiled (record { typed = p; code = m.code })) typed st.compiled)
+
+-- its save is one of the situation, which has one
+pub resaved-law : RenamingLaw → SavedLaw → OneSavedLaw → ResavedLaw
+resaved-law renaming saved one program m session s t st code typed allowed h r k =
+    let l = in_order h.kept.run.items in
+    let same : r.trace ≡ l = same-trace s.kept.forest r.trace l r.items h.kept.is.items in
+    let there : IsIn session (resumed program.typed program.code s l) = subst (λ x. IsIn session (resumed program.typed program.code s x)) same r.is_in in
+    let here : IsIn (resumed program.typed program.code s l) m =
+    subst (λ c. IsIn (resumed program.typed c s l) m) code (subst (λ p. IsIn (resumed p m.code s l) m) typed (resumed-in renaming m s st allowed h)) in
+    one m t s (saved (resumed program.typed program.code s l) m t here (saved session (resumed program.typed program.code s l) t there k)) h

@@ -43,7 +43,8 @@ use Rattle.ceal_session.specs.declared.refusal.Refusal.TheVariants.{C2, C3, C4, 
 use Rattle.ceal_session.specs.declared.reply.Query.{Query}
 use Rattle.ceal_session.specs.declared.reply.Query.TheVariants.{Get as GetOf, Show as ShowOf, Blocks as BlocksOf, Steps as StepsOf, Work as WorkOf, Bound as BoundOf}
 use Rattle.ceal_session.specs.declared.reply.Reply.{Reply}
-use Rattle.ceal_session.specs.declared.reply.Reply.TheVariants.{Nothing, Ok as Done, OutOfFuel, More, Finished as PartDone, Refused, Told}
+use Rattle.ceal_session.specs.declared.reply.Reply.TheVariants as reply
+use Rattle.ceal_session.specs.declared.reply.Reply.TheVariants.{Refused, Told}
 use Rattle.ceal_session.specs.declared.sense.Sense.{Sense}
 use Rattle.ceal_session.specs.declared.sense.Sense.TheVariants.{Unknown, Plain, Word as IsWord}
 use Rattle.ceal_snap.specs.SaveText.{Save}
@@ -78,7 +79,7 @@ module _ (s : State) where
   made-with-other name shape None = tt
   made-with-other name shape (Some words) =
       let block = block_of shape words in
-      if-both Other (block_fits s.program.structs (memory_of s) block) (stays (with_input s name block) Done) (refuses s C4) tt tt
+      if-both Other (block_fits s.program.structs (memory_of s) block) (stays (with_input s name block) reply.Ok) (refuses s C4) tt tt
 
   made-other : (name : List ℕ) (o : Option Shape) (senses : List Sense) → Other (made_of s name o senses)
   made-other name None senses = tt
@@ -89,7 +90,7 @@ module _ (s : State) where
 
   word-other : (place value : Sense) → Other (set_word s place value)
   word-other (IsWord (AtPlace p)) (IsWord word) =
-      if-both Other (fits_cell s (kind_at s.program.structs (memory_of s) p) word) (stays (with_base s p word) Done) (refuses s C4) tt tt
+      if-both Other (fits_cell s (kind_at s.program.structs (memory_of s) p) word) (stays (with_base s p word) reply.Ok) (refuses s C4) tt tt
   word-other (IsWord (AtPlace p)) Unknown = tt
   word-other (IsWord (AtPlace p)) Plain = tt
   word-other (IsWord (Num n)) value = tt
@@ -152,11 +153,11 @@ module _ (s : State) where
 
   -- its text says nothing of the numbers
   text-any : (v w : Numbers) (r : Reply) → TellsOther r → (text : List ℕ) → IsText s v r text → IsText s w r text
-  text-any v w Nothing h text k = k
-  text-any v w Done h text k = k
-  text-any v w OutOfFuel h text k = k
-  text-any v w More h text k = k
-  text-any v w PartDone h text k = k
+  text-any v w reply.Nothing h text k = k
+  text-any v w reply.Ok h text k = k
+  text-any v w reply.OutOfFuel h text k = k
+  text-any v w reply.More h text k = k
+  text-any v w reply.Done h text k = k
   text-any v w (Refused r) h text k = k
   text-any v w (Told WorkOf) h text k = absurd h
   text-any v w (Told BoundOf) h text k = absurd h
@@ -457,5 +458,10 @@ stranger facts calls command_law answer alike program s trace compiled h items l
       right = right;
       past = t.beside;
     } in
-    subst (λ (q : Past). AreAlike (resumed program.typed code s trace) (at code (saved_state program.typed s) q (steps_in s.kept.forest)) lines) (sym (ap first_past t.is))
-    (are-alike facts calls command_law answer alike code (saved_state program.typed s) (Traced (record { items = trace; work = s.work })) (Traced t.first) s.bound (steps_in s.kept.forest) near lines)
+    record {
+      first = t.first;
+      is = t.is;
+      stands = subst (λ (q : Past). Stands (at code (saved_state program.typed s) q (steps_in s.kept.forest))) (sym (ap first_past t.is)) right;
+      alike = subst (λ (q : Past). AreAlike (resumed program.typed code s trace) (at code (saved_state program.typed s) q (steps_in s.kept.forest)) lines) (sym (ap first_past t.is))
+          (are-alike facts calls command_law answer alike code (saved_state program.typed s) (Traced (record { items = trace; work = s.work })) (Traced t.first) s.bound (steps_in s.kept.forest) near lines);
+    }

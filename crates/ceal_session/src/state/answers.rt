@@ -1,8 +1,8 @@
 // What a state tells of its last run.
 
-ghost use Rattle.std.specs.Prelude.{◌≡◌, ◌<◌, true, Some, None, length, is_some, IfOk, MatchOption};
+ghost use Rattle.std.specs.Prelude.{◌≡◌, ◌<◌, ◌↔◌, true, Some, None, length, is_some, IfOk, IsTrue, MatchOption};
 ghost use Rattle.ceal_session.specs.Asking.{IsReady, IsCellOf, steps_in, blocks_in, content_text};
-ghost use Rattle.ceal_session.specs.Keeping.{situation};
+ghost use Rattle.ceal_session.specs.Keeping.{IsTied, situation};
 ghost use Rattle.ceal_session.specs.Recording.{IsRecorded};
 ghost use Rattle.ceal_session.specs.Runs.{present_run};
 ghost use Rattle.ceal_session.specs.Steps.{has_no_run};
@@ -77,6 +77,25 @@ impl State {
         bound_of(alloc, &self.engine, self.journal.bounding())
     }
 
+    /// Keeps the bound until the next run or repair is completed, so that it is made once.
+    pub fn keep_bound(&mut self, bound: u32)
+        requires bound { bound ≡ (situation self.old).bound }
+        ensures kept { situation self.new ≡ situation self.old }
+    {
+        self.journal.keep(bound);
+    }
+
+    /// Whether there is a run that ended within the fuel, and nothing is pending. Its contract also tells what ties the state to
+    /// the engine.
+    pub fn is_ready(&self) -> bool
+        ensures ready { IsTrue result ↔ IsReady self.now.state }
+        ensures tied { IsTied self.now }
+    {
+        // for the proof: it is an engine, by the clause `whole`
+        let _phase = self.engine.phase();
+        !self.has_no_run() && !self.is_pending()
+    }
+
     /// The record of the run. There is none where there is no run, the last one was out of fuel, or an edit or a repair is pending.
     pub fn recorded(&self, alloc: Global) -> Result<Option<Record>, NoMemory>
         ensures { IfOk result
@@ -85,10 +104,7 @@ impl State {
     {
         // for the proof: it is an engine, by the clause `whole`
         let _phase = self.engine.phase();
-        if self.has_no_run() {
-            return Ok(None);
-        }
-        if self.is_pending() {
+        if !self.is_ready() {
             return Ok(None);
         }
         let forest = self.engine.forest()?;

@@ -1,4 +1,4 @@
-use Rattle.std.proofs.Common.{◌∙◌, sym, subst}
+use Rattle.std.proofs.Common.{sym, subst, arith}
 use Rattle.ceal_session.proofs.Engine.RecordOfTrace.{record-is}
 use Rattle.ceal_session.specs.Asking.{IsReady}
 use Rattle.ceal_session.specs.Keeping.{situation}
@@ -8,10 +8,8 @@ use Rattle.ceal_session.proofs.state.State.recorded.Goals as goal
 pub returns : goal.returns
 returns c =
     let i = c.self.inside in
-    let ready : IsReady c.args.self.now.state = record {
-      run = sym c.has_no_run.ensures ∙ c.if-has_no_run.false;
-      edited = sym c.is_pending.ensures ∙ c.if-is_pending.false;
-    } in
+    let is = c.if-not-is_ready.false in
+    let ready : IsReady c.args.self.now.state = c.is_ready.ensures.ready.0 (grind (arith, is)) in
     subst (λ m. IsRecorded (situation m) c.in_ok-record-in-Some.record) c.self.view_is
     (record-is i.program i.names i.engine i.journal i.pending c.self.invariant c.phase-phase.ensures.whole (subst (λ m. IsReady m.state) (sym c.self.view_is) ready)
     c.in_ok-forest.forest c.in_ok-forest.ensures.value (record { function = c.in-Some.function; args = c.in-Some.args.now }) c.in-Some.ensures.value c.in_ok-record-in-Some.record

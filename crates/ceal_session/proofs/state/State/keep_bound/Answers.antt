@@ -1,0 +1,18 @@
+use Rattle.std.proofs.Common.{◌≡◌, ◌∙◌, ap, sym, subst}
+use Rattle.ceal_session.proofs.Replies.KeptBound.{keeps, keeps-situation}
+use Rattle.ceal_session.specs.Keeping.{Holds, held_of, situation}
+use Rattle.ceal_session.proofs.state.State.keep_bound.Goals as goal
+
+pub invariant_of-self : goal.invariant_of-self
+invariant_of-self c =
+    let i = c.self.inside in
+    subst (λ j. Holds i.program i.names i.engine j i.pending) (sym c.keep.ensures) (keeps i.program i.names i.engine i.journal i.pending c.args.bound c.self.invariant)
+
+pub returns : goal.returns
+returns c =
+    let i = c.self.inside in
+    let same : c.args.bound ≡ (situation (held_of i.program i.names i.engine i.journal i.pending)).bound = subst (λ m. c.args.bound ≡ (situation m).bound) (sym c.self.view_is) c.requires.bound in
+    record {
+      kept = ap (λ j. situation (held_of i.program i.names i.engine j i.pending)) c.keep.ensures
+          ∙ (keeps-situation i.program i.names i.engine i.journal i.pending c.args.bound same ∙ ap situation c.self.view_is);
+    }
