@@ -1,5 +1,5 @@
 -- What is written for an input.
-use Rattle.std.proofs.Common.{◌≡◌, inl, inr, ℕ, List, [], Option, Result, Ok, Err, refl}
+use Rattle.std.proofs.Common.{◌≡◌, inl, inr, ℕ, List, [], Option, Result, Ok, Err, OnOk, refl}
 use Rattle.ceal_base.specs.declared.fault.Fault.{Fault}
 use Rattle.ceal_base.specs.declared.typed.Typed.{Typed}
 use Rattle.ceal_code.specs.Listing.{listing_text}
@@ -23,13 +23,14 @@ use Rattle.ceal_cli.specs.Serving.{AreServed, BeginServed, AreServedFromRun, Beg
 use Rattle.ceal_cli.specs.Lines.{script_of, script_lines}
 use Rattle.ceal_cli.specs.Modes.{ReadsInput}
 use Rattle.ceal_cli.specs.Output.{IsOutput, Programmed, accepted_text, Begins, IsOutputFromRun}
+use Rattle.ceal_cli.specs.ReadBack.{IsReadableDump, IsReadableSave, WritesDump, WritesSave}
 use Rattle.ceal_cli.specs.Verdicts.{IsVerdictLine}
 use Rattle.ceal_cli.specs.declared.words.Mode.{Mode}
 use Rattle.ceal_cli.specs.declared.words.Mode.TheVariants.{Check, List as Listing, Run, Dump, Verify, Many, Save}
-use Rattle.ceal_cli.proofs.Sessions.GrowingReplies.{puts_as}
+use Rattle.ceal_cli.proofs.Sessions.GrowingReplies.{all_as, puts_as}
 use Rattle.ceal_cli.proofs.Sessions.SessionLeads.{served, served-from-run, carried}
 use Rattle.ceal_cli.proofs.Sessions.ReplyPrefixes.{begun, begun-from-run}
-use Rattle.ceal_cli.proofs.Sessions.SessionInSituation.{dump-in, save-in}
+use Rattle.ceal_cli.proofs.Sessions.SessionInSituation.{dump-in, record-in, save-in}
 
 module _ (input : List ℕ) where
   -- the word `accepted`
@@ -88,6 +89,23 @@ module _ (input : List ℕ) where
               record { replies = there.0; end = there.1; leads = there.2; dump = dump-in renamed behind.end there.1 there.3 text behind.is },
             )
 
+        -- which is read as the record of the run
+        readable-dump : SavedLaw → (text : List ℕ) → IsDumpBehind (opened p fuel) lines text → IsReadableDump fuel input text
+        unfolding programmed
+        readable-dump saves text behind =
+            let there = carried kept (opened p fuel) behind.end (opened p fuel) lines (begins p fuel opens.compiled) behind.carries in
+            elim behind.is [
+              | inl none ↦ inl none.1
+              | inr found ↦ inr (
+                programmed opens.reads opens.compiled,
+                record { replies = there.0; end = there.1; leads = there.2; kept = found.0; recorded = record-in saves behind.end there.1 there.3 found.0 found.1; dump = found.2 },
+              )
+            ]
+
+        pub dumped-readable : SavedLaw → (r : Result (Unit {0}) Stopped) (a b : Option (List ℕ)) (m n : ℕ) → Writes r a b m n (IsDumpBehind (opened p fuel) lines)
+            → OnOk r (WritesDump a b fuel input)
+        dumped-readable saves r a b m n h = all_as r a b (IsDumpBehind (opened p fuel) lines) (IsReadableDump fuel input) (readable-dump saves) h.all
+
         -- the save after the script
         pub saved : RenamedLaw → SavedLaw → (text : List ℕ) → IsSaveBehind (source_of input part) (opened p fuel) lines text → IsOutput (Save fuel) input text
         unfolding programmed
@@ -97,6 +115,24 @@ module _ (input : List ℕ) where
               programmed opens.reads opens.compiled,
               record { replies = there.0; end = there.1; leads = there.2; save = save-in renamed saves (source_of input part) behind.end there.1 there.3 text behind.is },
             )
+
+        -- which is read as the save of the session
+        readable-save : SavedLaw → (text : List ℕ) → IsSaveBehind (source_of input part) (opened p fuel) lines text → IsReadableSave fuel input text
+        unfolding programmed
+        readable-save saves text behind =
+            let there = carried kept (opened p fuel) behind.end (opened p fuel) lines (begins p fuel opens.compiled) behind.carries in
+            elim behind.is [
+              | inl none ↦ inl none.1
+              | inr found ↦ inr (
+                programmed opens.reads opens.compiled,
+                record { replies = there.0; end = there.1; leads = there.2; save = found.0; saved = saves behind.end there.1 found.0 there.3 found.1; is = found.2; whole = found.3 },
+              )
+            ]
+
+        pub saved-readable : SavedLaw → (r : Result (Unit {0}) Stopped) (a b : Option (List ℕ)) (m n : ℕ)
+            → Writes r a b m n (IsSaveBehind (source_of input part) (opened p fuel) lines)
+            → OnOk r (WritesSave a b fuel input)
+        saved-readable saves r a b m n h = all_as r a b (IsSaveBehind (source_of input part) (opened p fuel) lines) (IsReadableSave fuel input) (readable-save saves) h.all
 
     -- the replies from that of the first run on
     module _ (reads : IsProgram input p.typed) (compiled : IsCompiled p) (begins : BegunLaw) (kept : KeptLaw) where

@@ -39,13 +39,13 @@ writes_text r a b m n P text h all prefix fault later =
     puts_text r a b m n P (Begins P) text h (λ out begins. inr (text, h, begins)) all prefix fault later
 
 -- what was put is of other sorts too
+pub all_as : {A : Type 0} (r : Result A Stopped) (a b : Option (List ℕ)) (P Q : List ℕ → Type 0) → ((out : List ℕ) → P out → Q out) → OnOk r (Grows a b P) → OnOk r (Grows a b Q)
+all_as (Ok u) a b P Q f h = weaker f h
+all_as (Err e) a b P Q f h = tt
+
 module _ {A : Type 0} (r : Result A Stopped) (a b : Option (List ℕ)) (m n : ℕ) (P Q R S : List ℕ → Type 0) where
   pub puts_as : ((out : List ℕ) → P out → R out) → ((out : List ℕ) → Q out → S out) → Puts r a b m n P Q → Puts r a b m n R S
-  puts_as f g w = record { all = ok_weaker r w.all; part = weaker g w.part; fault = w.fault; later = w.later }
-    where
-      ok_weaker : (r : Result A Stopped) → OnOk r (Grows a b P) → OnOk r (Grows a b R)
-      ok_weaker (Ok u) h = weaker f h
-      ok_weaker (Err e) h = tt
+  puts_as f g w = record { all = all_as r a b P R f w.all; part = weaker g w.part; fault = w.fault; later = w.later }
 
 pub writes_as : {A : Type 0} (r : Result A Stopped) (a b : Option (List ℕ)) (m n : ℕ) (P Q : List ℕ → Type 0)
     → ((out : List ℕ) → P out → Q out) → Writes r a b m n P → Writes r a b m n Q

@@ -96,7 +96,7 @@ module _ (renamed : RenamedLaw) (m s : Situation) (h : IsIn m s) (write : Record
 
 pub dump-in : RenamedLaw → (m s : Situation) → IsIn m s → (out : List ℕ) → IsDumpFrom m out → IsDumpOf s out
 dump-in renamed m s h out (inl (absent, e)) = none-ready renamed m s h dump_text out absent e
-dump-in renamed m s h out (inr (r, k, e)) = recorded-in renamed m s h dump_text out r k e
+dump-in renamed m s h out (inr (r, k, is)) = recorded-in renamed m s h dump_text out r k is.text
 
 -- the save of a situation with these parts
 save-with : ℕ → ℕ → ℕ → List (List ℕ) → Record → Save
@@ -112,8 +112,14 @@ same-save m s h =
 
 pub save-in : RenamedLaw → SavedLaw → (source : List ℕ) (m s : Situation) → IsIn m s → (out : List ℕ) → IsSaveFrom source m out → IsSaveOf s source out
 save-in renamed saved source m s h out (inl (absent, e)) = none-ready renamed m s h (λ kept. with_source source (save_of s kept)) out absent e
-save-in renamed saved source m s h out (inr (v, k, e)) =
+save-in renamed saved source m s h out (inr (v, k, is, e)) =
     recorded-in renamed m s h (λ kept. with_source source (save_of s kept)) out v.kept k.kept (e ∙ ap (with_source source) (same-save s v (saved m s v h k)))
+
+-- and so the record is that of the situation
+pub record-in : SavedLaw → (m s : Situation) → IsIn m s → (r : Record) → IsRecorded m r → IsRecorded s r
+record-in saved m s h r k =
+    let of : IsSaved s (save_of m r) = saved m s (save_of m r) h (record { fuel = refl; work = refl; bound = refl; names = refl; kept = k }) in
+    of.kept
 
 -- what a session answers, and what is left of it, for each situation that it is in
 module _ {E : Type 0} (r : Result (List ℕ) E) (old new : Situation) (line : List ℕ) where
