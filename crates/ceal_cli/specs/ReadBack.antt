@@ -4,38 +4,41 @@ use Rattle.ceal_base.specs.declared.recorded.Record.{Record}
 use Rattle.ceal_code.specs.Program.{Code}
 use Rattle.ceal_dump.specs.DumpText.{IsDump}
 use Rattle.ceal_lex.specs.Parts.{source_of}
-use Rattle.ceal_session.specs.Recording.{IsRecorded}
 use Rattle.ceal_session.specs.Replies.{opening, Leads}
-use Rattle.ceal_session.specs.Saving.{IsSaved}
-use Rattle.ceal_session.specs.State.{State, Situation}
-use Rattle.ceal_snap.specs.SaveText.{Save, save_text, IsSave}
-use Rattle.ceal_cli.specs.Dumps.{no_run_text}
+use Rattle.ceal_session.specs.State.{State, Situation, last}
+use Rattle.ceal_session.specs.Steps.{asked}
+use Rattle.ceal_session.specs.declared.reply.Query.TheVariants.{Steps}
+use Rattle.ceal_session.specs.declared.reply.Reply.TheVariants.{Told}
+use Rattle.ceal_snap.specs.SaveText.{save_text, IsSave}
+use Rattle.ceal_cli.specs.Dumps.{IsRecordIn, no_run_text}
 use Rattle.ceal_cli.specs.Growth.{Grows}
 use Rattle.ceal_cli.specs.Output.{Programmed, first_state, lines_behind}
-use Rattle.ceal_cli.specs.Saves.{with_source}
+use Rattle.ceal_cli.specs.Saves.{save_of, with_source}
 use Rattle.ceal_cli.specs.declared.words.Mode.{Mode}
 use Rattle.ceal_cli.specs.declared.words.Mode.TheVariants.{Dump, Save as SaveMode}
 
--- After the lines, from a state where nothing was run, there is a finished run, and the bytes are the dump of its
--- record.
-pub record IsDumpAfter (code : Code) (s : State) (lines : List (List ℕ)) (out : List ℕ) : Type 0 where
+-- After the lines, from a state where nothing was run, a line `steps` would be told, and this is the record of the run.
+pub record IsRunAfter (code : Code) (s : State) (lines : List (List ℕ)) (end : Situation) (kept : Record) : Type 0 where
   pub replies : List ℕ
-  pub end : Situation
   pub leads : Leads (opening code s) lines replies end
+  pub told : asked end.state Steps ≡ Told Steps
+  pub recorded : IsRecordIn end end.state.call (last end) kept
+
+-- The bytes are the dump of the record.
+pub record IsDumpAfter (code : Code) (s : State) (lines : List (List ℕ)) (out : List ℕ) : Type 0 where
+  pub end : Situation
   pub kept : Record
-  pub recorded : IsRecorded end kept
+  pub run : IsRunAfter code s lines end kept
   pub dump : IsDump out kept
 
--- The bytes are the source part, a line `%%`, and a text that is the save of the situation after the lines.
+-- The bytes are the source part, a line `%%`, and a text that is the save of the situation.
 pub record IsSaveAfter
     (code : Code) (s : State) (source : List ℕ) (lines : List (List ℕ)) (out : List ℕ) : Type 0 where
-  pub replies : List ℕ
   pub end : Situation
-  pub leads : Leads (opening code s) lines replies end
-  pub save : Save
-  pub saved : IsSaved end save
-  pub is : IsSave (save_text save) save
-  pub whole : out ≡ with_source source save
+  pub kept : Record
+  pub run : IsRunAfter code s lines end kept
+  pub save : IsSave (save_text (save_of end kept)) (save_of end kept)
+  pub whole : out ≡ with_source source (save_of end kept)
 
 -- So it is after the script of an accepted input, where there is a run.
 abbrev pub IsReadableDump : ℕ → List ℕ → List ℕ → Type 0

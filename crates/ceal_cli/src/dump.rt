@@ -23,7 +23,7 @@ use ceal_dump::has_dump::has_room;
 use ceal_dump::write::dump_text;
 use ceal_io::{Sink, Stopped, write_all};
 use ceal_record::laws::renamed_law;
-use ceal_session::laws::{kept_line, saved_law, some_reply};
+use ceal_session::laws::{kept_line, some_reply};
 use ceal_session::session::Session;
 use ceal_theory::names::renaming_law;
 use ceal_types::seed::Seed;
@@ -93,7 +93,6 @@ pub fn dump<K: Sink>(
     kept_line();
     some_reply();
     renamed_law();
-    saved_law();
     let mut session = Session::seeded(alloc, program, fuel, Seed::of_text(input.bytes))?;
     let told = write_dump(alloc, &mut session, script(input.bytes, &input.part), sink);
     drop(session);

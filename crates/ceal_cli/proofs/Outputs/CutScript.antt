@@ -18,7 +18,7 @@ use Rattle.ceal_cli.specs.Lines.{script_of, script_lines}
 use Rattle.ceal_cli.specs.Output.{IsAnswer, IsTaken, Programmed, lines_behind}
 use Rattle.ceal_cli.specs.ReadBack.{IsSaveAfter}
 use Rattle.ceal_cli.specs.Resumed.{Resumption, IsResumable, IsRepliedAfter, lines_after}
-use Rattle.ceal_cli.specs.Saves.{mark_line}
+use Rattle.ceal_cli.specs.Saves.{mark_line, save_of}
 use Rattle.ceal_cli.specs.declared.words.Mode.TheVariants.{Resume}
 use Rattle.ceal_cli.proofs.Outputs.FirstScript.{Known, as-compiled, compiled, goes-on-after, here, stands-after}
 use Rattle.ceal_cli.proofs.Outputs.ResumedAsContinued.{save-ends, without-empty}
@@ -56,10 +56,10 @@ module _ (cut : Cut) (fuel : ℕ) (input written more again long : List ℕ) (h 
   m = first.end
 
   abbrev save : Save
-  save = first.save
+  save = save_of m first.kept
 
   goes-on : GoesOn m program save
-  goes-on = goes-on-after known input h.first fuel first.replies m first.leads h.allowed save first.saved
+  goes-on = goes-on-after known input h.first fuel m first.kept first.run h.allowed
 
   -- the parts of the input that is resumed
   abbrev rest : List ℕ
@@ -91,10 +91,10 @@ module _ (cut : Cut) (fuel : ℕ) (input written more again long : List ℕ) (h 
       let small : length rest < 2 ^ 32 = omega (arith, size, front, mark, short) in
       record {
         part = put-parts (save_text save) more;
-        split = put-split (save_text save) more small (put-mark (save_text save) more (cut.plain (save_text save) save first.is) (save-ends save));
+        split = put-split (save_text save) more small (put-mark (save_text save) more (cut.plain (save_text save) save first.save) (save-ends save));
         marked = refl;
         saved = save;
-        is = subst (λ t. IsSave t save) (sym (put-source (save_text save) more)) first.is;
+        is = subst (λ t. IsSave t save) (sym (put-source (save_text save) more)) first.save;
       }
 
   pub is-taken : IsTaken Resume again
@@ -118,12 +118,12 @@ module _ (cut : Cut) (fuel : ℕ) (input written more again long : List ℕ) (h 
         (subst (λ t. Leads (resumed program.typed program.code save t) (lines_after after.from) out after.end) (one-trace after.trace goes-on.trace items)
         (subst (λ v. Leads (resumed program.typed program.code v after.trace) (lines_after after.from) out after.end) same after.leads))
 
-    before-save : Leads (opened program fuel) h.front first.replies m
+    before-save : Leads (opened program fuel) h.front first.run.replies m
     before-save = by-lines h.lines
       where
-        by-lines : (lines ≡ h.front) ⊎ (lines ≡ h.front ++ ([] ∷ [])) → Leads (opened program fuel) h.front first.replies m
-        by-lines (inl e) = subst (λ l. Leads (opened program fuel) l first.replies m) e first.leads
-        by-lines (inr e) = without-empty cut.command h.front (opened program fuel) first.replies m (subst (λ l. Leads (opened program fuel) l first.replies m) e first.leads)
+        by-lines : (lines ≡ h.front) ⊎ (lines ≡ h.front ++ ([] ∷ [])) → Leads (opened program fuel) h.front first.run.replies m
+        by-lines (inl e) = subst (λ l. Leads (opened program fuel) l first.run.replies m) e first.run.leads
+        by-lines (inr e) = without-empty cut.command h.front (opened program fuel) first.run.replies m (subst (λ l. Leads (opened program fuel) l first.run.replies m) e first.run.leads)
 
     -- and so the lines of both scripts
     abbrev whole : Programmed long
@@ -131,19 +131,19 @@ module _ (cut : Cut) (fuel : ℕ) (input written more again long : List ℕ) (h 
 
     pub is-continued : Continued fuel h.whole h.front (script_lines more) out
     is-continued =
-        let led = known.scripts m (script_lines more) (stands-after known input h.first fuel first.replies m first.leads) in
+        let led = known.scripts m (script_lines more) (stands-after known input h.first fuel m first.kept first.run) in
         let other = goes-on.answers (script_lines more) led.out led.end led.leads in
         let same : led.out ≡ out = (known.once (resumed program.typed program.code save goes-on.trace) (script_lines more) led.out out other.0 after.end other.1 from-save).0 in
         let next : Leads m (script_lines more) out led.end = subst (λ t. Leads m (script_lines more) t led.end) same led.leads in
-        let both : Leads (opened program fuel) (h.front ++ script_lines more) (first.replies ++ out) led.end =
-        cut.joined (opened program fuel) m led.end h.front (script_lines more) first.replies out before-save next in
-        let leads : Leads (opened program fuel) (lines_behind h.whole) (first.replies ++ out) led.end =
-        subst (λ l. Leads (opened program fuel) l (first.replies ++ out) led.end) (sym h.both) both in
+        let both : Leads (opened program fuel) (h.front ++ script_lines more) (first.run.replies ++ out) led.end =
+        cut.joined (opened program fuel) m led.end h.front (script_lines more) first.run.replies out before-save next in
+        let leads : Leads (opened program fuel) (lines_behind h.whole) (first.run.replies ++ out) led.end =
+        subst (λ l. Leads (opened program fuel) l (first.run.replies ++ out) led.end) (sym h.both) both in
         record {
-          replies = first.replies;
+          replies = first.run.replies;
           middle = m;
           end = led.end;
-          before = read-again (λ part p k. Leads (opening k (begun p fuel)) h.front first.replies m) long whole h.whole
+          before = read-again (λ part p k. Leads (opening k (begun p fuel)) h.front first.run.replies m) long whole h.whole
               (one-reading known.split known.answer known.code long whole h.whole) before-save;
           after = next;
           whole = (whole, record { end = led.end; leads = leads });

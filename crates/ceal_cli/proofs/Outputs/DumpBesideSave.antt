@@ -50,9 +50,7 @@ module _ (known : Known) (fuel : ℕ) (input written again : List ℕ) (h : Dump
   first = as-compiled known input h.first (λ part p k. IsDumpAfter k (begun p fuel) (script_lines (script_of input part)) written) h.dumped
 
   goes-on : GoesOn first.end program (save_of first.end first.kept)
-  goes-on =
-      goes-on-after known input h.first fuel first.replies first.end first.leads h.allowed (save_of first.end first.kept)
-      (record { fuel = refl; work = refl; bound = refl; names = refl; kept = first.recorded })
+  goes-on = goes-on-after known input h.first fuel first.end first.kept first.run h.allowed
 
   abbrev there : Programmed again
   there =
