@@ -1,16 +1,15 @@
 -- A call has one record to which the checker says yes, up to the numbers of core blocks, where its run ends.
-use Rattle.std.proofs.Common.{◌≡◌, ◌+◌, ◌≤◌, ℕ, true, Option, Some, None, List, refl, sym, ap, ◌∙◌, subst, arith}
+use Rattle.std.proofs.Common.{◌≡◌, ◌+◌, ◌≤◌, ℕ, true, Option, Some, None, List, sym, ap, ◌∙◌, subst, arith}
 use Rattle.std.specs.List.{list_all}
 use Rattle.ceal_base.proofs.TraceLemmas.{trace-flat, steps-flat}
 use Rattle.ceal_base.specs.Block.{Block, Blocks}
 use Rattle.ceal_base.specs.Finished.{Finished}
 use Rattle.ceal_base.specs.Same.{index_of}
-use Rattle.ceal_base.specs.Trace.{Trace, flat, trace_of, steps_in, steps_of}
+use Rattle.ceal_base.specs.Trace.{Trace, flat, trace_of, steps_in}
 use Rattle.ceal_base.specs.declared.call.Call.{Call}
 use Rattle.ceal_base.specs.declared.recorded.Record.{Record}
 use Rattle.ceal_base.specs.declared.word.Word.{Word}
 use Rattle.ceal_code.proofs.Alike.AlikeSteps.{steps-alike}
-use Rattle.ceal_code.specs.Alike.{TraceAlike, zipped}
 use Rattle.ceal_code.specs.Fitting.{Fits}
 use Rattle.ceal_code.specs.Fresh.{fresh}
 use Rattle.ceal_code.specs.Program.{Code}
@@ -32,7 +31,7 @@ one-trace l m e =
     let same : Some l ≡ Some m = sym (trace-flat l) ∙ (ap trace_of e ∙ trace-flat m) in
     cc same
 
-memory_in : Blocks → Option Finished → Blocks
+abbrev memory_in : Blocks → Option Finished → Blocks
 memory_in m None = m
 memory_in m (Some run) = run.memory
 

@@ -17,7 +17,7 @@ use Rattle.ceal_cli.proofs.Inputs.OneReading.{SplitLaw}
 
 -- The bytes come to the same after another input.
 module _ (input other : List ℕ) (part there : Split) (source : source_of input part ≡ source_of other there) (marked : part.marked ≡ there.marked) where
-  comes-again : (r : Result Typed Fault) → PartComes input part r → PartComes other there r
+  pub comes-again : (r : Result Typed Fault) → PartComes input part r → PartComes other there r
   comes-again r (inl h) = inl (record { fault = h.fault; stands = subst (λ b. IsFirstFault b h.fault) source h.stands; same = h.same })
   comes-again r (inr h) =
       inr (record {
