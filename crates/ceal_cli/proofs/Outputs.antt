@@ -11,5 +11,6 @@ pub mod ResumedOutput
 pub mod OutputExists
 pub mod HoldsOrNot
 pub mod SomeResumed
+pub mod StrangersReplies
 pub mod OutputOfBytes
 pub mod VerifiedRun

@@ -15,6 +15,7 @@ pub mod Output
 pub mod ReadBack
 pub mod Resumed
 pub mod Saves
+pub mod StrangerOutput
 pub mod Verdicts
 pub mod Workloads
 -- what its own functions say of each other

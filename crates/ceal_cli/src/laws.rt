@@ -7,6 +7,7 @@ ghost use Rattle.ceal_session.specs.Replies.{Replies};
 ghost use Rattle.ceal_cli.specs.Continuing.{ResumableLaw, ResumedOutputLaw};
 ghost use Rattle.ceal_cli.specs.DumpLaws.{DumpVerifiedLaw, TailLaw};
 ghost use Rattle.ceal_cli.specs.ManyLaws.{ManyIsRunLaw};
+ghost use Rattle.ceal_cli.specs.StrangerOutput.{StrangerOutputLaw};
 ghost use Rattle.ceal_cli.specs.Laws.{AcceptedLaw, ShortLaw, OneOutputLaw, AnsweredLaw, UntakenLaw, CheckedLaw, ListedLaw, RefusedLaw, RepliedLaw, DumpedLaw, SavedLaw, ToldLaw, JudgedLaw, TakenLaw, UnresumedLaw, SomeOutputLaw, GeneratedLaw, VerifiedLaw};
 
 use crate::members::Member;
@@ -139,6 +140,19 @@ pub fn resumed_output()
     ceal_session::laws::one_script();
     ceal_session::laws::some_reply();
     ceal_session::laws::resumed_law();
+}
+
+/// For a save that holds, whoever wrote it, `resume` writes the replies of a session that has the first trace of the call,
+/// line by line, but for the numbers of `work` and `bound` before the next completed run or repair.
+pub fn stranger_output()
+    ensures law { StrangerOutputLaw }
+{
+    ceal_lex::split::one_split();
+    ceal_compile::compile::one_answer();
+    ceal_compile::laws::one_code();
+    ceal_compile::laws::accepted_is_compiled();
+    ceal_session::laws::some_reply();
+    ceal_session::laws::stranger_law();
 }
 
 /// With `many`, the replies to the lines for one of the first 64 names are those that its session gives to them by itself, so
