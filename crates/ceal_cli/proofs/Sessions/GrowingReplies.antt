@@ -1,8 +1,8 @@
 -- Writing replies one after another.
-use Rattle.std.proofs.Common.{◌≤◌, inl, inr, ℕ, List, [], ◌∷◌, ◌++◌, Option, Result, Ok, Err, OnOk, take, drop, refl, append_assoc, append-nil, take-append-drop}
+use Rattle.std.proofs.Common.{◌≤◌, inl, inr, ℕ, List, [], ◌∷◌, ◌++◌, Bool, Option, Result, Ok, Err, IfOk, OnOk, take, drop, refl, append_assoc, append-nil, take-append-drop}
 use Rattle.std.specs.Io.KnownBytes.{Appends}
 use Rattle.std.proofs.KnownBytes.{Appends-trans, Appends-nil}
-use Rattle.std.specs.Prelude.{IsErrOf}
+use Rattle.std.specs.Prelude.{IsErrOf, IsTrue}
 use Rattle.ceal_io.specs.Streams.{GrowsByPrefix, Rose}
 use Rattle.ceal_io.specs.declared.streams.Stopped.{Stopped}
 use Rattle.ceal_io.specs.declared.streams.Stopped.TheVariants.{Failed}
@@ -32,6 +32,15 @@ pub puts_text : (r : Result (Unit {0}) Stopped) (a b : Option (List ℕ)) (m n :
     → OnOk r (Appends a b text) → GrowsByPrefix a b text → (IsErrOf r Failed → Rose m n) → m ≤ n → Puts r a b m n P Q
 puts_text r a b m n P Q text h begins all prefix fault later =
     record { all = whole_text r a b P text h all; part = weaker begins (of_prefix a b text prefix); fault = fault; later = later }
+
+-- where nothing is said of what was put
+pub unsaid : {A E : Type 0} (r : Result A E) → OnOk r (Unit {0})
+unsaid (Ok u) = tt
+unsaid (Err e) = tt
+
+pub untold : {E : Type 0} (r : Result Bool E) → IfOk r (λ taken. IsTrue taken → Unit {0})
+untold (Ok taken) = λ _. tt
+untold (Err e) = tt
 
 pub writes_text : (r : Result (Unit {0}) Stopped) (a b : Option (List ℕ)) (m n : ℕ) (P : List ℕ → Type 0) (text : List ℕ) → P text
     → OnOk r (Appends a b text) → GrowsByPrefix a b text → (IsErrOf r Failed → Rose m n) → m ≤ n → Writes r a b m n P
