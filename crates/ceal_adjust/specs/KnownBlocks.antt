@@ -2,6 +2,7 @@
 use Rattle.std.specs.Prelude.{◌≡◌, ℕ, zero, suc, Option, Some, None, List, [], ◌∷◌, ◌++◌}
 use Rattle.ceal_base.specs.Block.{Block}
 use Rattle.ceal_base.specs.declared.word.BlockId.TheVariants.{Core}
+use Rattle.ceal_base.specs.declared.word.Word.{Word}
 use Rattle.ceal_code.specs.Program.{Code}
 use Rattle.ceal_code.specs.Replay.{Store, learnt}
 use Rattle.ceal_code.specs.Tables.{defaulted}
@@ -11,6 +12,11 @@ use Rattle.ceal_code.specs.Value.{Plain}
 pub record Numbered : Type 0 where
   pub number : ℕ
   pub block : Block
+
+-- a block with one word more
+abbrev pub with_word : Numbered → Word → Numbered
+with_word k word =
+    record k { block = record { shape = k.block.shape; words = k.block.words ++ word ∷ [] } }
 
 -- no block is known
 abbrev pub nothing : Plain

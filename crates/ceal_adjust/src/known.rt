@@ -1,10 +1,10 @@
 // Core blocks that a repair knows, with their plain words.
 
-ghost use Rattle.std.specs.Prelude.{◌≡◌, ◌<◌, ◌≤◌, ◌∷◌, [], ◌++◌, ℕ, Some, None, IfOk, OnOk};
+ghost use Rattle.std.specs.Prelude.{◌≡◌, ◌<◌, ◌≤◌, ◌∷◌, [], ◌++◌, ℕ, Some, None, IfOk, OnOk, OnErr};
 ghost use Rattle.ceal_base.specs.Block.{Block};
 ghost use Rattle.ceal_base.specs.declared.word.BlockId.TheVariants.{Core};
 ghost use Rattle.ceal_code.specs.Tables.{code_in, plain_in, store_in};
-ghost use Rattle.ceal_adjust.specs.KnownBlocks.{nothing, knowing, defaulting, IsKnown, blocks_below};
+ghost use Rattle.ceal_adjust.specs.KnownBlocks.{nothing, knowing, with_word, defaulting, IsKnown, blocks_below};
 
 use ceal_base::kind::Shape;
 use ceal_base::memory::BlockWords;
@@ -32,6 +32,34 @@ impl Model for KnownBlock {
 }
 
 impl KnownBlock {
+    /// A block with these plain words.
+    pub fn new(number: u32, shape: Shape, words: Vec<Word>) -> KnownBlock
+        ensures value { result
+            ≡ record { number = number; block = record { shape = shape; words = words.items } } }
+    {
+        KnownBlock {
+            number,
+            shape,
+            words,
+        }
+    }
+
+    /// One word more.
+    pub fn push(&mut self, word: Word) -> Result<(), NoMemory>
+        ensures ok { OnOk result (self.new ≡ with_word self.old word) }
+        ensures err { OnErr result (self.new ≡ self.old) }
+    {
+        self.words.push(word)?;
+        Ok(())
+    }
+
+    /// The words.
+    pub fn items(&self) -> &[Word]
+        ensures value { result.now ≡ self.now.block.words }
+    {
+        self.words.as_slice()
+    }
+
     /// The block by itself.
     fn block(&self) -> Result<BlockWords, NoMemory>
         ensures { IfOk result (λ b. b ≡ self.now.block) }
@@ -57,16 +85,16 @@ impl Model for Known {
 }
 
 impl Known {
-    fn empty(alloc: Global) -> Known
-        ensures { result ≡ [] }
+    pub fn new(blocks: Vec<KnownBlock>) -> Known
+        ensures value { result ≡ blocks.items }
     {
-        Known {
-            blocks: Vec::new(alloc),
-        }
+        Known { blocks }
     }
 
-    fn push(&mut self, block: KnownBlock) -> Result<(), NoMemory>
-        ensures { OnOk result (self.new ≡ self.old ++ block ∷ []) }
+    /// One block more.
+    pub fn push(&mut self, block: KnownBlock) -> Result<(), NoMemory>
+        ensures ok { OnOk result (self.new ≡ self.old ++ block ∷ []) }
+        ensures err { OnErr result (self.new ≡ self.old) }
     {
         self.blocks.push(block)?;
         Ok(())
@@ -123,11 +151,7 @@ fn known_block(
         None => Ok(None),
         Some(shape) => {
             let words = plain_words(alloc, memory, id)?;
-            Ok(Some(KnownBlock {
-                number,
-                shape,
-                words,
-            }))
+            Ok(Some(KnownBlock::new(number, shape, words)))
         }
     }
 }
@@ -140,7 +164,7 @@ pub fn known_below(alloc: Global, memory: &TraceMemory<'_>, next: u32) -> Result
     ensures others { IfOk result (λ known. (b : ℕ) → next ≤ b →
         knowing nothing known (Core b) ≡ None) }
 {
-    let mut known = Known::empty(alloc);
+    let mut known = Known::new(Vec::new(alloc));
     for number in 0..next {
         if let Some(block) = known_block(alloc, memory, number)? {
             known.push(block)?;
