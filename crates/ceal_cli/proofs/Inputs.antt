@@ -3,5 +3,6 @@ pub mod FirstLineFeed
 pub mod OneResumed
 pub mod OneReading
 pub mod FirstMark
+pub mod OtherScript
 pub mod ScriptLines
 pub mod AnswerOrRefusal

@@ -4,6 +4,7 @@ pub mod RepliesFromFirstRun
 pub mod GrowingReplies
 pub mod LinesKeepProgram
 pub mod SessionLeads
+pub mod ManyIsRun
 pub mod ManyReplies
 pub mod ReplyPrefixes
 pub mod SessionInSituation

@@ -2,22 +2,22 @@
 use Rattle.std.specs.Prelude.{◌≡◌, ◌⊎◌, ℕ, ◌<◌, ◌^◌, true, List, [], ◌∷◌, ◌++◌, length}
 use Rattle.ceal_lex.specs.Parts.{source_of}
 use Rattle.ceal_session.specs.Following.{IsAllowed}
-use Rattle.ceal_snap.specs.SaveText.{Save, save_text, IsSave}
-use Rattle.ceal_cli.specs.Dumps.{no_run_text}
+use Rattle.ceal_session.specs.Replies.{opening, Leads}
+use Rattle.ceal_session.specs.State.{Situation}
 use Rattle.ceal_cli.specs.Lines.{script_lines}
-use Rattle.ceal_cli.specs.Output.{Programmed, IsAnswer, IsTaken, lines_behind}
-use Rattle.ceal_cli.specs.Saves.{mark_line, with_source}
-use Rattle.ceal_cli.specs.declared.words.Mode.TheVariants.{Run, Save as SaveMode, Resume}
+use Rattle.ceal_cli.specs.Output.{Programmed, IsAnswer, IsTaken, first_state, lines_behind}
+use Rattle.ceal_cli.specs.ReadBack.{IsSaveAfter}
+use Rattle.ceal_cli.specs.Saves.{mark_line}
+use Rattle.ceal_cli.specs.declared.words.Mode.TheVariants.{Run, Resume}
 
 -- What `save` wrote of an input, a line `%%` and more lines after it are an input for `resume`, and one
 -- for `run` has the same source part, and the lines of both scripts.
 pub record Resumes (fuel : ℕ) (input written more again long : List ℕ) : Type 0 where
   pub first : Programmed input
   pub allowed : IsAllowed fuel
-  pub saved : IsAnswer (SaveMode fuel) input written
-  pub run : ¬ (written ≡ no_run_text)
-  -- the numbers of the save are in the ranges of their types, as those of a session that a program holds
-  pub range : (s : Save) → written ≡ with_source (source_of input first.part) s → IsSave (save_text s) s
+  -- a run was saved: of what `save` writes this is so, unless it says that there is none
+  pub saved :
+      IsSaveAfter first.code (first_state first fuel) (source_of input first.part) (lines_behind first) written
   pub again_is : again ≡ written ++ (mark_line ++ more)
   pub small : length again < 2 ^ 32
   pub whole : Programmed long
@@ -33,9 +33,19 @@ abbrev pub ResumableLaw : Type 0
 ResumableLaw = (fuel : ℕ) (input written more again long : List ℕ)
     → Resumes fuel input written more again long → IsTaken Resume again
 
--- And `resume` writes the replies that `run` gives to the lines of the second script: what `run` writes
--- for both ends with them.
+-- The text is the replies to the back lines, from the situation after the front ones; the replies to those
+-- and the text after them are what `run` writes.
+pub record Continued
+    (fuel : ℕ) {long : List ℕ} (p : Programmed long) (front back : List (List ℕ)) (out : List ℕ) : Type 0 where
+  pub replies : List ℕ
+  pub middle : Situation
+  pub end : Situation
+  pub before : Leads (opening p.code (first_state p fuel)) front replies middle
+  pub after : Leads middle back out end
+  pub whole : IsAnswer (Run fuel) long (replies ++ out)
+
+-- `resume` writes the replies that `run` gives to the lines of the second script, after those of the first.
 abbrev pub ResumedOutputLaw : Type 0
 ResumedOutputLaw = (fuel : ℕ) (input written more again long out : List ℕ)
-    → Resumes fuel input written more again long → IsAnswer Resume again out
-    → (replies : List ℕ) × IsAnswer (Run fuel) long (replies ++ out)
+    → (h : Resumes fuel input written more again long) → IsAnswer Resume again out
+    → Continued fuel h.whole h.front (script_lines more) out

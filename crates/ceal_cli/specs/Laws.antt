@@ -1,5 +1,5 @@
 -- Laws of outputs, and of the generated workloads.
-use Rattle.std.specs.Prelude.{◌≡◌, ℕ, ◌<◌, ◌≤◌, ◌^◌, Some, List, length}
+use Rattle.std.specs.Prelude.{◌≡◌, ℕ, ◌<◌, ◌≤◌, ◌^◌, Some, None, List, length}
 use Rattle.ceal_base.specs.Finished.{Finished}
 use Rattle.ceal_base.specs.Same.{Same}
 use Rattle.ceal_base.specs.Trace.{Trace, flat, steps_in, blocks_of}
@@ -80,14 +80,24 @@ JudgedLaw = (input : List ℕ) → IsAccepted input → (out : List ℕ) × IsOu
 abbrev pub TakenLaw : Type 0
 TakenLaw = (input : List ℕ) → IsTaken Resume input → (out : List ℕ) × IsAnswer Resume input out
 
+-- And an accepted input that is not taken has the line that says why not.
+abbrev pub UnresumedLaw : Type 0
+UnresumedLaw = (input : List ℕ) → IsAccepted input → ¬ IsTaken Resume input
+    → (out : List ℕ) × IsRefusal Resume input out
+
+-- In each mode that reads, each input that is short enough has an output.
+abbrev pub SomeOutputLaw : Type 0
+SomeOutputLaw = (mode : Mode) (input : List ℕ) → ReadsInput mode → length input < 2 ^ 32
+    → (out : List ℕ) × IsOutput mode input out
+
 -- A workload that is short enough to be an input has its text.
 abbrev pub GeneratedLaw : Type 0
 GeneratedLaw = (kind : Workload) (seed size : ℕ) → length (workload_text kind seed size) < 2 ^ 32
     → (out : List ℕ) × IsGenerated kind seed size out
 
 -- The bytes are the dump of a record. The run from scratch of its call on its inputs, by the meaning
--- of the source, ends within as many steps as its items have. The recorded memory is the memory of that
--- run, up to the numbers of core blocks, and has as many of them.
+-- of the source, ends after as many steps as its items have, and with less fuel it does not end. The recorded
+-- memory is the memory of that run, up to the numbers of core blocks, and has as many of them.
 pub record Verified (program : Typed) (bytes : List ℕ) : Type 0 where
   pub kept : Record
   pub dump : IsDump bytes kept
@@ -96,6 +106,9 @@ pub record Verified (program : Typed) (bytes : List ℕ) : Type 0 where
   pub run : Finished
   pub ends :
       fresh program kept.function kept.args kept.inputs (steps_in kept.forest) ≡ Some run
+  pub steps : run.steps ≡ steps_in kept.forest
+  pub short : (fuel : ℕ) → fuel < steps_in kept.forest
+      → fresh program kept.function kept.args kept.inputs fuel ≡ None
   pub same :
       Same (core_numbers (blocks_of trace)) kept.memory.inputs
       (block_of (core_numbers (blocks_of trace)) kept.memory.made) run.memory

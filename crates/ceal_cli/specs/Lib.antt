@@ -1,17 +1,21 @@
 -- what the crate promises
 pub mod Answers
 pub mod Continuing
+pub mod DumpLaws
 pub mod Dumps
 pub mod Fuel
 pub mod Growth
 pub mod Laws
 pub mod Lines
+pub mod ManyLaws
 pub mod ManySessions
 pub mod Modes
 pub mod Numerals
 pub mod Output
+pub mod ReadBack
 pub mod Resumed
 pub mod Saves
+pub mod StrangerOutput
 pub mod Verdicts
 pub mod Workloads
 -- what its own functions say of each other

@@ -1,14 +1,14 @@
 -- What a session has answered line by line, and what a sink has of it.
 use Rattle.std.specs.Prelude.{◌≡◌, ◌⊎◌, List, [], ◌∷◌, ◌++◌, ℕ, Option}
 use Rattle.ceal_base.specs.declared.recorded.Record.{Record}
-use Rattle.ceal_dump.specs.DumpText.{dump_text}
+use Rattle.ceal_dump.specs.DumpText.{IsDump}
 use Rattle.ceal_session.specs.Asking.{IsReady}
 use Rattle.ceal_session.specs.Following.{Repairs}
 use Rattle.ceal_session.specs.Recording.{IsRecorded}
 use Rattle.ceal_session.specs.Replies.{Answers}
 use Rattle.ceal_session.specs.Saving.{IsSaved}
 use Rattle.ceal_session.specs.State.{Situation, numbers_in}
-use Rattle.ceal_snap.specs.SaveText.{Save}
+use Rattle.ceal_snap.specs.SaveText.{Save, save_text, IsSave}
 use Rattle.ceal_theory.specs.Pasts.{goes}
 use Rattle.ceal_cli.specs.Dumps.{no_run_text}
 use Rattle.ceal_cli.specs.Growth.{Grows}
@@ -94,17 +94,17 @@ Carries m [] n = n ≡ m
 Carries m (line ∷ lines) n =
     (text : List ℕ) × (next : Situation) × Serves m line text next × Carries next lines n
 
--- The text is that of the session's record, or says that there is none.
+-- The text is the dump of the session's record, or says that there is none.
 abbrev pub IsDumpFrom : Situation → List ℕ → Type 0
 IsDumpFrom m out =
     ((¬ IsReady m.state) × (out ≡ no_run_text))
-    ⊎ ((r : Record) × IsRecorded m r × (out ≡ dump_text r))
+    ⊎ ((r : Record) × IsRecorded m r × IsDump out r)
 
--- The text is that of the session's save, after the source part, or says that there is none.
+-- The text is the session's save, after the source part, or says that there is none.
 abbrev pub IsSaveFrom : List ℕ → Situation → List ℕ → Type 0
 IsSaveFrom source m out =
     ((¬ IsReady m.state) × (out ≡ no_run_text))
-    ⊎ ((s : Save) × IsSaved m s × (out ≡ with_source source s))
+    ⊎ ((s : Save) × IsSaved m s × IsSave (save_text s) s × (out ≡ with_source source s))
 
 -- A text of this sort is written of the session after the lines.
 pub record IsBehind

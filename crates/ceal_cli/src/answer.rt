@@ -1,6 +1,6 @@
 // What is written for an input that was read.
 
-ghost use Rattle.std.specs.Prelude.{◌≢◌, ◌<◌, ◌^◌, ◌↔◌, IsTrue, length, IfOk};
+ghost use Rattle.std.specs.Prelude.{◌≢◌, ◌<◌, ◌^◌, ◌↔◌, IsTrue, length, IfOk, OnOk};
 ghost use Rattle.ceal_compile.specs.Compiled.{IsCompiled};
 ghost use Rattle.ceal_compile.specs.Source.{IsFirstFault, IsProgram};
 ghost use Rattle.ceal_lex.specs.Parts.{IsSplit};
@@ -9,6 +9,7 @@ ghost use Rattle.ceal_cli.specs.Limits.{KeepsLimits};
 ghost use Rattle.ceal_cli.specs.Members.{Opens};
 ghost use Rattle.ceal_cli.specs.Modes.{ReadsInput};
 ghost use Rattle.ceal_cli.specs.Output.{IsOutput, IsTaken};
+ghost use Rattle.ceal_cli.specs.ReadBack.{WritesReadable};
 
 use crate::dump::dump;
 use crate::input::Input;
@@ -114,6 +115,8 @@ fn answer<K: Sink>(
     requires other { mode ≢ Mode.Resume }
     ensures writes { Writes result (K.written sink.old) (K.written sink.new)
         (K.faults sink.old) (K.faults sink.new) (IsOutput mode input.entry.bytes.now) }
+    ensures readable { OnOk result (WritesReadable (K.written sink.old) (K.written sink.new)
+        mode input.entry.bytes.now) }
 {
     match mode {
         Mode::Check => accept(input.bytes, &program.typed, sink),
@@ -144,6 +147,8 @@ fn take<K: Sink>(
     ensures taken { IfOk result (λ taken. IsTrue taken ↔ IsTaken mode input.entry.bytes.now) }
     ensures writes { Writes result (K.written sink.old) (K.written sink.new)
         (K.faults sink.old) (K.faults sink.new) (IsOutput mode input.entry.bytes.now) }
+    ensures readable { IfOk result (λ taken. IsTrue taken → WritesReadable
+        (K.written sink.old) (K.written sink.new) mode input.entry.bytes.now) }
 {
     if let Mode::Resume = mode {
         return resume(alloc, input, program, sink);
@@ -191,6 +196,8 @@ fn compiled<K: Sink>(
     ensures taken { IfOk result (λ taken. IsTrue taken ↔ IsTaken mode input.entry.bytes.now) }
     ensures writes { Writes result (K.written sink.old) (K.written sink.new)
         (K.faults sink.old) (K.faults sink.new) (IsOutput mode input.entry.bytes.now) }
+    ensures readable { IfOk result (λ taken. IsTrue taken → WritesReadable
+        (K.written sink.old) (K.written sink.new) mode input.entry.bytes.now) }
 {
     one_answer();
     match compile_part(alloc, input.bytes, &input.part) {
@@ -216,6 +223,8 @@ pub fn write_answer<K: Sink>(
     ensures taken { IfOk result (λ taken. IsTrue taken ↔ IsTaken mode input.now) }
     ensures writes { Writes result (K.written sink.old) (K.written sink.new)
         (K.faults sink.old) (K.faults sink.new) (IsOutput mode input.now) }
+    ensures readable { IfOk result (λ taken. IsTrue taken → WritesReadable
+        (K.written sink.old) (K.written sink.new) mode input.now) }
 {
     let input = Input::new(input);
     if let Mode::Check = mode {

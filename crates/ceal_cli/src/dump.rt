@@ -1,8 +1,7 @@
 // What is written of the run after a script.
 
-ghost use Rattle.std.specs.Prelude.{◌≡◌, true, IfOk};
-ghost use Rattle.ceal_dump.specs.DumpText as dumped;
-ghost use Rattle.ceal_dump.specs.DumpText.{all_core, closed};
+ghost use Rattle.std.specs.Prelude.{◌≡◌, true, IfOk, OnOk};
+ghost use Rattle.ceal_dump.specs.DumpText.{all_core, closed, IsDump};
 ghost use Rattle.ceal_lex.specs.Parts.{IsSplit};
 ghost use Rattle.ceal_session.specs.Keeping.{situation};
 ghost use Rattle.ceal_cli.specs.Growth.{Writes};
@@ -10,6 +9,7 @@ ghost use Rattle.ceal_cli.specs.Serving.{IsDumpBehind, IsDumpFrom};
 ghost use Rattle.ceal_cli.specs.Lines.{script_lines};
 ghost use Rattle.ceal_cli.specs.Members.{Opens};
 ghost use Rattle.ceal_cli.specs.Output.{IsOutput};
+ghost use Rattle.ceal_cli.specs.ReadBack.{WritesDump};
 ghost use Rattle.ceal_cli.specs.declared.words.Mode.TheVariants.{Dump};
 
 use crate::carry::carry_out_all;
@@ -33,7 +33,7 @@ use std::alloc::Global;
 fn text_of(alloc: Global, kept: &Record) -> Result<Text, NoMemory>
     requires core { all_core kept.now.forest ≡ true }
     requires ends { closed 0 kept.now.forest ≡ true }
-    ensures { IfOk result (λ text. text ≡ dumped.dump_text kept.now) }
+    ensures { IfOk result (λ text. IsDump text kept.now) }
 {
     if has_room(kept) {
         dump_text(alloc, kept)
@@ -86,6 +86,8 @@ pub fn dump<K: Sink>(
     requires opens { Opens input.bytes.now program fuel }
     ensures writes { Writes result (K.written sink.old) (K.written sink.new)
         (K.faults sink.old) (K.faults sink.new) (IsOutput (Dump fuel) input.entry.bytes.now) }
+    ensures dumped { OnOk result
+        (WritesDump (K.written sink.old) (K.written sink.new) fuel input.entry.bytes.now) }
 {
     // for the proof: a session keeps to its situation, each line has a reply, and a renamed trace has the same record
     kept_line();

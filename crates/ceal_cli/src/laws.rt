@@ -5,7 +5,10 @@ ghost use Rattle.std.specs.Prelude.{◌≡◌};
 ghost use Rattle.ceal_many.specs.Laws.{IsDetermined, OwnRepliesLaw, RefusedLaw as Others_refused_law, AloneLaw};
 ghost use Rattle.ceal_session.specs.Replies.{Replies};
 ghost use Rattle.ceal_cli.specs.Continuing.{ResumableLaw, ResumedOutputLaw};
-ghost use Rattle.ceal_cli.specs.Laws.{AcceptedLaw, ShortLaw, OneOutputLaw, AnsweredLaw, UntakenLaw, CheckedLaw, ListedLaw, RefusedLaw, RepliedLaw, DumpedLaw, SavedLaw, ToldLaw, JudgedLaw, TakenLaw, GeneratedLaw, VerifiedLaw};
+ghost use Rattle.ceal_cli.specs.DumpLaws.{DumpVerifiedLaw, TailLaw};
+ghost use Rattle.ceal_cli.specs.ManyLaws.{ManyIsRunLaw};
+ghost use Rattle.ceal_cli.specs.StrangerOutput.{StrangerOutputLaw};
+ghost use Rattle.ceal_cli.specs.Laws.{AcceptedLaw, ShortLaw, OneOutputLaw, AnsweredLaw, UntakenLaw, CheckedLaw, ListedLaw, RefusedLaw, RepliedLaw, DumpedLaw, SavedLaw, ToldLaw, JudgedLaw, TakenLaw, UnresumedLaw, SomeOutputLaw, GeneratedLaw, VerifiedLaw};
 
 use crate::members::Member;
 use crate::top::INPUT_LIMIT;
@@ -55,10 +58,10 @@ pub fn one_side()
 }
 
 /// An input has an output in each mode that reads: the line of its fault where it is not accepted, and else what is asked
-/// for, also where the bytes after the mark are the dump of no record; for `resume` it has one where a save that holds
-/// stands there. And a workload has its text. The lexer counts bytes in 32 bits, so a text of `2 ^ 32` bytes or more is no
-/// input.
+/// for, also where the bytes after the mark are the dump of no record, or where no save that holds is there to go on from.
+/// And a workload has its text. The lexer counts bytes in 32 bits, so a text of `2 ^ 32` bytes or more is no input.
 pub fn some_output()
+    ensures output { SomeOutputLaw }
     ensures check { CheckedLaw }
     ensures list { ListedLaw }
     ensures refusal { RefusedLaw }
@@ -68,26 +71,32 @@ pub fn some_output()
     ensures told { ToldLaw }
     ensures verdicts { JudgedLaw }
     ensures resumed { TakenLaw }
+    ensures unresumed { UnresumedLaw }
     ensures generated { GeneratedLaw }
 {
     accepted_law();
     ceal_lex::split::one_split();
+    ceal_lex::split::some_split();
     ceal_compile::compile::one_answer();
     ceal_compile::laws::one_code();
     ceal_session::laws::some_reply();
     ceal_session::laws::one_reply();
     ceal_session::laws::held_law();
+    ceal_snap::laws::one_save_law();
+    ceal_snap::laws::save_or_none();
     ceal_record::laws::some_record_law();
     ceal_many::laws::some_reply::<Member>();
     ceal_dump::laws::dump_or_none();
     ceal_traceck::laws::some_verdict_law();
+    ceal_traceck::laws::one_verdict_law();
     ceal_compile::laws::some_answer();
     ceal_compile::laws::some_code();
     ceal_compile::laws::accepted_is_compiled();
 }
 
-/// Where `verify` writes yes, the call that the dump records ends within its steps, run from scratch by the meaning of the
-/// source, in the dumped memory up to the numbers of core blocks, of which there are as many. Nothing is asked of who made the dump.
+/// Where `verify` writes yes, the call that the dump records ends after exactly its steps, run from scratch by the meaning of
+/// the source, in the dumped memory up to the numbers of core blocks, of which there are as many. Nothing is asked of who made
+/// the dump.
 pub fn verified()
     ensures law { VerifiedLaw }
 {
@@ -96,9 +105,27 @@ pub fn verified()
     ceal_traceck::laws::sound_law();
 }
 
-/// What `save` wrote of an input, a line `%%` and more lines after it are taken by `resume`, and it writes what `run` writes
-/// for the lines of both scripts, from those of the second one on: a session that is saved and resumed answers as one that
-/// goes on.
+/// What `dump` wrote of a run, after the source part and a line `%%`, is answered with `yes` by `verify`.
+pub fn dump_verified()
+    ensures law { DumpVerifiedLaw }
+{
+    ceal_lex::split::one_split();
+    ceal_compile::compile::one_answer();
+    ceal_compile::laws::one_code();
+    ceal_compile::laws::accepted_is_compiled();
+    ceal_session::laws::one_script();
+    ceal_session::laws::some_reply();
+    ceal_session::laws::resumed_law();
+}
+
+/// What `save` writes of an input ends with what `dump` writes of it.
+pub fn save_tail()
+    ensures law { TailLaw }
+{}
+
+/// What `save` wrote of an input, a line `%%` and more lines after it are taken by `resume`, and it writes the replies that
+/// `run` gives to these lines after those of the first script: a session that is saved and resumed answers as one that goes
+/// on. That `save` writes such a text, unless it says that there is no run, is a clause of `ceal_main` (`saved`).
 pub fn resumed_output()
     ensures taken { ResumableLaw }
     ensures replies { ResumedOutputLaw }
@@ -115,15 +142,31 @@ pub fn resumed_output()
     ceal_session::laws::resumed_law();
 }
 
+/// For a save that holds, whoever wrote it, `resume` writes the replies of a session that has the first trace of the call,
+/// line by line, but for the numbers of `work` and `bound` before the next completed run or repair.
+pub fn stranger_output()
+    ensures law { StrangerOutputLaw }
+{
+    ceal_lex::split::one_split();
+    ceal_compile::compile::one_answer();
+    ceal_compile::laws::one_code();
+    ceal_compile::laws::accepted_is_compiled();
+    ceal_session::laws::some_reply();
+    ceal_session::laws::stranger_law();
+}
+
 /// With `many`, the replies to the lines for one of the first 64 names are those that its session gives to them by itself, so
-/// they depend only on these lines. The lines for any other name are refused.
+/// they depend only on these lines, and are what `run` writes for them. The lines for any other name are refused.
 pub fn own_replies()
     ensures own { OwnRepliesLaw Replies }
     ensures refused { Others_refused_law Replies }
     ensures once { IsDetermined Replies }
     ensures alone { AloneLaw Replies }
+    ensures run { ManyIsRunLaw }
 {
+    ceal_lex::split::one_split();
     ceal_many::laws::own_replies::<Member>();
     ceal_many::laws::one_reply::<Member>();
     ceal_session::laws::one_reply();
+    ceal_session::laws::one_script();
 }

@@ -1,15 +1,18 @@
 // What is written to go on from later.
 
-ghost use Rattle.std.specs.Prelude.{◌≡◌, true, IfOk};
+ghost use Rattle.std.specs.Prelude.{◌≡◌, true, IfOk, OnOk};
 ghost use Rattle.ceal_dump.specs.DumpText.{all_core, closed};
 ghost use Rattle.ceal_lex.specs.Parts.{IsSplit};
 ghost use Rattle.ceal_session.specs.Keeping.{situation};
 ghost use Rattle.ceal_session.specs.Naming.{AreSpelled};
+ghost use Rattle.ceal_snap.specs.SaveText as snap;
+ghost use Rattle.ceal_snap.specs.SaveText.{IsSave};
 ghost use Rattle.ceal_cli.specs.Growth.{Writes};
 ghost use Rattle.ceal_cli.specs.Serving.{IsSaveBehind, IsSaveFrom};
 ghost use Rattle.ceal_cli.specs.Lines.{script_lines};
 ghost use Rattle.ceal_cli.specs.Members.{Opens};
 ghost use Rattle.ceal_cli.specs.Output.{IsOutput};
+ghost use Rattle.ceal_cli.specs.ReadBack.{WritesSave};
 ghost use Rattle.ceal_cli.specs.Saves.{with_source};
 ghost use Rattle.ceal_cli.specs.declared.words.Mode.TheVariants.{Save};
 
@@ -35,7 +38,8 @@ fn text_of(alloc: Global, source: &[u8], saved: &Saved) -> Result<Text, NoMemory
     requires names { AreSpelled saved.now.names }
     requires core { all_core saved.now.kept.forest ≡ true }
     requires ends { closed 0 saved.now.kept.forest ≡ true }
-    ensures { IfOk result (λ text. text ≡ with_source source.now saved.now) }
+    ensures text { IfOk result (λ text. text ≡ with_source source.now saved.now) }
+    ensures save { IfOk result (λ text. IsSave (snap.save_text saved.now) saved.now) }
 {
     if saved.items().len() >= 1 << 32 || !has_room(&saved.kept) {
         return Err(NoMemory);
@@ -92,6 +96,8 @@ pub fn save<K: Sink>(
     requires opens { Opens input.bytes.now program fuel }
     ensures writes { Writes result (K.written sink.old) (K.written sink.new)
         (K.faults sink.old) (K.faults sink.new) (IsOutput (Save fuel) input.entry.bytes.now) }
+    ensures saved { OnOk result
+        (WritesSave (K.written sink.old) (K.written sink.new) fuel input.entry.bytes.now) }
 {
     // for the proof: a session keeps to its situation, each line has a reply, and the save is that of the situation
     kept_line();

@@ -7,6 +7,7 @@ ghost use Rattle.ceal_cli.specs.Answers.{IsWhole, IsAfterReading, IsSilent, stat
 ghost use Rattle.ceal_cli.specs.Growth.{WritesAnswer, WritesRefusal, WritesOutput, WritesPrefix, WritesGenerated, WritesGeneratedPrefix};
 ghost use Rattle.ceal_cli.specs.Limits.{KeepsLimits};
 ghost use Rattle.ceal_cli.specs.Output.{IsTaken};
+ghost use Rattle.ceal_cli.specs.ReadBack.{WritesDump, WritesSave, WritesReadable};
 ghost use Rattle.ceal_cli.specs.Modes.{texts, Asks, AreDefined, AskToRead, AskToGenerate, ReadsInput};
 ghost use Rattle.ceal_cli.specs.declared.words.Mode.{Mode as ModeOf};
 ghost use Rattle.ceal_gen.specs.declared.kind.Workload.{Workload as WorkloadOf};
@@ -58,6 +59,8 @@ fn answer_input<S: Source, K: Sink>(
         (λ input. WritesAnswer (K.written sink.old) (K.written sink.new) mode input) }
     ensures told { result ≡ Status.Refused → IfSome (S.left source.old)
         (λ input. WritesRefusal (K.written sink.old) (K.written sink.new) mode input) }
+    ensures readable { result ≡ Status.Done → IfSome (S.left source.old)
+        (λ input. WritesReadable (K.written sink.old) (K.written sink.new) mode input) }
     ensures read { IsAfterReading result → IsAtEnd (S.left source.new) }
     ensures within { IsAfterReading result
         → IfSome (S.left source.old) (λ input. length input ≤ INPUT_LIMIT) }
@@ -148,6 +151,13 @@ pub fn ceal_main<S: Source, K: Sink>(
     ensures told { result ≡ Status.Refused → (mode : ModeOf) → Asks (texts words.now) mode
         → IfSome (S.left source.old)
         (λ input. WritesRefusal (K.written sink.old) (K.written sink.new) mode input) }
+    // What `dump` and `save` write of a finished run is the dump of its record, and a save of the session.
+    ensures dumped { result ≡ Status.Done → (fuel : ℕ) → Asks (texts words.now) (Mode.Dump fuel)
+        → IfSome (S.left source.old)
+        (λ input. WritesDump (K.written sink.old) (K.written sink.new) fuel input) }
+    ensures saved { result ≡ Status.Done → (fuel : ℕ) → Asks (texts words.now) (Mode.Save fuel)
+        → IfSome (S.left source.old)
+        (λ input. WritesSave (K.written sink.old) (K.written sink.new) fuel input) }
     // In every case nothing or a prefix of it was written.
     ensures prefix { (mode : ModeOf) → Asks (texts words.now) mode → IfSome (S.left source.old)
         (λ input. WritesPrefix (K.written sink.old) (K.written sink.new) mode input) }

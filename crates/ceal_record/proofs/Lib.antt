@@ -5,4 +5,5 @@ pub mod Places
 pub mod Words
 pub mod InOrder
 pub mod SomeRecord
+pub mod Certified
 pub mod Samples

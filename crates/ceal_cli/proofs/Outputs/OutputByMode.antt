@@ -1,5 +1,5 @@
 -- What is written for an input.
-use Rattle.std.proofs.Common.{◌≡◌, inl, inr, ℕ, List, [], Option, Result, Ok, Err, refl}
+use Rattle.std.proofs.Common.{◌≡◌, inl, inr, ℕ, List, [], Option, Result, Ok, Err, OnOk, refl, ap, ◌∙◌, subst}
 use Rattle.ceal_base.specs.declared.fault.Fault.{Fault}
 use Rattle.ceal_base.specs.declared.typed.Typed.{Typed}
 use Rattle.ceal_code.specs.Listing.{listing_text}
@@ -14,22 +14,28 @@ use Rattle.ceal_lex.specs.declared.parts.Split.{Split}
 use Rattle.ceal_record.specs.Laws.{RenamedLaw}
 use Rattle.ceal_session.specs.Following.{opened}
 use Rattle.ceal_session.specs.Laws.{BegunLaw, KeptLaw, SomeReplyLaw, SomeScriptLaw}
+use Rattle.ceal_session.specs.Replies.{Leads}
 use Rattle.ceal_session.specs.Saves.{SavedLaw}
+use Rattle.ceal_session.specs.Standing.{IsIn}
+use Rattle.ceal_session.specs.State.{Situation}
+use Rattle.ceal_snap.specs.SaveText.{save_text, IsSave}
 use Rattle.ceal_cli.specs.ManySessions.{AreTold}
 use Rattle.ceal_cli.specs.Fuel.{DEFAULT_FUEL}
 use Rattle.ceal_cli.specs.Growth.{Puts, Writes}
 use Rattle.ceal_cli.specs.Members.{Opens}
-use Rattle.ceal_cli.specs.Serving.{AreServed, BeginServed, AreServedFromRun, BeginServedFromRun, IsDumpBehind, IsSaveBehind}
+use Rattle.ceal_cli.specs.Saves.{save_of, with_source}
+use Rattle.ceal_cli.specs.Serving.{AreServed, BeginServed, AreServedFromRun, BeginServedFromRun, IsDumpBehind, IsDumpFrom, IsSaveBehind, IsSaveFrom}
 use Rattle.ceal_cli.specs.Lines.{script_of, script_lines}
 use Rattle.ceal_cli.specs.Modes.{ReadsInput}
 use Rattle.ceal_cli.specs.Output.{IsOutput, Programmed, accepted_text, Begins, IsOutputFromRun}
+use Rattle.ceal_cli.specs.ReadBack.{IsReadableDump, IsReadableSave, WritesDump, WritesSave}
 use Rattle.ceal_cli.specs.Verdicts.{IsVerdictLine}
 use Rattle.ceal_cli.specs.declared.words.Mode.{Mode}
 use Rattle.ceal_cli.specs.declared.words.Mode.TheVariants.{Check, List as Listing, Run, Dump, Verify, Many, Save}
-use Rattle.ceal_cli.proofs.Sessions.GrowingReplies.{puts_as}
+use Rattle.ceal_cli.proofs.Sessions.GrowingReplies.{all_as, puts_as}
 use Rattle.ceal_cli.proofs.Sessions.SessionLeads.{served, served-from-run, carried}
 use Rattle.ceal_cli.proofs.Sessions.ReplyPrefixes.{begun, begun-from-run}
-use Rattle.ceal_cli.proofs.Sessions.SessionInSituation.{dump-in, save-in}
+use Rattle.ceal_cli.proofs.Sessions.SessionInSituation.{dump-in, record-in, same-save, save-in}
 
 module _ (input : List ℕ) where
   -- the word `accepted`
@@ -88,6 +94,26 @@ module _ (input : List ℕ) where
               record { replies = there.0; end = there.1; leads = there.2; dump = dump-in renamed behind.end there.1 there.3 text behind.is },
             )
 
+        -- which is read as the record of the run
+        readable-dump : RenamedLaw → (text : List ℕ) → IsDumpBehind (opened p fuel) lines text → IsReadableDump fuel input text
+        unfolding programmed
+        readable-dump renamed text behind =
+            let there = carried kept (opened p fuel) behind.end (opened p fuel) lines (begins p fuel opens.compiled) behind.carries in
+            by-form there.0 there.1 there.2 there.3 behind.is
+          where
+            by-form : (replies : List ℕ) (end : Situation) → Leads (opened p fuel) lines replies end → IsIn behind.end end → IsDumpFrom behind.end text → IsReadableDump fuel input text
+            by-form replies end leads in-end (inl none) = inl none.1
+            by-form replies end leads in-end (inr (r, recorded, dump)) =
+                let run = record-in renamed behind.end end in-end r recorded in
+                inr (
+                  programmed opens.reads opens.compiled,
+                  record { end = end; kept = r; run = record { replies = replies; leads = leads; told = run.0; recorded = run.1 }; dump = dump },
+                )
+
+        pub dumped-readable : RenamedLaw → (r : Result (Unit {0}) Stopped) (a b : Option (List ℕ)) (m n : ℕ) → Writes r a b m n (IsDumpBehind (opened p fuel) lines)
+            → OnOk r (WritesDump a b fuel input)
+        dumped-readable renamed r a b m n h = all_as r a b (IsDumpBehind (opened p fuel) lines) (IsReadableDump fuel input) (readable-dump renamed) h.all
+
         -- the save after the script
         pub saved : RenamedLaw → SavedLaw → (text : List ℕ) → IsSaveBehind (source_of input part) (opened p fuel) lines text → IsOutput (Save fuel) input text
         unfolding programmed
@@ -97,6 +123,35 @@ module _ (input : List ℕ) where
               programmed opens.reads opens.compiled,
               record { replies = there.0; end = there.1; leads = there.2; save = save-in renamed saves (source_of input part) behind.end there.1 there.3 text behind.is },
             )
+
+        -- which is read as the save of the session
+        readable-save : RenamedLaw → SavedLaw → (text : List ℕ) → IsSaveBehind (source_of input part) (opened p fuel) lines text → IsReadableSave fuel input text
+        unfolding programmed
+        readable-save renamed saves text behind =
+            let there = carried kept (opened p fuel) behind.end (opened p fuel) lines (begins p fuel opens.compiled) behind.carries in
+            by-form there.0 there.1 there.2 there.3 behind.is
+          where
+            by-form : (replies : List ℕ) (end : Situation) → Leads (opened p fuel) lines replies end → IsIn behind.end end → IsSaveFrom (source_of input part) behind.end text
+                → IsReadableSave fuel input text
+            by-form replies end leads in-end (inl none) = inl none.1
+            by-form replies end leads in-end (inr (s, saved, save, whole)) =
+                let run = record-in renamed behind.end end in-end s.kept saved.kept in
+                let same : s ≡ save_of end s.kept = same-save end s (saves behind.end end s in-end saved) in
+                inr (
+                  programmed opens.reads opens.compiled,
+                  record {
+                    end = end;
+                    kept = s.kept;
+                    run = record { replies = replies; leads = leads; told = run.0; recorded = run.1 };
+                    save = subst (λ x. IsSave (save_text x) x) same save;
+                    whole = whole ∙ ap (with_source (source_of input part)) same;
+                  },
+                )
+
+        pub saved-readable : RenamedLaw → SavedLaw → (r : Result (Unit {0}) Stopped) (a b : Option (List ℕ)) (m n : ℕ)
+            → Writes r a b m n (IsSaveBehind (source_of input part) (opened p fuel) lines)
+            → OnOk r (WritesSave a b fuel input)
+        saved-readable renamed saves r a b m n h = all_as r a b (IsSaveBehind (source_of input part) (opened p fuel) lines) (IsReadableSave fuel input) (readable-save renamed saves) h.all
 
     -- the replies from that of the first run on
     module _ (reads : IsProgram input p.typed) (compiled : IsCompiled p) (begins : BegunLaw) (kept : KeptLaw) where

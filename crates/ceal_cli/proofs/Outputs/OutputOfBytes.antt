@@ -5,6 +5,7 @@ use Rattle.std.proofs.KnownBytes.{Consumes-nil}
 use Rattle.ceal_cli.specs.Growth.{WritesAnswer, WritesRefusal, WritesOutput, WritesPrefix, WritesGenerated, WritesGeneratedPrefix}
 use Rattle.ceal_cli.specs.Laws.{AnsweredLaw, UntakenLaw}
 use Rattle.ceal_cli.specs.Output.{Begins, IsOutput, IsTaken}
+use Rattle.ceal_cli.specs.ReadBack.{WritesReadable}
 use Rattle.ceal_cli.specs.declared.top.Status.{Status}
 use Rattle.ceal_cli.specs.declared.top.TheConstants.{INPUT_LIMIT}
 use Rattle.ceal_cli.specs.Modes.{ReadsInput}
@@ -43,6 +44,9 @@ module _ (old new : Option (List ℕ)) (bytes text : List ℕ) (all : Consumes o
   pub refusal_for : (a b : Option (List ℕ)) (mode : Mode) → UntakenLaw → ReadsInput mode → (IsTaken mode text → ⊥) → WritesOutput a b mode text
       → IfSome old (λ input. WritesRefusal a b mode input)
   refusal_for a b mode law reads none h = for_input (λ input. WritesRefusal a b mode input) (weaker (λ out is. law mode text out reads none is) h)
+
+  pub readable_for : (a b : Option (List ℕ)) (mode : Mode) → WritesReadable a b mode text → IfSome old (λ input. WritesReadable a b mode input)
+  readable_for a b mode h = for_input (λ input. WritesReadable a b mode input) h
 
   pub prefix_for : (a b : Option (List ℕ)) (mode : Mode) → WritesPrefix a b mode text → IfSome old (λ input. WritesPrefix a b mode input)
   prefix_for a b mode h = for_input (λ input. WritesPrefix a b mode input) h

@@ -40,6 +40,8 @@ of-source sound p compiled bytes r is means =
       items = s.items;
       run = record { memory = s.memory; steps = steps_in r.forest; blocks = length r.memory.made };
       ends = sym (compiled.means r.function r.args r.inputs (steps_in r.forest) core) ∙ s.ends (steps_in r.forest) (omega arith);
+      steps = refl;
+      short = λ fuel less. sym (compiled.means r.function r.args r.inputs fuel core) ∙ s.short fuel less;
       same = s.same;
       count = refl;
     }

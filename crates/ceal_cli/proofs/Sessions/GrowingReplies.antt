@@ -1,8 +1,8 @@
 -- Writing replies one after another.
-use Rattle.std.proofs.Common.{◌≤◌, inl, inr, ℕ, List, [], ◌∷◌, ◌++◌, Option, Result, Ok, Err, OnOk, take, drop, refl, append_assoc, append-nil, take-append-drop}
+use Rattle.std.proofs.Common.{◌≤◌, inl, inr, ℕ, List, [], ◌∷◌, ◌++◌, Bool, Option, Result, Ok, Err, IfOk, OnOk, take, drop, refl, append_assoc, append-nil, take-append-drop}
 use Rattle.std.specs.Io.KnownBytes.{Appends}
 use Rattle.std.proofs.KnownBytes.{Appends-trans, Appends-nil}
-use Rattle.std.specs.Prelude.{IsErrOf}
+use Rattle.std.specs.Prelude.{IsErrOf, IsTrue}
 use Rattle.ceal_io.specs.Streams.{GrowsByPrefix, Rose}
 use Rattle.ceal_io.specs.declared.streams.Stopped.{Stopped}
 use Rattle.ceal_io.specs.declared.streams.Stopped.TheVariants.{Failed}
@@ -33,19 +33,28 @@ pub puts_text : (r : Result (Unit {0}) Stopped) (a b : Option (List ℕ)) (m n :
 puts_text r a b m n P Q text h begins all prefix fault later =
     record { all = whole_text r a b P text h all; part = weaker begins (of_prefix a b text prefix); fault = fault; later = later }
 
+-- where nothing is said of what was put
+pub unsaid : {A E : Type 0} (r : Result A E) → OnOk r (Unit {0})
+unsaid (Ok u) = tt
+unsaid (Err e) = tt
+
+pub untold : {E : Type 0} (r : Result Bool E) → IfOk r (λ taken. IsTrue taken → Unit {0})
+untold (Ok taken) = λ _. tt
+untold (Err e) = tt
+
 pub writes_text : (r : Result (Unit {0}) Stopped) (a b : Option (List ℕ)) (m n : ℕ) (P : List ℕ → Type 0) (text : List ℕ) → P text
     → OnOk r (Appends a b text) → GrowsByPrefix a b text → (IsErrOf r Failed → Rose m n) → m ≤ n → Writes r a b m n P
 writes_text r a b m n P text h all prefix fault later =
     puts_text r a b m n P (Begins P) text h (λ out begins. inr (text, h, begins)) all prefix fault later
 
 -- what was put is of other sorts too
+pub all_as : {A : Type 0} (r : Result A Stopped) (a b : Option (List ℕ)) (P Q : List ℕ → Type 0) → ((out : List ℕ) → P out → Q out) → OnOk r (Grows a b P) → OnOk r (Grows a b Q)
+all_as (Ok u) a b P Q f h = weaker f h
+all_as (Err e) a b P Q f h = tt
+
 module _ {A : Type 0} (r : Result A Stopped) (a b : Option (List ℕ)) (m n : ℕ) (P Q R S : List ℕ → Type 0) where
   pub puts_as : ((out : List ℕ) → P out → R out) → ((out : List ℕ) → Q out → S out) → Puts r a b m n P Q → Puts r a b m n R S
-  puts_as f g w = record { all = ok_weaker r w.all; part = weaker g w.part; fault = w.fault; later = w.later }
-    where
-      ok_weaker : (r : Result A Stopped) → OnOk r (Grows a b P) → OnOk r (Grows a b R)
-      ok_weaker (Ok u) h = weaker f h
-      ok_weaker (Err e) h = tt
+  puts_as f g w = record { all = all_as r a b P R f w.all; part = weaker g w.part; fault = w.fault; later = w.later }
 
 pub writes_as : {A : Type 0} (r : Result A Stopped) (a b : Option (List ℕ)) (m n : ℕ) (P Q : List ℕ → Type 0)
     → ((out : List ℕ) → P out → Q out) → Writes r a b m n P → Writes r a b m n Q

@@ -20,7 +20,7 @@ use Rattle.ceal_session.specs.Runs.{begun}
 use Rattle.ceal_session.specs.Saves.{SavedLaw}
 use Rattle.ceal_session.specs.Saving.{IsSaved}
 use Rattle.ceal_session.specs.Standing.{IsIn, IsSamePast, Stands}
-use Rattle.ceal_session.specs.State.{State, Situation, completed, numbers_in}
+use Rattle.ceal_session.specs.State.{State, Situation, completed, last, numbers_in}
 use Rattle.ceal_session.specs.Steps.{asked, call_of, has_no_run}
 use Rattle.ceal_session.specs.declared.refusal.Refusal.TheVariants.{C7, C8}
 use Rattle.ceal_session.specs.declared.reply.Query.TheVariants.{Steps}
@@ -55,16 +55,8 @@ left-in law m n s line h (inr d) =
       inr (record { command = d.command; reads = d.reads; call = d.call; runs = runs; left = refl }),
     )
 
--- What is written of a session's record is that of the situation that it is in.
-module _ (renamed : RenamedLaw) (m s : Situation) (h : IsIn m s) (write : Record → List ℕ) (out : List ℕ) where
-  none-ready : (IsReady m.state → ⊥) → out ≡ no_run_text → IsWrittenOf s write out
-  none-ready absent e = go (has_no_run s.state) refl s.state.pending refl
-    where
-      go : (a : Bool) → has_no_run s.state ≡ a → (b : Bool) → s.state.pending ≡ b → IsWrittenBy (if a then Refused C7 else if b then Refused C8 else Told Steps) s write out
-      go true i b j = e
-      go false i true j = e
-      go false i false j = absurd (absent (subst IsReady (sym h.state) (record { run = i; edited = j })))
-
+-- The record of a session's run is that of the situation that it is in.
+module _ (renamed : RenamedLaw) (m s : Situation) (h : IsIn m s) where
   module _ (r : Record) (call : Call) (run : Repaired) (is : IsRecordOf s.code s.state.inputs call run.items r) where
     by-trace : (o q : Option Repaired) → RenamedRepair o q → q ≡ Some run → IsRecordIn s (Some call) o r
     by-trace _ _ RenamedRepair.none there = absurd (cc there)
@@ -85,24 +77,37 @@ module _ (renamed : RenamedLaw) (m s : Situation) (h : IsIn m s) (write : Record
       let known : call ≡ c = cc called in
       by-past r c run (subst (λ (x : Call). IsRecordOf s.code s.state.inputs x run.items r) known is) c.function c.args p q same there
 
-  recorded-in : (r : Record) → IsRecorded m r → out ≡ write r → IsWrittenOf s write out
-  recorded-in r k e =
+  pub record-in : (r : Record) → IsRecorded m r → (asked s.state Steps ≡ Told Steps) × IsRecordIn s s.state.call (last s) r
+  record-in r k =
       let ready : IsReady s.state = subst IsReady h.state k.ready in
-      let told : asked s.state Steps ≡ Told Steps = rw (ready.run, ready.edited) refl in
       let is : IsRecordOf s.code s.state.inputs k.call k.run.items r =
       subst (λ x. IsRecordOf x s.state.inputs k.call k.run.items r) h.code (subst (λ (x : State). IsRecordOf m.code x.inputs k.call k.run.items r) h.state k.is) in
-      subst (λ reply. IsWrittenBy reply s write out) (sym told)
-      (r, by-call r k.call k.run is s.state.call (ap (λ (x : State). x.call) (sym h.state) ∙ k.called) s.past m.past h.past k.traced, e)
+      (rw (ready.run, ready.edited) refl, by-call r k.call k.run is s.state.call (ap (λ (x : State). x.call) (sym h.state) ∙ k.called) s.past m.past h.past k.traced)
+
+  -- and so is what is written of it
+  module _ (write : Record → List ℕ) (out : List ℕ) where
+    none-ready : (IsReady m.state → ⊥) → out ≡ no_run_text → IsWrittenOf s write out
+    none-ready absent e = go (has_no_run s.state) refl s.state.pending refl
+      where
+        go : (a : Bool) → has_no_run s.state ≡ a → (b : Bool) → s.state.pending ≡ b → IsWrittenBy (if a then Refused C7 else if b then Refused C8 else Told Steps) s write out
+        go true i b j = e
+        go false i true j = e
+        go false i false j = absurd (absent (subst IsReady (sym h.state) (record { run = i; edited = j })))
+
+    recorded-in : (r : Record) → IsRecorded m r → out ≡ write r → IsWrittenOf s write out
+    recorded-in r k e =
+        let there = record-in r k in
+        subst (λ reply. IsWrittenBy reply s write out) (sym there.0) (r, there.1, e)
 
 pub dump-in : RenamedLaw → (m s : Situation) → IsIn m s → (out : List ℕ) → IsDumpFrom m out → IsDumpOf s out
 dump-in renamed m s h out (inl (absent, e)) = none-ready renamed m s h dump_text out absent e
-dump-in renamed m s h out (inr (r, k, e)) = recorded-in renamed m s h dump_text out r k e
+dump-in renamed m s h out (inr (r, k, is)) = recorded-in renamed m s h dump_text out r k is.text
 
 -- the save of a situation with these parts
 save-with : ℕ → ℕ → ℕ → List (List ℕ) → Record → Save
 save-with fuel work bound names kept = record { fuel = fuel; work = work; bound = bound; names = names; kept = kept }
 
-same-save : (m : Situation) (s : Save) → IsSaved m s → s ≡ save_of m s.kept
+pub same-save : (m : Situation) (s : Save) → IsSaved m s → s ≡ save_of m s.kept
 unfolding save-with
 same-save m s h =
     ap (λ n. save-with n s.work s.bound s.names s.kept) h.fuel
@@ -112,7 +117,7 @@ same-save m s h =
 
 pub save-in : RenamedLaw → SavedLaw → (source : List ℕ) (m s : Situation) → IsIn m s → (out : List ℕ) → IsSaveFrom source m out → IsSaveOf s source out
 save-in renamed saved source m s h out (inl (absent, e)) = none-ready renamed m s h (λ kept. with_source source (save_of s kept)) out absent e
-save-in renamed saved source m s h out (inr (v, k, e)) =
+save-in renamed saved source m s h out (inr (v, k, is, e)) =
     recorded-in renamed m s h (λ kept. with_source source (save_of s kept)) out v.kept k.kept (e ∙ ap (with_source source) (same-save s v (saved m s v h k)))
 
 -- what a session answers, and what is left of it, for each situation that it is in

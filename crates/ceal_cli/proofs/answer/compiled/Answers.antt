@@ -8,3 +8,6 @@ returns-in_ok-refuse-in-Err-Fault-clause-taken g c = (
   λ a. absurd (not_accepted c.args.input.bytes.now c.in-Err-Fault.fault (c.one_answer.ensures.law c.args.input.bytes.now)
       (rw (c.in-Err-Fault.field-0-is) at c.in-Err-Fault.ensures.fault) (taken-accepted c.args.mode c.args.input.bytes.now a)),
 )
+
+pub returns-in_ok-refuse-in-Err-Fault-clause-readable : goal.returns-in_ok-refuse-in-Err-Fault-clause-readable
+returns-in_ok-refuse-in-Err-Fault-clause-readable g c = λ t. absurd (cc t)

@@ -1,3 +1,4 @@
+use Rattle.ceal_cli.proofs.Sessions.GrowingReplies.{untold}
 use Rattle.ceal_cli.proofs.answer.write_answer.Goals as goal
 
 pub returns-in-Check-clause-taken : goal.returns-in-Check-clause-taken
@@ -6,8 +7,12 @@ returns-in-Check-clause-taken g c = rw (c.in-Check.is, ← c.new-input.ensures.b
 pub returns-in-Check-clause-writes : goal.returns-in-Check-clause-writes
 returns-in-Check-clause-writes g c = rw (c.in-Check.is, ← c.new-input.ensures.bytes) c.check.ensures.writes
 
+pub returns-in-Check-clause-readable : goal.returns-in-Check-clause-readable
+returns-in-Check-clause-readable g c = rw c.in-Check.is (untold c.check.result)
+
 pub returns : goal.returns
 returns g c = record {
   taken = rw (← c.new-input.ensures.bytes) c.compiled.ensures.taken;
   writes = rw (← c.new-input.ensures.bytes) c.compiled.ensures.writes;
+  readable = rw (← c.new-input.ensures.bytes) c.compiled.ensures.readable;
 }

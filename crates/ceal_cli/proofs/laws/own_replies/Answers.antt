@@ -1,4 +1,5 @@
 use Rattle.ceal_cli.proofs.Outputs.OneRecord.{determined}
+use Rattle.ceal_cli.proofs.Sessions.ManyIsRun.{many-is-run}
 use Rattle.ceal_cli.proofs.laws.own_replies.Goals as goal
 
 pub returns : goal.returns
@@ -7,4 +8,5 @@ returns c = record {
   refused = c.own_replies.ensures.refused;
   once = determined c.one_reply-2.ensures.reply;
   alone = c.one_reply.ensures.alone;
+  run = many-is-run c.one_split.ensures c.one_script.ensures.joined c.own_replies.ensures.own;
 }

@@ -1,16 +1,47 @@
 use Rattle.ceal_cli.proofs.Outputs.OutputExists.{checked, listed, refused, replied, dumped, saved, told, judged, taken, generated}
+use Rattle.ceal_cli.proofs.Outputs.SomeResumed.{Judged, Parts, resumed, some-output, unresumed}
 use Rattle.ceal_cli.proofs.laws.some_output.Goals as goal
 
 pub returns : goal.returns
-returns c = record {
-  check = checked c.some_answer.ensures.law;
-  list = listed c.some_answer.ensures.law c.some_code.ensures.law;
-  refusal = refused c.some_answer.ensures.law;
-  replies = replied c.accepted_is_compiled.ensures.some c.some_reply.ensures.begun c.some_reply.ensures.script;
-  dumps = dumped c.accepted_is_compiled.ensures.some c.some_reply.ensures.begun c.some_reply.ensures.script c.some_record_law.ensures.law;
-  saves = saved c.accepted_is_compiled.ensures.some c.some_reply.ensures.begun c.some_reply.ensures.script c.some_record_law.ensures.law;
-  told = told c.accepted_is_compiled.ensures.some c.some_reply.ensures.begun c.some_reply.ensures.reply c.one_reply.ensures.reply c.some_reply-2.ensures.kept c.some_reply-2.ensures.script;
-  verdicts = judged c.accepted_is_compiled.ensures.some c.dump_or_none.ensures.law c.some_verdict_law.ensures.law;
-  resumed = taken c.one_split.ensures c.one_answer.ensures.law c.one_code.ensures.law c.accepted_is_compiled.ensures.some c.some_reply.ensures.script c.held_law.ensures.law;
-  generated = generated c.accepted_law.ensures.law c.accepted_is_compiled.ensures.some c.some_reply.ensures.begun c.some_reply.ensures.reply c.some_reply.ensures.script;
-}
+returns c =
+    let compiled = c.accepted_is_compiled.ensures.some in
+    let begun = c.some_reply.ensures.begun in
+    let script = c.some_reply.ensures.script in
+    let going = taken c.one_split.ensures c.one_answer.ensures.law c.one_code.ensures.law compiled script c.held_law.ensures.law in
+    let judging : Judged = record {
+      split = c.one_split.ensures;
+      some = c.some_split.ensures;
+      one = c.one_save_law.ensures.law;
+      saves = c.save_or_none.ensures.law;
+      compiled = compiled;
+      verdicts = c.some_verdict_law.ensures.law;
+      verdict = c.one_verdict_law.ensures.law;
+      answer = c.one_answer.ensures.law;
+      code = c.one_code.ensures.law;
+      taken = going;
+    } in
+    let parts : Parts = record {
+      check = checked c.some_answer.ensures.law;
+      list = listed c.some_answer.ensures.law c.some_code.ensures.law;
+      refusal = refused c.some_answer.ensures.law;
+      replies = replied compiled begun script;
+      dumps = dumped compiled begun script c.some_record_law.ensures.law;
+      saves = saved compiled begun script c.some_record_law.ensures.law;
+      told = told compiled begun c.some_reply.ensures.reply c.one_reply.ensures.reply c.some_reply-2.ensures.kept c.some_reply-2.ensures.script;
+      verdicts = judged compiled c.dump_or_none.ensures.law c.some_verdict_law.ensures.law;
+      resumed = resumed judging;
+    } in
+    record {
+      output = some-output c.some_answer.ensures.law c.one_answer.ensures.law parts;
+      check = parts.check;
+      list = parts.list;
+      refusal = parts.refusal;
+      replies = parts.replies;
+      dumps = parts.dumps;
+      saves = parts.saves;
+      told = parts.told;
+      verdicts = parts.verdicts;
+      resumed = going;
+      unresumed = unresumed c.one_split.ensures c.some_split.ensures c.save_or_none.ensures.law compiled;
+      generated = generated c.accepted_law.ensures.law compiled begun c.some_reply.ensures.reply script;
+    }

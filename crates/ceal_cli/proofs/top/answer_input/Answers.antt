@@ -1,5 +1,5 @@
 use Rattle.std.proofs.Common.{arith}
-use Rattle.ceal_cli.proofs.Outputs.OutputOfBytes.{output_for, answer_for, refusal_for, prefix_for, short_for, taken_for, refused_for, done_for, not_refused_for, not_done_for, not_taken_for, none_for}
+use Rattle.ceal_cli.proofs.Outputs.OutputOfBytes.{output_for, answer_for, refusal_for, prefix_for, readable_for, short_for, taken_for, refused_for, done_for, not_refused_for, not_done_for, not_taken_for, none_for}
 use Rattle.ceal_cli.proofs.top.answer_input.Goals as goal
 
 pub returns-in-Ok-true-clause-output : goal.returns-in-Ok-true-clause-output
@@ -74,3 +74,8 @@ returns-in-Ok-false-clause-within g c =
 pub returns-clause-within : goal.returns-clause-within
 returns-clause-within g c =
     λ _. short_for _ _ _ _ c.in-Ok.ensures.all c.in-Ok.ensures.end c.deref.ensures.value (omega (arith, c.deref.ensures.len, c.in-Ok.ensures.within))
+
+pub returns-in-Ok-true-clause-readable : goal.returns-in-Ok-true-clause-readable
+returns-in-Ok-true-clause-readable g c =
+    λ _. readable_for _ _ _ _ c.in-Ok.ensures.all c.in-Ok.ensures.end c.deref.ensures.value _ _ c.args.mode
+    (c.in-Ok-true.ensures.readable c.in-Ok-true.field-0-test)

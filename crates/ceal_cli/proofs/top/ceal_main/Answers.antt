@@ -1,7 +1,8 @@
-use Rattle.std.proofs.Common.{sym, subst}
+use Rattle.std.proofs.Common.{IfSome, sym, subst}
 use Rattle.ceal_cli.specs.Answers.{IsWhole}
 use Rattle.ceal_cli.specs.Growth.{WritesGenerated, WritesGeneratedPrefix}
-use Rattle.ceal_cli.specs.declared.words.Mode.TheVariants.{Gen}
+use Rattle.ceal_cli.specs.ReadBack.{WritesReadable}
+use Rattle.ceal_cli.specs.declared.words.Mode.TheVariants.{Gen, Dump, Save}
 use Rattle.ceal_cli.proofs.Options.OneMode.{one_mode, one_workload, not_both, keeps_limits, small_size}
 use Rattle.ceal_cli.proofs.Outputs.OutputOfBytes.{any_answer, any_output, any_prefix, loses_none, no_refusal}
 use Rattle.ceal_cli.proofs.top.ceal_main.Goals as goal
@@ -70,6 +71,16 @@ returns-in-Ok-Some-Gen-clause-answered g c =
 pub returns-in-Ok-Some-Gen-clause-told : goal.returns-in-Ok-Some-Gen-clause-told
 returns-in-Ok-Some-Gen-clause-told g c = λ is mode asks. absurd (no_refusal c.answer_workload.result c.answer_workload.ensures.answer is)
 
+pub returns-in-Ok-Some-Gen-clause-dumped : goal.returns-in-Ok-Some-Gen-clause-dumped
+returns-in-Ok-Some-Gen-clause-dumped g c =
+    let asked = rw (c.in-Ok-Some-Gen.field-0-is, c.in-Ok-Some-Gen.field-0-0-is) at c.in-Ok-Some-Gen.ensures in
+    λ _ fuel asks. absurd (not_both _ (c.in-Ok-Some-Gen.kind, c.in-Ok-Some-Gen.seed, c.in-Ok-Some-Gen.size, asked) (Dump fuel, asks, tt))
+
+pub returns-in-Ok-Some-Gen-clause-saved : goal.returns-in-Ok-Some-Gen-clause-saved
+returns-in-Ok-Some-Gen-clause-saved g c =
+    let asked = rw (c.in-Ok-Some-Gen.field-0-is, c.in-Ok-Some-Gen.field-0-0-is) at c.in-Ok-Some-Gen.ensures in
+    λ _ fuel asks. absurd (not_both _ (c.in-Ok-Some-Gen.kind, c.in-Ok-Some-Gen.seed, c.in-Ok-Some-Gen.size, asked) (Save fuel, asks, tt))
+
 pub returns-in-Ok-Some-Gen-clause-lost : goal.returns-in-Ok-Some-Gen-clause-lost
 returns-in-Ok-Some-Gen-clause-lost g c = loses_none _ _
 
@@ -87,6 +98,12 @@ returns-in-Ok-Some g c =
       headline = λ whole mode asks. rw (one_mode _ mode c.in-Ok-Some.mode asks asked) (c.answer_input.ensures.output whole);
       answered = λ is mode asks. rw (one_mode _ mode c.in-Ok-Some.mode asks asked) (c.answer_input.ensures.answered is);
       told = λ is mode asks. rw (one_mode _ mode c.in-Ok-Some.mode asks asked) (c.answer_input.ensures.told is);
+      dumped = λ is fuel asks.
+          subst (λ mode. IfSome (g.S.Source.left c.args.source.now) (λ input. WritesReadable (g.K.Sink.written c.args.sink.now) (g.K.Sink.written c.answer_input.new.sink) mode input))
+          (one_mode _ c.in-Ok-Some.mode (Dump fuel) asked asks) (c.answer_input.ensures.readable is);
+      saved = λ is fuel asks.
+          subst (λ mode. IfSome (g.S.Source.left c.args.source.now) (λ input. WritesReadable (g.K.Sink.written c.args.sink.now) (g.K.Sink.written c.answer_input.new.sink) mode input))
+          (one_mode _ c.in-Ok-Some.mode (Save fuel) asked asks) (c.answer_input.ensures.readable is);
       read = λ whole _. c.answer_input.ensures.read whole;
       within = λ whole _. c.answer_input.ensures.within whole;
       prefix = λ mode asks. rw (one_mode _ mode c.in-Ok-Some.mode asks asked) c.answer_input.ensures.prefix;
