@@ -1,6 +1,7 @@
 -- The numbers of core blocks, renamed one to one.
 -- what crates above cite
 pub mod GivenNumbers
+pub mod RenamedSlice
 -- what only this crate cites
 pub mod NamedBeginning
 pub mod FlippedPairs
@@ -8,5 +9,4 @@ pub mod RenamedTrace
 pub mod RenamedWalk
 pub mod RepairSideBySide
 pub mod RenamedRepair
-pub mod RenamedSlice
 pub mod RenamedSoundness
