@@ -6,3 +6,4 @@ pub mod StatementSteps
 pub mod Samples
 pub mod Resolution
 pub mod Completeness
+pub mod FirstFault

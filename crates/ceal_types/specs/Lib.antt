@@ -8,6 +8,8 @@ pub mod Statements
 pub mod Checked
 pub mod Limits
 pub mod Resolves
+pub mod Known
+pub mod Faults
 pub mod Laws
 pub mod Numbers
 -- what its own functions say of each other

@@ -59,14 +59,14 @@ is-new table name none = sym (has-any table name) ∙ none
 
 -- ---- what a member adds to a struct
 -- these fields come after others
-abbrev Gives : Fields → List FieldInfo → Fields → Type 0
+abbrev pub Gives : Fields → List FieldInfo → Fields → Type 0
 Gives fields more all = map field_info all ≡ map field_info fields ++ more
 
 one-given : (name : Ident) (kind : FieldKind) (fields : Fields)
     → Gives fields (record { name = name.text; kind = kind; row = 0 } ∷ []) (fields ++ (name.text, record { kind = kind; row = 0 }) ∷ [])
 one-given name kind fields = map-append field_info fields ((name.text, record { kind = kind; row = 0 }) ∷ [])
 
-elements-given : (name : Ident) (kind : FieldKind) (row i : ℕ) (fields : Fields) → IfOk (with_elements name kind row i fields) (Gives fields (elements name.text kind row i))
+pub elements-given : (name : Ident) (kind : FieldKind) (row i : ℕ) (fields : Fields) → IfOk (with_elements name kind row i fields) (Gives fields (elements name.text kind row i))
 unfolding with_elements elements
 elements-given name kind row zero fields = sym (append-nil (map field_info fields))
 elements-given name kind row (suc i) fields =
@@ -78,7 +78,7 @@ elements-given name kind row (suc i) fields =
     (elements name.text kind row i) (field_info (element_name name.text i, record { kind = kind; row = row_at row i })) g
     (map-append field_info more ((element_name name.text i, record { kind = kind; row = row_at row i }) ∷ []))))
 
-added-given : (form : TypeForm) (name : Ident) (kind : FieldKind) (fields : Fields) → IfOk (added_field name (row_of form) fields kind) (Gives fields (member_fields form name.text kind))
+pub added-given : (form : TypeForm) (name : Ident) (kind : FieldKind) (fields : Fields) → IfOk (added_field name (row_of form) fields kind) (Gives fields (member_fields form name.text kind))
 added-given forms.Int name kind fields = one-given name kind fields
 added-given (forms.Ptr s) name kind fields = one-given name kind fields
 added-given forms.ModInt name kind fields = one-given name kind fields
