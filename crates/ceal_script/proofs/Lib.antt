@@ -10,3 +10,4 @@ mod SpellingLaws
 mod CommandLaws
 mod Samples
 mod Either
+mod Numerals

@@ -9,6 +9,7 @@ mod bytes;
 pub mod command;
 mod forms;
 mod keyword;
+pub mod laws;
 pub mod line;
 pub mod line_error;
 mod number;
