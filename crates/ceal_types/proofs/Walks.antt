@@ -2,6 +2,6 @@
 pub mod WalkFromItem
 pub mod WalkKeeps
 pub mod LongerList
-pub mod OneItemMore
+pub mod LastItemTaken
 pub mod AllArguments
 pub mod ElementsOfRow

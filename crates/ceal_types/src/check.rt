@@ -101,33 +101,37 @@ fn type_bodies(
     Ok(functions)
 }
 
-fn field_infos(alloc: Global, fields: &Table<Field>) -> Result<Items<FieldInfo>, NoMemory>
-    ensures { IfOk result (λ infos. infos ≡ map field_info fields.now) }
+/// The fields of a struct, taken out of their table from the last to the first: no name is copied, and each field's
+/// place in the table is free before the next.
+fn field_infos(alloc: Global, mut fields: Table<Field>) -> Result<Items<FieldInfo>, NoMemory>
+    ensures { IfOk result (λ infos. infos ≡ map field_info fields) }
 {
-    let mut infos = Items::empty(alloc);
-    for i in 0..fields.len() {
-        let (name, field) = fields.entry(i);
-        let name = name.copy()?;
+    let mut infos = Vec::new(alloc);
+    while let Some((name, field)) = fields.pop() {
         infos.push(FieldInfo {
             name,
             kind: field.kind,
             row: field.row,
         })?;
     }
-    Ok(infos)
+    infos.reverse();
+    Ok(Items::new(infos))
 }
 
-fn struct_infos(alloc: Global, structs: &Table<Table<Field>>) -> Result<Items<StructInfo>, NoMemory>
-    ensures { IfOk result (λ infos. infos ≡ map struct_info structs.now) }
+/// The structs, taken out of their table in the same way.
+fn struct_infos(
+    alloc: Global,
+    mut structs: Table<Table<Field>>,
+) -> Result<Items<StructInfo>, NoMemory>
+    ensures { IfOk result (λ infos. infos ≡ map struct_info structs) }
 {
-    let mut infos = Items::empty(alloc);
-    for i in 0..structs.len() {
-        let (name, fields) = structs.entry(i);
-        let name = name.copy()?;
+    let mut infos = Vec::new(alloc);
+    while let Some((name, fields)) = structs.pop() {
         let fields = field_infos(alloc, fields)?;
         infos.push(StructInfo { name, fields })?;
     }
-    Ok(infos)
+    infos.reverse();
+    Ok(Items::new(infos))
 }
 
 /// The program's tree with names resolved, or the first of the faults N1, N2 and T1 to T5 in the order of the walk: the
@@ -140,6 +144,6 @@ pub fn check(alloc: Global, tree: &Tree) -> Result<Typed, FrontError>
     let entries = tree.entries.items();
     let program = heads(alloc, entries)?;
     let functions = type_bodies(alloc, &program, entries)?;
-    let structs = struct_infos(alloc, &program.structs)?;
+    let structs = struct_infos(alloc, program.structs)?;
     Ok(Typed { structs, functions })
 }

@@ -108,7 +108,7 @@ fn add_element(
         return Err(fault(FaultCode::N2, name.span));
     }
     let row = row_at(row, index);
-    fields.add(&element, Field { kind, row })?;
+    fields.add(element, Field { kind, row })?;
     Ok(())
 }
 
@@ -139,7 +139,8 @@ fn new_field(
     }
     match row {
         None => {
-            fields.add(&name.text, Field { kind, row: 0 })?;
+            let name = name.text.copy()?;
+            fields.add(name, Field { kind, row: 0 })?;
             Ok(())
         }
         Some(row) => add_row(fields, name, kind, row),
@@ -175,6 +176,7 @@ pub fn add_variable(variables: &mut Variables, name: &Text, kind: Kind) -> Resul
         return Err(NoMemory);
     }
     let number = count as u32;
+    let name = name.copy()?;
     variables.scope.add(name, Variable { number, kind })?;
     variables.kinds.push(kind)?;
     Ok(number)
@@ -254,8 +256,9 @@ fn add_struct(
     if program.structs.has(&name.text) {
         return Err(fault(FaultCode::N2, name.span));
     }
+    let text = name.text.copy()?;
     let fields = fields_of(alloc, &program.names, structure.fields.items())?;
-    program.structs.add(&name.text, fields)?;
+    program.structs.add(text, fields)?;
     Ok(())
 }
 
@@ -272,8 +275,9 @@ fn add_function(
     if program.functions.has(&name.text) {
         return Err(fault(FaultCode::N2, name.span));
     }
+    let text = name.text.copy()?;
     let head = head_of(alloc, &program.names, function)?;
-    program.functions.add(&name.text, head)?;
+    program.functions.add(text, head)?;
     Ok(())
 }
 

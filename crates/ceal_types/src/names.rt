@@ -63,6 +63,7 @@ impl Names {
         ensures ok { OnOk result (self.new ≡ self.old ++ name.now ∷ []) }
         ensures err { OnErr result (self.new ≡ self.old) }
     {
+        let name = name.copy()?;
         self.table.add(name, ())?;
         Ok(())
     }

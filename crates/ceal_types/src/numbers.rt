@@ -48,6 +48,7 @@ fn put_first(table: &mut Table<u32>, name: &Text, number: usize) -> Result<(), N
     if number >= 4_294_967_296 {
         return Err(NoMemory);
     }
+    let name = name.copy()?;
     table.add(name, number as u32)?;
     Ok(())
 }

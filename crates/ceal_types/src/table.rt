@@ -1,6 +1,6 @@
 // What stands under a name.
 
-ghost use Rattle.std.specs.Prelude.{◌≡◌, ◌<◌, ◌^◌, ◌++◌, Some, ◌∷◌, [], length, take, slice_get, OnOk, OnErr, false, position};
+ghost use Rattle.std.specs.Prelude.{◌≡◌, ◌<◌, ◌^◌, ◌++◌, Some, ◌∷◌, [], length, take, slice_get, OnOk, OnErr, false, position, option_to_list, IfNone};
 ghost use Rattle.std.specs.Map.{keys_of, lookup};
 ghost use Rattle.std.specs.Option.{option_map};
 ghost use Rattle.std.specs.Str.{bytes_eq};
@@ -96,17 +96,24 @@ impl<V> Table<V> {
 
 impl<V: Drop> Table<V> {
     /// Puts a value under a new name.
-    pub fn add(&mut self, name: &Text, value: V) -> Result<(), NoMemory>
-        requires { has self.old name.now ≡ false }
-        ensures ok { OnOk result (self.new ≡ self.old ++ (name.now, value) ∷ []) }
+    pub fn add(&mut self, name: Text, value: V) -> Result<(), NoMemory>
+        requires { has self.old name ≡ false }
+        ensures ok { OnOk result (self.new ≡ self.old ++ (name, value) ∷ []) }
         ensures err { OnErr result (self.new ≡ self.old) }
     {
         if self.map.len() >= 4294967295 {
             return Err(NoMemory);
         }
-        let copy = name.copy()?;
-        self.map.insert(copy, value)?;
+        self.map.insert(name, value)?;
         Ok(())
+    }
+
+    /// Takes the last name off, with what stands under it.
+    pub fn pop(&mut self) -> Option<(Text, V)>
+        ensures taken { self.old ≡ self.new ++ option_to_list result }
+        ensures none { IfNone result (self.old ≡ []) }
+    {
+        self.map.pop()
     }
 
     /// Leaves the first `len` names.

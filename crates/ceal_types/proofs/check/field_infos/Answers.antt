@@ -1,9 +1,14 @@
-use Rattle.std.proofs.Common.{sym}
+use Rattle.std.proofs.Common.{sym, ap, ◌∙◌, ◌++◌, List, map, reverse}
 use Rattle.ceal_types.specs.Checked.{field_info}
-use Rattle.ceal_types.proofs.Walks.OneItemMore.{map-more}
+use Rattle.ceal_types.proofs.Walks.LastItemTaken.{last-taken}
 use Rattle.ceal_types.proofs.check.field_infos.Goals as goal
 
-pub loop-i-preserved : goal.loop-i-preserved
-loop-i-preserved c =
-    let e = map-more field_info c.args.fields.now c.loop-i.i _ c.entry.ensures.entry in
-    rw (c.in_ok-push.ensures.ok, c.in_ok-name.ensures.equal, c.loop-i.invariant) (sym e)
+pub returns : goal.returns
+returns c =
+    c.new.ensures.value ∙ c.reverse.ensures.items
+    ∙ sym (ap (λ (l : List _). map field_info l ++ reverse c.loop-name.infos.items) c.in_default.ensures.none) ∙ c.loop-name.invariant
+
+pub loop-name-preserved : goal.loop-name-preserved
+loop-name-preserved c =
+    rw c.in_ok-push.ensures.items (last-taken field_info c.loop-name.fields c.pop.new.self (c.in-Some.name, c.in-Some.field) c.loop-name.infos.items c.in-Some.ensures.taken
+    ∙ c.loop-name.invariant)

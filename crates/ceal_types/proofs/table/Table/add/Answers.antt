@@ -8,8 +8,7 @@ use Rattle.ceal_types.proofs.table.Table.add.Goals as goal
 pub returns-clause-ok : goal.returns-clause-ok
 returns-clause-ok g c =
     let es = c.self.inside.map.entries in
-    let new : has es c.args.name.now ≡ false = search rules in
-    let same : c.in_ok-copy.copy ≡ c.args.name.now = c.in_ok-copy.ensures.equal in
-    let added : c.insert.new.self.entries ≡ es ++ (c.args.name.now, c.args.value) ∷ [] =
-    rw (← same) (c.in_ok-insert.ensures.entries ∙ insert_entry-new bytes_eq c.self.inside.map c.in_ok-copy.copy c.args.value (rw same (absent es c.args.name.now new))) in
+    let new : has es c.args.name ≡ false = search rules in
+    let added : c.insert.new.self.entries ≡ es ++ (c.args.name, c.args.value) ∷ [] =
+    c.in_ok-insert.ensures.entries ∙ insert_entry-new bytes_eq c.self.inside.map c.args.name c.args.value (absent es c.args.name new) in
     search rules
