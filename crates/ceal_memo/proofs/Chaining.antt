@@ -46,23 +46,6 @@ chained_as of of' size count head head' next next' more less heads nexts chained
 -- ---- a group comes after all others
 
 module _ (of : ℕ → ℕ → Type 0) (size i : ℕ) (head next : ℕ → ℕ) (chained : IsChained of size i head next) where
-  -- it is in no bucket
-  pub skipped : ((b : ℕ) → of i b → ⊥) → IsChained of size (suc i) head next
-  skipped absent = record {
-    heads = λ b within. let last = chained.heads b within in record {
-      within = let low = last.within in omega arith;
-      there = last.there;
-      last = λ n under is. elim (eqb_tells n i) [
-        | inl p ↦ absurd (absent b (subst (λ (k : ℕ). of k b) p.1 is))
-        | inr p ↦ last.last n (omega arith) is
-      ];
-    };
-    nexts = λ n b under is. elim (eqb_tells n i) [
-      | inl p ↦ absurd (absent b (subst (λ (k : ℕ). of k b) p.1 is))
-      | inr p ↦ chained.nexts n b (omega arith) is
-    ];
-  }
-
   -- it is the first in its bucket
   module _ (b : ℕ) (head' next' : ℕ → ℕ) (one : (c : ℕ) → of i c → c ≡ b) (own : of i b) (inside : b < size)
       (head_here : head' b ≡ suc i) (head_other : (c : ℕ) → c ≢ b → head' c ≡ head c)

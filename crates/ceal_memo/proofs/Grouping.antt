@@ -42,10 +42,6 @@ module _ {X : Type 0} where
   length_pushed [] x = refl
   length_pushed (y ∷ xs) x = ap suc (length_pushed xs x)
 
-  pub pushed_last : (xs : List X) (x d : X) → slice_index_or (xs ++ x ∷ []) (length xs) d ≡ x
-  pushed_last [] x d = refl
-  pushed_last (y ∷ xs) x d = pushed_last xs x d
-
 -- ---- as lists
 
 pub lists_set : (gs : List Group) (n : ℕ) (g : Group) → lists_of (slice_set gs n g) ≡ set (lists_of gs) n (g.hash, g.list)

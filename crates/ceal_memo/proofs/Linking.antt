@@ -8,7 +8,7 @@ use Rattle.ceal_memo.specs.declared.chains.Group.{Group}
 use Rattle.ceal_memo.specs.Chains.{blank, bucket, group_at, head_at, next_at, lists_of, stamped, with_one, IsIn, IsLast, IsChained, IsBefore, Chained, IsLinked}
 use Rattle.ceal_memo.specs.Lists.{has_stamps}
 use Rattle.ceal_memo.proofs.Grouping.{group_is, set_here, set_others, length_set, set_again, pushed_before, lists_set, lists_linked, same_hash, same_length, same_stamped, some_is, stamped_within}
-use Rattle.ceal_memo.proofs.Chaining.{chained_as, skipped, appended, inserted_first, inserted_after, removed_first, removed_after}
+use Rattle.ceal_memo.proofs.Chaining.{chained_as, appended, inserted_first, inserted_after, removed_first, removed_after}
 
 pub bucket_within : (size hash : ℕ) → 0 < size → bucket size hash < size
 bucket_within size hash some = let most = and_le_r (hash / 2 ^ 20) (size - 1) in omega arith
@@ -152,12 +152,6 @@ module _ (heads heads' : List ℕ) (groups groups' : List Group) (size : length 
           b (head_at heads') (next_at groups') (λ c is. one_bucket (stamped groups') (length heads') groups' number c b is in_bucket) in_bucket inside
           head head_other next next_other)
 
--- an empty group is in no chain
-pub passed_over : (heads : List ℕ) (groups : List Group) (number : ℕ) → stamped groups number ≡ false → Chained number (stamped groups) heads groups → Chained (suc number) (stamped groups) heads groups
-passed_over heads groups number empty chained =
-    skipped (IsIn (stamped groups) (length heads) groups) (length heads) number (head_at heads) (next_at groups) chained
-    (λ b is. false≢true (sym empty ∙ is.chosen))
-
 -- the chains of other groups, where those that are counted and chosen are the same
 pub chains_kept : (count : ℕ) (among among' : ℕ → Bool) (heads : List ℕ) (groups groups' : List Group) → ((n : ℕ) → n < count → among' n ≡ among n)
     → ((n : ℕ) → n < count → among n ≡ true → (group_at groups' n).hash ≡ (group_at groups n).hash)
@@ -168,17 +162,6 @@ chains_kept count among among' heads groups groups' same hashes nexts chained =
     (λ n b under is. record { chosen = same n under ∙ is.chosen; bucket = ap (bucket (length heads)) (hashes n under is.chosen) ∙ is.bucket })
     (λ n b under is. let old : among n ≡ true = sym (same n under) ∙ is.chosen in record { chosen = old; bucket = sym (ap (bucket (length heads)) (hashes n under old)) ∙ is.bucket })
     (λ b low. refl) (λ n b under is. nexts n under is.chosen) chained
-
--- no group is in chains yet
-pub none_chained : (heads : List ℕ) (groups : List Group) → ((b : ℕ) → head_at heads b ≡ 0) → Chained 0 (stamped groups) heads groups
-none_chained heads groups none = record {
-  heads = λ b within. record {
-    within = let zero_at = none b in omega arith;
-    there = λ n is. let zero_at = none b in absurd (omega arith);
-    last = λ n under is. absurd (omega arith);
-  };
-  nexts = λ n b under is. absurd (omega arith);
-}
 
 -- ---- a group that is in no chain
 

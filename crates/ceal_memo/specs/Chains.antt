@@ -1,4 +1,5 @@
--- Groups of stamps by hash, in chains (hash tables with separate chaining: Knuth, *The Art of Computer Programming* 3, 6.4).
+-- Groups of stamps by hash, in chains
+-- (hash tables with separate chaining: Knuth, *The Art of Computer Programming*, volume 3, 6.4).
 use Rattle.std.specs.Prelude.{◌≡◌, ◌≢◌, ◌-◌, ◌/◌, ◌^◌, ◌<◌, ◌≤◌, ◌==◌, ℕ, suc, Bool, true, false, List, [], ◌∷◌, length, slice_index_or, set, bit_and, if◌then◌else◌}
 use Rattle.ceal_memo.specs.Lists.{has_stamps}
 use Rattle.ceal_memo.specs.declared.chains.Group.{Group}
@@ -57,7 +58,8 @@ pub record IsChained (own : ℕ → ℕ → Type 0) (size count : ℕ) (head nex
 
 -- the chosen ones of the first groups are in the chains of their buckets
 abbrev pub Chained : ℕ → (ℕ → Bool) → List ℕ → List Group → Type 0
-Chained count chosen heads groups = IsChained (IsIn chosen (length heads) groups) (length heads) count (head_at heads) (next_at groups)
+Chained count chosen heads groups =
+    IsChained (IsIn chosen (length heads) groups) (length heads) count (head_at heads) (next_at groups)
 
 -- what lies before the place of a group in a bucket: the head, where the link is 0, or the group that it leads to
 pub record IsBefore (chosen : ℕ → Bool) (heads : List ℕ) (groups : List Group) (b number before : ℕ) : Type 0 where
