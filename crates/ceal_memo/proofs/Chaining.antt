@@ -1,7 +1,7 @@
 -- Chains of buckets, as functions from numbers to links.
-use Rattle.std.proofs.Common.{◌≡◌, ◌≢◌, ℕ, suc, zero, inl, inr, ◌⊎◌, ◌<◌, ◌≤◌, refl, sym, subst, arith}
+use Rattle.std.proofs.Common.{◌≡◌, ◌≢◌, ℕ, suc, zero, inl, inr, ◌⊎◌, ◌<◌, ◌≤◌, sym, subst, arith}
 use Rattle.std.proofs.lemmas.Bool.Decides.{eqb_tells}
-use Rattle.ceal_memo.specs.Chains.{IsLast, IsChained, IsBefore}
+use Rattle.ceal_memo.specs.Chains.{IsLast, IsChained}
 
 same_number : (m n : ℕ) → suc m ≡ suc n → m ≡ n
 same_number m n same = omega arith

@@ -1,8 +1,8 @@
 -- A stamp comes into a list.
-use Rattle.std.proofs.Common.{◌≡◌, ◌≢◌, ℕ, inl, inr, List, [], ◌∷◌, ◌++◌, length, set, Some, None, refl, sym, ap, ◌∙◌, subst, slice_get, arith}
+use Rattle.std.proofs.Common.{◌≡◌, ◌≢◌, ℕ, inl, inr, List, [], ◌∷◌, ◌++◌, length, set, Some, sym, ◌∙◌, subst, slice_get}
 use Rattle.std.proofs.lemmas.Bool.Decides.{eqb_tells}
 use Rattle.ceal_memo.specs.Lists.{stamps_at}
-use Rattle.ceal_memo.specs.Numbers.{list_at, OneList, IsEntered}
+use Rattle.ceal_memo.specs.Numbers.{OneList, IsEntered}
 use Rattle.ceal_memo.proofs.Numbers.{none_or_some, none_of, push_here, push_other, beyond, set_gets, set_leaves, get_within}
 use Rattle.ceal_memo.proofs.Looking.{first_is, second_is, empty_or, list_is, looked}
 

@@ -1,8 +1,8 @@
 -- Groups, one of which changes.
-use Rattle.std.proofs.Common.{◌≡◌, ◌≢◌, ◌<◌, ℕ, suc, zero, Bool, true, false, List, [], ◌∷◌, ◌++◌, length, set, Some, refl, sym, ap, ◌∙◌, subst, arith, slice_get, slice_index_or, slice_set}
+use Rattle.std.proofs.Common.{◌≡◌, ◌≢◌, ◌<◌, ℕ, suc, zero, true, false, List, [], ◌∷◌, ◌++◌, length, set, Some, refl, sym, ap, ◌∙◌, arith, slice_get, slice_index_or, slice_set}
 use Rattle.ceal_memo.specs.declared.chains.Group.{Group}
 use Rattle.ceal_memo.specs.Lists.{has_stamps}
-use Rattle.ceal_memo.specs.Chains.{blank, group_at, next_at, lists_of, stamped}
+use Rattle.ceal_memo.specs.Chains.{group_at, lists_of, stamped}
 
 -- what a group is, whatever is said of those that are not there
 pub group_is : (gs : List Group) (n : ℕ) (d : Group) → n < length gs → slice_index_or gs n d ≡ group_at gs n

@@ -1,13 +1,12 @@
 -- Groups in the chains of their buckets.
 use Rattle.std.proofs.Common.{◌≡◌, ◌≢◌, ◌<◌, ◌≤◌, ◌-◌, ◌/◌, ◌^◌, ℕ, suc, zero, Bool, true, false, inl, inr, List, [], ◌∷◌, ◌++◌, length, set, refl, sym, ap, ◌∙◌, subst, arith, slice_index_or, slice_set}
-use Rattle.std.specs.Prelude.{bit_and, ◌==◌, if◌then◌else◌}
 use Rattle.std.proofs.lemmas.Nat.{and_le_r}
 use Rattle.std.proofs.lemmas.Bool.{eq-eqb, false≢true}
 use Rattle.std.proofs.lemmas.Bool.Decides.{eqb_tells}
 use Rattle.ceal_memo.specs.declared.chains.Group.{Group}
 use Rattle.ceal_memo.specs.Chains.{blank, bucket, group_at, head_at, next_at, lists_of, stamped, with_one, IsIn, IsLast, IsChained, IsBefore, Chained, IsLinked}
 use Rattle.ceal_memo.specs.Lists.{has_stamps}
-use Rattle.ceal_memo.proofs.Grouping.{group_is, set_here, set_others, length_set, set_again, pushed_before, lists_set, lists_linked, same_hash, same_length, same_stamped, some_is, stamped_within}
+use Rattle.ceal_memo.proofs.Grouping.{group_is, set_here, set_others, length_set, set_again, pushed_before, lists_set, lists_linked, same_hash, same_length, same_stamped, some_is}
 use Rattle.ceal_memo.proofs.Chaining.{chained_as, appended, inserted_first, inserted_after, removed_first, removed_after}
 
 pub bucket_within : (size hash : ℕ) → 0 < size → bucket size hash < size

@@ -1,5 +1,5 @@
 -- Groups as lists of stamps by hash.
-use Rattle.std.proofs.Common.{◌≡◌, ◌≢◌, ◌<◌, ◌≤◌, ℕ, suc, zero, Bool, true, false, inl, inr, ◌⊎◌, ◌↔◌, Result, Ok, Err, List, [], ◌∷◌, length, set, Some, refl, sym, ap, ◌∙◌, subst, arith, slice_get, slice_set}
+use Rattle.std.proofs.Common.{◌≡◌, ◌≢◌, ◌<◌, ◌≤◌, ℕ, suc, zero, Bool, true, false, inl, inr, ◌⊎◌, ◌↔◌, Result, Ok, Err, List, [], ◌∷◌, length, set, Some, refl, sym, ap, ◌∙◌, subst, slice_get}
 use Rattle.std.proofs.lemmas.Bool.{cases_Bool, false≢true}
 use Rattle.std.proofs.lemmas.Bool.Decides.{eqb_tells}
 use Rattle.ceal_memo.specs.declared.chains.Group.{Group}
@@ -8,9 +8,9 @@ use Rattle.std.specs.Prelude.{OnOk, OnErr, IsTrue}
 use Rattle.ceal_memo.specs.Numbers.{list_at, hashes_in, OneList, IsEntered}
 use Rattle.ceal_memo.specs.Chains.{with_one, blank, group_at, next_at, lists_of, with_list, stamped, IsLinked, Chained}
 use Rattle.ceal_memo.proofs.Numbers.{get_within}
-use Rattle.ceal_memo.proofs.Looking.{first_is, second_is, list_is, looked, nothing}
+use Rattle.ceal_memo.proofs.Looking.{first_is, second_is, looked, nothing}
 use Rattle.ceal_memo.proofs.Entering.{entered_again, entered_there}
-use Rattle.ceal_memo.proofs.Grouping.{set_here, set_others, length_set, length_lists, lists_set, list_in, is_some, is_empty, some_is}
+use Rattle.ceal_memo.proofs.Grouping.{set_here, set_others, length_set, length_lists, lists_set, list_in, is_some, is_empty}
 use Rattle.ceal_memo.proofs.Linking.{with_itself, chains_kept}
 
 -- a group that was found has the stamps under its hash

@@ -1,6 +1,6 @@
-use Rattle.std.proofs.Common.{◌≡◌, ◌≢◌, ◌<◌, ◌≤◌, ◌-◌, ℕ, suc, Bool, length, sym, ap, ◌∙◌, subst, slice_index_or, arith}
+use Rattle.std.proofs.Common.{◌≡◌, ◌<◌, ◌-◌, ℕ, suc, Bool, length, sym, ap, ◌∙◌, slice_index_or, arith}
 use Rattle.ceal_memo.specs.declared.chains.Group.{Group}
-use Rattle.ceal_memo.specs.Chains.{group_at, head_at, next_at, IsIn, IsLast, Chained}
+use Rattle.ceal_memo.specs.Chains.{next_at, IsIn, IsLast, Chained}
 use Rattle.ceal_memo.proofs.Grouping.{group_is}
 use Rattle.ceal_memo.proofs.chains.before.Goals as goal
 

@@ -1,4 +1,4 @@
-use Rattle.std.proofs.Common.{◌≡◌, ◌≢◌, ◌+◌, ℕ, suc, List, length, sym, ap, ◌∙◌, arith}
+use Rattle.std.proofs.Common.{◌≡◌, ◌≢◌, ◌+◌, suc, List, length, ap, ◌∙◌, arith}
 use Rattle.ceal_memo.specs.declared.chains.Group.{Group}
 use Rattle.ceal_memo.specs.Chains.{blank, bucket, next_at, stamped}
 use Rattle.ceal_memo.proofs.Grouping.{group_is, set_here, set_others, lists_linked}

@@ -1,4 +1,4 @@
-use Rattle.std.proofs.Common.{◌≡◌, ◌+◌, ℕ, suc, length, sym, ap, ◌∙◌, arith}
+use Rattle.std.proofs.Common.{◌≡◌, ◌+◌, suc, length, ap, ◌∙◌, arith}
 use Rattle.ceal_memo.specs.declared.chains.Group.{Group}
 use Rattle.ceal_memo.specs.Chains.{blank, bucket}
 use Rattle.ceal_memo.proofs.Grouping.{group_is, set_here, set_others, length_set, lists_linked}

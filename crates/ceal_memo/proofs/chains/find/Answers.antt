@@ -1,6 +1,6 @@
-use Rattle.std.proofs.Common.{◌≡◌, ◌≢◌, ◌<◌, ◌≤◌, ◌-◌, ℕ, suc, length, inl, inr, sym, ap, ◌∙◌, subst, arith}
+use Rattle.std.proofs.Common.{◌≡◌, ◌≢◌, ◌<◌, ◌-◌, ℕ, suc, length, inl, inr, sym, ap, ◌∙◌, subst, arith}
 use Rattle.ceal_memo.specs.declared.chains.Group.{Group}
-use Rattle.ceal_memo.specs.Chains.{bucket, group_at, head_at, next_at, stamped, IsIn, IsLast}
+use Rattle.ceal_memo.specs.Chains.{bucket, group_at, next_at, stamped, IsIn, IsLast}
 use Rattle.ceal_memo.proofs.Grouping.{group_is, stamped_within}
 use Rattle.ceal_memo.proofs.Chaining.{less_or}
 use Rattle.ceal_memo.proofs.Linking.{head_last}

@@ -1,4 +1,4 @@
-use Rattle.std.proofs.Common.{◌≡◌, ◌≢◌, ◌<◌, ◌≤◌, ℕ, suc, length}
+use Rattle.std.proofs.Common.{◌≡◌, ◌≢◌, ◌≤◌, ℕ, suc, length}
 use Rattle.ceal_memo.specs.Chains.{bucket, group_at, stamped, IsIn}
 use Rattle.ceal_memo.proofs.chains.find.Given as goal
 

@@ -1,4 +1,4 @@
-use Rattle.std.proofs.Common.{◌≡◌, length, ap, ◌∙◌}
+use Rattle.std.proofs.Common.{length, ap, ◌∙◌}
 use Rattle.ceal_memo.specs.declared.chains.Group.{Group}
 use Rattle.ceal_memo.specs.Chains.{bucket, stamped, with_one}
 use Rattle.ceal_memo.proofs.Grouping.{group_is}

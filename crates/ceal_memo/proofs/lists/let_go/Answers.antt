@@ -1,4 +1,4 @@
-use Rattle.std.proofs.Common.{◌≡◌, ◌≤◌, length, sym, ◌∙◌, arith}
+use Rattle.std.proofs.Common.{◌≤◌, length, ◌∙◌, arith}
 use Rattle.ceal_memo.proofs.Grouping.{lists_linked, same_length, same_stamped}
 use Rattle.ceal_memo.proofs.Linking.{relinked}
 use Rattle.ceal_memo.proofs.lists.let_go.Goals as goal

@@ -1,4 +1,4 @@
-use Rattle.std.proofs.Common.{◌≡◌, ◌≤◌, ◌<◌, length, refl, sym, subst, ◌∙◌, arith}
+use Rattle.std.proofs.Common.{◌≡◌, ◌≤◌, ◌<◌, length, refl, ◌∙◌, arith}
 use Rattle.ceal_memo.proofs.Grouping.{length_set, same_length}
 use Rattle.ceal_memo.proofs.Linking.{rehashed, filled_linked, filled_lists}
 use Rattle.ceal_memo.proofs.lists.refill.Goals as goal
