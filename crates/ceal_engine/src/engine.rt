@@ -90,7 +90,8 @@ fn phase_edited(phase: Phase) -> Phase
 }
 
 impl Engine {
-    /// An engine without inputs. A run may take `fuel` steps. It takes the room for the arguments of a call.
+    /// An engine without inputs. A run may take `fuel` steps. It takes the room for the arguments of a call. Its memo tables
+    /// begin with a seed that everybody knows: it is for values that nobody chooses to be slow.
     pub fn new(alloc: Global, code: Code, fuel: u32) -> Result<Engine, NoMemory>
         requires valid { valid code ≡ true }
         requires fuel { InLimits fuel }
@@ -104,8 +105,7 @@ impl Engine {
         Ok(engine)
     }
 
-    /// An engine without inputs. A run may take `fuel` steps. It takes the room for the arguments of a call. Any seed is
-    /// right: its memo tables begin with it.
+    /// The same, where the memo tables begin with a seed, as of the text that values come from. Any seed is right.
     pub fn seeded(alloc: Global, code: Code, fuel: u32, seed: Seed) -> Result<Engine, NoMemory>
         requires valid { valid code ≡ true }
         requires fuel { InLimits fuel }

@@ -1,10 +1,9 @@
 -- In which list each stamp has its entry.
-use Rattle.std.specs.Prelude.{◌≡◌, ℕ, List, true, ◌==◌, if◌then◌else◌, slice_get, unwrap_or, nat_eq}
-use Rattle.std.specs.List.{IsDistinct}
+use Rattle.std.specs.Prelude.{◌≡◌, ℕ, List, true, ◌==◌, if◌then◌else◌, slice_get, unwrap_or}
 use Rattle.ceal_order.specs.Stamps.{is_in, Distinct}
 use Rattle.ceal_memo.specs.declared.home.Home.{Home}
 use Rattle.ceal_memo.specs.declared.home.Home.TheVariants.{Nowhere, In}
-use Rattle.ceal_memo.specs.Numbers.{list_at, keys_in}
+use Rattle.ceal_memo.specs.Numbers.{list_at, OneList}
 use Rattle.ceal_memo.specs.Table.{ByHash}
 
 -- stands for no list: there are fewer lists than this
@@ -27,8 +26,8 @@ HomeChange s home old new = (t : ℕ) → home_of new t ≡ (if s == t then home
 abbrev pub Houses : ByHash → List ℕ → Type 0
 Houses memo homes = (n s : ℕ) → is_in s (list_at memo.lists n) ≡ true → home_of homes s ≡ In n
 
--- each stamp of a memo stands once, in the list that is its home, and each hash has one list
+-- each stamp of a memo stands once, in the list that is its home, and each hash has one list with stamps
 pub record IsKept (memo : ByHash) (homes : List ℕ) : Type 0 where
   pub houses : Houses memo homes
   pub once : (n : ℕ) → Distinct (list_at memo.lists n)
-  pub unique : IsDistinct nat_eq (keys_in memo.lists)
+  pub unique : OneList memo.lists

@@ -7,4 +7,4 @@ pub mod Table
 pub mod Lists
 pub mod Homes
 pub mod Numbers
-pub mod Mixing
+pub mod Chains

@@ -1,12 +1,17 @@
--- Lists of stamps by key.
-use Rattle.std.specs.Prelude.{◌≡◌, ◌<◌, ◌≤◌, ℕ, Bool, true, List, [], insert, unwrap_or}
-use Rattle.std.specs.Map.{lookup}
+-- Lists of stamps by hash.
+use Rattle.std.specs.Prelude.{◌≡◌, ◌<◌, ◌≤◌, ◌==◌, ◌&&◌, ℕ, Bool, true, false, List, [], ◌∷◌, insert, if◌then◌else◌}
 use Rattle.ceal_order.specs.Stamps.{is_in, place}
 use Rattle.ceal_order.specs.Rising.{count_before}
 
--- the stamps of a key, by the equality of keys
-abbrev pub stamps_at : {K : Type 0} → (K → K → Bool) → List (K × List ℕ) → K → List ℕ
-stamps_at eq entries key = unwrap_or (lookup (eq key) entries) []
+-- whether a list has stamps
+abbrev pub has_stamps : List ℕ → Bool
+has_stamps [] = false
+has_stamps (s ∷ ss) = true
+
+-- the stamps under a hash: those of the first list under it that has some
+abbrev pub stamps_at : List (ℕ × List ℕ) → ℕ → List ℕ
+stamps_at [] hash = []
+stamps_at (l ∷ ls) hash = if has_stamps l.1 && hash == l.0 then l.1 else stamps_at ls hash
 
 -- with one more stamp, which stands after those before it in the order
 abbrev pub with_stamp : List ℕ → ℕ → List ℕ → List ℕ

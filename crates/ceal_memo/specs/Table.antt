@@ -1,5 +1,5 @@
 -- The stamps of entries by the hashes of their keys.
-use Rattle.std.specs.Prelude.{◌≡◌, ◌≢◌, ℕ, List, true, false, nat_eq}
+use Rattle.std.specs.Prelude.{◌≡◌, ◌≢◌, ℕ, List, true, false}
 use Rattle.ceal_order.specs.Stamps.{is_in}
 use Rattle.ceal_order.specs.Rising.{IsRising}
 use Rattle.ceal_memo.specs.Lists.{stamps_at}
@@ -10,7 +10,7 @@ pub record ByHash : Type 0 where
 
 -- the stamps of the entries under a hash
 abbrev pub entries_of : ByHash → ℕ → List ℕ
-entries_of table hash = stamps_at nat_eq table.lists hash
+entries_of table hash = stamps_at table.lists hash
 
 -- a table follows an order along which the stamps under each hash rise
 pub record Follows (order : List ℕ) (table : ByHash) : Type 0 where

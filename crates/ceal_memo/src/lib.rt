@@ -7,10 +7,10 @@
 //! `key` is what a read is found again by, `keys` tells the keys of entries, `seed` is what hashes begin with, `memo` the table
 //! with its calls; `laws` says along which orders a memo still follows. Inside, `digest` has the hashes of keys, `table` the
 //! entries by their hashes, `sought` is a key that is looked for, `lists` has the stamps of each hash, in lists that have
-//! numbers, `home` the list of each stamp, by which an entry is taken out without a key, `spares` the lists that have become
-//! empty, and `mixer` a hasher for numbers that are hashes already.
+//! numbers, `chains` finds them, and `home` is the list of each stamp, by which an entry is taken out without a key.
 #![tactic(auto)]
 
+mod chains;
 mod digest;
 mod home;
 pub mod key;
@@ -18,8 +18,6 @@ pub mod keys;
 pub mod laws;
 mod lists;
 pub mod memo;
-mod mixer;
 pub mod seed;
 mod sought;
-mod spares;
 mod table;

@@ -1,77 +1,78 @@
-// Lists of stamps by key, each of which rises along the order.
+// Lists of stamps by hash, each of which rises along the order.
 
-ghost use Rattle.std.specs.Prelude.{◌≡◌, ◌≢◌, ◌<◌, ◌^◌, ◌++◌, ◌∷◌, ℕ, List, [], false, None, length, IfSome, IfNone, IfOk, OnOk, OnErr, IsTrue};
-ghost use Rattle.std.specs.Map.{lookup};
-ghost use Rattle.indexmap.specs.IndexMap.{get, IsUnique, set_value_at};
+ghost use Rattle.std.specs.Prelude.{◌≡◌, ◌≢◌, ◌<◌, ◌≤◌, ◌↔◌, ◌++◌, ◌∷◌, ℕ, List, [], true, false, length, set, IfSome, IfNone, IfOk, OnOk, OnErr, IsTrue};
 ghost use Rattle.ceal_order.specs.Stamps.{is_in, without};
 ghost use Rattle.ceal_order.specs.Rising.{IsRising};
 ghost use Rattle.ceal_memo.specs.Lists.{stamps_at, with_stamp};
-ghost use Rattle.ceal_memo.specs.Numbers.{list_at, keys_in, IsEntered, IsEmptyAt, IsFound};
+ghost use Rattle.ceal_memo.specs.Numbers.{list_at, hashes_in, OneList, IsEntered};
+ghost use Rattle.ceal_memo.specs.Chains.{group_at, lists_of, with_list, with_one, stamped, Chained, IsLinked};
 
-use crate::mixer::Plain;
-use crate::spares::Spares;
+use crate::chains::{Group, chain, chain_first, find, make_buckets, unchain};
 use ceal_base::no_memory::NoMemory;
 use ceal_order::order::Order;
 use ceal_order::rising::Rising;
+use ceal_order::room::make_room;
 use ceal_order::stamp::Stamp;
-use indexmap::IndexMap;
 use std::alloc::Global;
-use std::hash::{BuildHasherDefault, Hash};
 use std::marker::Model;
 
 // There are fewer lists than this.
 const MOST_LISTS: usize = 4294967295;
 
-/// A list of stamps for each key. A list has a number, which stays its own as long as it has stamps; the number and the
-/// place of a list that has become empty go to the next new key.
+// The number of no group.
+const NO_GROUP: u32 = u32::MAX;
+
+/// A list of stamps for each hash. A list has a number, which stays its own as long as it has stamps; the number of a list
+/// that has become empty goes to the next new hash.
 #[derive(Drop)]
-pub struct Lists<K: Eq + Hash> {
-    by_key: IndexMap<K, Rising, BuildHasherDefault<Plain>>,
-    spares: Spares,
+pub struct Lists {
+    heads: Vec<u32>,
+    groups: Vec<Group>,
+    free: u32,
 }
 
-impl<K: Eq + Hash> Model for Lists<K> {
+impl Model for Lists {
     ghost use Rattle.std.specs.Prelude.{List, ℕ};
-    ghost use Rattle.std.specs.Coded.{coded_list, coded×, coded_ℕ};
+    ghost use Rattle.ceal_memo.specs.Chains.{lists_of, IsLinked};
 
-    ghost Value = { List (K × List ℕ) };
+    ghost Value = { List (ℕ × List ℕ) };
 
-    ghost coded = { coded_list (coded× K.code (coded_list coded_ℕ)) };
+    ghost view = { λ l. lists_of l.groups.items };
 
-    ghost view = { λ l. l.by_key.entries };
+    ghost invariant = { λ l. IsLinked l.heads.items l.groups.items };
 }
 
-impl<K: Eq + Hash + Drop> Lists<K> {
-    pub fn new(alloc: Global) -> Lists<K>
+impl Lists {
+    pub fn new(alloc: Global) -> Lists
         ensures { result ≡ [] }
     {
         Lists {
-            by_key: IndexMap::with_hasher(alloc, BuildHasherDefault::new()),
-            spares: Spares::new(alloc),
+            heads: Vec::new(alloc),
+            groups: Vec::new(alloc),
+            free: NO_GROUP,
         }
     }
 
-    /// Puts a stamp into the list of a key, and gives the number of that list.
-    pub fn put(&mut self, order: &Order, key: K, stamp: Stamp) -> Result<u32, NoMemory>
+    /// Puts a stamp into the list of a hash, and gives the number of that list.
+    pub fn put(&mut self, order: &Order, hash: u64, stamp: Stamp) -> Result<u32, NoMemory>
         requires here { IsTrue (is_in stamp.0 order.now.stamps) }
-        requires rising { IsRising order.now.stamps (stamps_at K.eq self.old key) }
-        requires absent { is_in stamp.0 (stamps_at K.eq self.old key) ≡ false }
+        requires rising { IsRising order.now.stamps (stamps_at self.old hash) }
+        requires absent { is_in stamp.0 (stamps_at self.old hash) ≡ false }
+        requires unique { OneList self.old }
         ensures few { IfOk result (λ n. n < 4294967295) }
-        ensures ok { IfOk result (λ n. IsEntered K.eq self.old self.new key n
-            (with_stamp order.now.stamps stamp.0 (stamps_at K.eq self.old key))) }
+        ensures ok { IfOk result (λ n. IsEntered self.old self.new hash n
+            (with_stamp order.now.stamps stamp.0 (stamps_at self.old hash))) }
         ensures err { OnErr result (self.new ≡ self.old) }
     {
-        let count = self.by_key.len();
-        if count >= MOST_LISTS {
-            return Err(NoMemory);
-        }
-        self.spares.make_room(count + 1)?;
-        let list = Rising::one(*self.by_key.allocator(), stamp);
-        match enter(&mut self.by_key, key, list)? {
-            None => Ok(settle(&mut self.by_key, &mut self.spares)),
+        match find(&self.heads, &self.groups, hash) {
             Some(number) => {
-                insert_at(&mut self.by_key, number, order, stamp)?;
-                Ok(number as u32)
+                insert_at(&mut self.groups, number, order, stamp)?;
+                Ok(number)
+            }
+            None => {
+                let free = &mut self.free;
+                let number = enter(&mut self.heads, &mut self.groups, free, hash, stamp)?;
+                Ok(number)
             }
         }
     }
@@ -80,165 +81,179 @@ impl<K: Eq + Hash + Drop> Lists<K> {
     pub fn take(&mut self, order: &Order, number: u32, stamp: Stamp)
         requires here { IsTrue (is_in stamp.0 order.now.stamps) }
         requires rising { IsRising order.now.stamps (list_at self.old number) }
-        ensures keys { keys_in self.new ≡ keys_in self.old }
+        ensures hashes { hashes_in self.new ≡ hashes_in self.old }
         ensures here { list_at self.new number ≡ without stamp.0 (list_at self.old number) }
         ensures others { (n : ℕ) → n ≢ number → list_at self.new n ≡ list_at self.old n }
     {
-        let empty = take_at(&mut self.by_key, number as usize, order, stamp);
-        if empty {
-            self.spares.note(number);
+        if is_empty_at(&self.groups, number) {
+            return;
+        }
+        if take_at(&mut self.groups, number, order, stamp) {
+            let_go(&mut self.heads, &mut self.groups, self.free, number);
+            self.free = number;
         }
     }
 
-    /// The list of a key.
-    pub fn get(&self, key: &K) -> Option<&Rising>
-        ensures some { IfSome result (λ list. list.now ≡ stamps_at K.eq self.now key.now) }
-        ensures none { IfNone result (stamps_at K.eq self.now key.now ≡ []) }
+    /// The list of a hash.
+    pub fn get(&self, hash: u64) -> Option<&Rising>
+        requires unique { OneList self.now }
+        ensures some { IfSome result (λ list. list.now ≡ stamps_at self.now hash) }
+        ensures none { IfNone result (stamps_at self.now hash ≡ []) }
     {
-        self.by_key.get(key)
+        match find(&self.heads, &self.groups, hash) {
+            Some(number) => Some(&self.groups[number as usize].list),
+            None => None,
+        }
     }
 }
 
 // Puts a stamp into the list with a number.
-fn insert_at<K: Eq + Hash>(
-    lists: &mut IndexMap<K, Rising, BuildHasherDefault<Plain>>,
-    number: usize,
-    order: &Order,
-    stamp: Stamp,
-) -> Result<(), NoMemory>
-    requires there { number < length lists.old.entries }
+fn insert_at(groups: &mut [Group], number: u32, order: &Order, stamp: Stamp) -> Result<(), NoMemory>
+    requires there { number < length groups.old }
     requires here { IsTrue (is_in stamp.0 order.now.stamps) }
-    requires rising { IsRising order.now.stamps (list_at lists.old.entries number) }
-    requires absent { is_in stamp.0 (list_at lists.old.entries number) ≡ false }
-    ensures ok { OnOk result (lists.new.entries
-        ≡ set_value_at lists.old.entries number
-        (with_stamp order.now.stamps stamp.0 (list_at lists.old.entries number))) }
-    ensures err { OnErr result (lists.new.entries ≡ lists.old.entries) }
-    ensures unique { IsUnique K.eq lists.new }
+    requires rising { IsRising order.now.stamps (group_at groups.old number).list }
+    requires absent { is_in stamp.0 (group_at groups.old number).list ≡ false }
+    ensures ok { OnOk result (groups.new ≡ with_list groups.old number
+        (with_stamp order.now.stamps stamp.0 (group_at groups.old number).list)) }
+    ensures err { OnErr result (groups.new ≡ groups.old) }
 {
-    let Some(list) = lists.get_index_mut(number) else {
-        return Err(NoMemory);
-    };
-    list.insert(order, stamp)?;
+    let group = &mut groups[number as usize];
+    group.list.insert(order, stamp)?;
     Ok(())
 }
 
-// Takes a stamp out of the list with a number, and says whether that list is there and empty now.
-fn take_at<K: Eq + Hash>(
-    lists: &mut IndexMap<K, Rising, BuildHasherDefault<Plain>>,
-    number: usize,
-    order: &Order,
-    stamp: Stamp,
-) -> bool
+// Whether a list has no stamps, or is not there.
+fn is_empty_at(groups: &[Group], number: u32) -> bool
+    ensures { IsTrue result ↔ (stamped groups.now number ≡ false) }
+{
+    match groups.get(number as usize) {
+        Some(group) => group.list.is_empty(),
+        None => true,
+    }
+}
+
+// Takes a stamp out of the list with a number, and says whether that is empty now.
+fn take_at(groups: &mut [Group], number: u32, order: &Order, stamp: Stamp) -> bool
+    requires there { number < length groups.old }
     requires here { IsTrue (is_in stamp.0 order.now.stamps) }
-    requires rising { IsRising order.now.stamps (list_at lists.old.entries number) }
-    ensures { lists.new.entries
-        ≡ set_value_at lists.old.entries number
-        (without stamp.0 (list_at lists.old.entries number)) }
+    requires rising { IsRising order.now.stamps (group_at groups.old number).list }
+    ensures list { groups.new
+        ≡ with_list groups.old number (without stamp.0 (group_at groups.old number).list) }
+    ensures empty { IsTrue result ↔ (stamped groups.new number ≡ false) }
 {
-    let Some(list) = lists.get_index_mut(number) else {
-        return false;
-    };
-    list.take_out_along(order, stamp);
-    list.is_empty()
+    let group = &mut groups[number as usize];
+    group.list.take_out_along(order, stamp);
+    group.list.is_empty()
 }
 
-// Puts a list in the place of the one with a number.
-fn put_at<K: Eq + Hash>(
-    lists: &mut IndexMap<K, Rising, BuildHasherDefault<Plain>>,
-    number: usize,
-    list: Rising,
-)
-    ensures { lists.new.entries ≡ set_value_at lists.old.entries number list }
+// The group that was emptied last, if there is one.
+fn spare(groups: &[Group], free: u32) -> Option<u32>
+    ensures within { IfSome result (λ n. n < length groups.now) }
+    ensures few { IfSome result (λ n. n < 4294967295) }
+    ensures empty { IfSome result (λ n. stamped groups.now n ≡ false) }
 {
-    if let Some(place) = lists.get_index_mut(number) {
-        *place = list;
+    if free == NO_GROUP {
+        return None;
+    }
+    let group = groups.get(free as usize)?;
+    if group.list.is_empty() {
+        Some(free)
+    } else {
+        None
     }
 }
 
-// Enters a list under a key that has none, after the others. Where the key has one, nothing has changed: it gives the number of
-// that list. A key is hashed once.
-fn enter<K: Eq + Hash + Drop>(
-    lists: &mut IndexMap<K, Rising, BuildHasherDefault<Plain>>,
-    key: K,
-    list: Rising,
-) -> Result<Option<usize>, NoMemory>
-    ensures absent { IfOk result (λ found. IfNone found (get K.eq lists.old key ≡ None)) }
-    ensures last { IfOk result (λ found. IfNone found
-        (lists.new.entries ≡ lists.old.entries ++ (key, list) ∷ [])) }
-    ensures found { IfOk result
-        (λ found. IfSome found (λ n. IsFound K.eq lists.old.entries key n)) }
-    ensures same { IfOk result (λ found. IfSome found
-        (λ n. lists.new.entries ≡ lists.old.entries)) }
-    ensures err { OnErr result (lists.new.entries ≡ lists.old.entries) }
+// Takes a group that has become empty out of its bucket. The one that was emptied before it is told in the place of its link.
+fn let_go(heads: &mut [u32], groups: &mut [Group], free: u32, number: u32)
+    requires number { number < length groups.old }
+    requires enough { length groups.old ≤ length heads.old }
+    requires empty { stamped groups.old number ≡ false }
+    requires chained { Chained (length groups.old) (with_one number (stamped groups.old))
+        heads.old groups.old }
+    ensures lists { lists_of groups.new ≡ lists_of groups.old }
+    ensures linked { IsLinked heads.new groups.new }
 {
-    let (number, before) = lists.insert_full(key, list)?;
-    match before {
-        None => Ok(None),
-        Some(before) => {
-            put_at(lists, number, before);
-            Ok(Some(number))
+    unchain(heads, groups, number);
+    let group = &mut groups[number as usize];
+    group.next = free;
+}
+
+// Gives a hash that has no list one with a stamp: the group that was emptied last, or one more.
+fn enter(
+    heads: &mut Vec<u32>,
+    groups: &mut Vec<Group>,
+    free: &mut u32,
+    hash: u64,
+    stamp: Stamp,
+) -> Result<u32, NoMemory>
+    requires linked { IsLinked heads.old.items groups.old.items }
+    requires absent { stamps_at (lists_of groups.old.items) hash ≡ [] }
+    requires unique { OneList (lists_of groups.old.items) }
+    ensures few { IfOk result (λ n. n < 4294967295) }
+    ensures ok { IfOk result (λ n. IsEntered (lists_of groups.old.items)
+        (lists_of groups.new.items) hash n (stamp.0 ∷ [])) }
+    ensures err { OnErr result (lists_of groups.new.items ≡ lists_of groups.old.items) }
+    ensures linked { IsLinked heads.new.items groups.new.items }
+{
+    match spare(groups, *free) {
+        Some(number) => {
+            let list = Rising::one(*groups.allocator(), stamp);
+            *free = refill(heads, groups, number, hash, list);
+            Ok(number)
+        }
+        None => {
+            let number = add(heads, groups, hash, stamp)?;
+            Ok(number)
         }
     }
 }
 
-// What was entered last goes into the place of a list that is empty, if one is known. It says where it is then.
-#[inline]
-fn settle<K: Eq + Hash + Drop>(
-    lists: &mut IndexMap<K, Rising, BuildHasherDefault<Plain>>,
-    spares: &mut Spares,
-) -> u32
-    requires some { 0 < length lists.old.entries }
-    requires few { length lists.old.entries < 2 ^ 32 }
-    ensures within { result < length lists.old.entries }
-    ensures entered { (before : List (K × List ℕ)) (key : K) (list : List ℕ)
-        → lists.old.entries ≡ before ++ (key, list) ∷ []
-        → lookup (K.eq key) before ≡ None → list ≢ []
-        → IsEntered K.eq before lists.new.entries key result list }
+// Fills an empty group again: it gives the one that was emptied before it.
+fn refill(heads: &mut [u32], groups: &mut [Group], number: u32, hash: u64, list: Rising) -> u32
+    requires number { number < length groups.old }
+    requires few { number < 4294967295 }
+    requires empty { stamped groups.old number ≡ false }
+    requires linked { IsLinked heads.old groups.old }
+    requires stamps { list ≢ [] }
+    ensures lists { lists_of groups.new ≡ set (lists_of groups.old) number (hash, list) }
+    ensures linked { IsLinked heads.new groups.new }
 {
-    let last = lists.len() - 1;
-    if spares.len() == 0 {
-        return last as u32;
-    }
-    into_empty(lists, spares)
+    let group = &mut groups[number as usize];
+    let free = group.next;
+    group.hash = hash;
+    chain(heads, groups, number);
+    let group = &mut groups[number as usize];
+    group.list = list;
+    free
 }
 
-// The same, where lists are known that have become empty. It is a function of its own, so that the common way is short.
-#[inline(never)]
-fn into_empty<K: Eq + Hash + Drop>(
-    lists: &mut IndexMap<K, Rising, BuildHasherDefault<Plain>>,
-    spares: &mut Spares,
-) -> u32
-    requires some { 0 < length lists.old.entries }
-    requires few { length lists.old.entries < 2 ^ 32 }
-    ensures within { result < length lists.old.entries }
-    ensures entered { (before : List (K × List ℕ)) (key : K) (list : List ℕ)
-        → lists.old.entries ≡ before ++ (key, list) ∷ []
-        → lookup (K.eq key) before ≡ None → list ≢ []
-        → IsEntered K.eq before lists.new.entries key result list }
+// Adds a group.
+fn add(
+    heads: &mut Vec<u32>,
+    groups: &mut Vec<Group>,
+    hash: u64,
+    stamp: Stamp,
+) -> Result<u32, NoMemory>
+    requires linked { IsLinked heads.old.items groups.old.items }
+    ensures few { IfOk result (λ n. n < 4294967295) }
+    ensures last { IfOk result (λ n. n ≡ length groups.old.items) }
+    ensures ok { OnOk result (lists_of groups.new.items
+        ≡ lists_of groups.old.items ++ (hash, stamp.0 ∷ []) ∷ []) }
+    ensures err { OnErr result (lists_of groups.new.items ≡ lists_of groups.old.items) }
+    ensures linked { IsLinked heads.new.items groups.new.items }
 {
-    let last = lists.len() - 1;
-    let Some(number) = empty_list(lists, spares) else {
-        return last as u32;
-    };
-    lists.swap_remove_index(number as usize);
-    number
-}
-
-// The number of a list that is empty, if one is known.
-fn empty_list<K: Eq + Hash>(
-    lists: &IndexMap<K, Rising, BuildHasherDefault<Plain>>,
-    spares: &mut Spares,
-) -> Option<u32>
-    ensures { IfSome result (λ n. IsEmptyAt lists.now.entries n) }
-{
-    for _ in 0..spares.len() {
-        let number = spares.pop()?;
-        if let Some((_, list)) = lists.get_index(number as usize) {
-            if list.is_empty() {
-                return Some(number);
-            }
-        }
+    let number = groups.len();
+    if number >= MOST_LISTS {
+        return Err(NoMemory);
     }
-    None
+    make_buckets(heads, groups)?;
+    make_room(groups, 1)?;
+    let list = Rising::one(*groups.allocator(), stamp);
+    groups.push_reserved(Group {
+        hash,
+        next: 0,
+        list,
+    });
+    chain_first(heads, groups, number as u32);
+    Ok(number as u32)
 }

@@ -26,7 +26,7 @@ pub struct Memo {
 }
 
 /// A key as a memo enters it, worked out once.
-#[derive(Clone, Copy)]
+#[derive(Clone, Copy, PartialEq)]
 pub struct Hashed {
     hash: u64,
 }

@@ -21,7 +21,7 @@ use std::marker::Model;
 /// call that is handed an order needs that the table follows it, and leaves it so.
 #[derive(Drop)]
 pub struct Table {
-    lists: Lists<u64>,
+    lists: Lists,
     homes: Homes,
 }
 
@@ -112,13 +112,13 @@ impl Table {
         ensures none { IfNone result (NoneOf order.now.stamps
             (entries_of self.now hash) (S.is sought.now) after.0 until.0) }
     {
-        let list = self.lists.get(&hash)?;
+        let list = self.lists.get(hash)?;
         first_with_key(list, order, sought, after, until)
     }
 }
 
 // Takes a stamp out of the list that is its home.
-fn forget(lists: &mut Lists<u64>, order: &Order, home: Home, stamp: Stamp)
+fn forget(lists: &mut Lists, order: &Order, home: Home, stamp: Stamp)
     requires here { IsTrue (is_in stamp.0 order.now.stamps) }
     requires home { (n : ℕ) → is_in stamp.0 (list_at lists.old n) ≡ true → home ≡ In n }
     requires rising { (n : ℕ) → IsRising order.now.stamps (list_at lists.old n) }

@@ -77,3 +77,19 @@ fn the_earliest_entry_with_a_key_between(rt: HostRuntime) {
     drop(memo);
     drop(order);
 }
+
+#[test]
+fn a_key_has_another_hash_under_another_seed(rt: HostRuntime) {
+    let alloc = rt.alloc();
+    let first = Memo::seeded(alloc, Seed::of(1, 2)).expect(&rt, "memory");
+    let second = Memo::seeded(alloc, Seed::of(3, 2)).expect(&rt, "memory");
+    let third = Memo::seeded(alloc, Seed::of(1, 4)).expect(&rt, "memory");
+    let key = Key::ModPtr(1);
+    let hashed = first.of_alloc(&key);
+    holds(&rt, hashed == first.of_alloc(&key));
+    holds(&rt, hashed != second.of_alloc(&key));
+    holds(&rt, hashed != third.of_alloc(&key));
+    drop(third);
+    drop(second);
+    drop(first);
+}

@@ -159,7 +159,8 @@ fn answer_line(alloc: Global, state: &mut State, line: &[u8]) -> Result<Answer, 
 }
 
 impl Session {
-    /// A session without inputs and without a run. A run may take `fuel` steps.
+    /// A session without inputs and without a run. A run may take `fuel` steps. Its hashes begin with a seed that everybody
+    /// knows: it is for names and values that nobody chooses to be slow.
     pub fn new(alloc: Global, program: Program, fuel: u32) -> Result<Session, NoMemory>
         requires compiled { IsCompiled program }
         requires fuel { IsAllowed fuel }
@@ -168,7 +169,8 @@ impl Session {
         Session::seeded(alloc, program, fuel, Seed::of_text(b""))
     }
 
-    /// The same, where the hashes of names begin with a seed, as of the text that they come from.
+    /// The same, where the hashes of names and of memo keys begin with a seed, as of the text that they come from. Any seed
+    /// gives the same replies.
     pub fn seeded(
         alloc: Global,
         program: Program,
@@ -251,7 +253,7 @@ impl Session {
 
     /// A session that goes on from a save, if it holds. The save may be any, from any maker: the checker goes over its
     /// record, and the call is run again, so nothing but the numbers of `work` and `bound` is taken from it on trust. Both
-    /// arguments are consumed on every path.
+    /// arguments are consumed on every path. Hashes begin with the seed that those of `new` begin with.
     pub fn restore(alloc: Global, program: Program, saved: Saved) -> Result<Session, RestoreError>
         requires compiled { IsCompiled program }
         ensures restored { IfOk result
@@ -262,7 +264,8 @@ impl Session {
         Session::restore_seeded(alloc, program, saved, Seed::of_text(b""))
     }
 
-    /// The same, where the hashes of names begin with a seed, as of the text that they come from.
+    /// The same, where the hashes of names and of memo keys begin with a seed, as of the text that they come from. Any seed
+    /// gives the same replies.
     pub fn restore_seeded(
         alloc: Global,
         program: Program,

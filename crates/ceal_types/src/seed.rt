@@ -2,10 +2,11 @@
 
 use ceal_base::syntax::{Entry, FieldDecl, FunctionDecl, Stmt};
 use ceal_base::text::Text;
+use sha2::{Digest, Sha256};
 use std::hash::{BuildHasher, DefaultHasher, Hasher};
 
-/// What each hash of a table begins with: a number that SipHash makes of all the names that will stand there. So names that
-/// have one hash cannot be prepared: whoever changes one of them changes the hashes of all. No clause depends on it.
+/// What each hash of a table begins with. Made of all that is hashed there, it keeps names of one hash from being prepared:
+/// whoever changes one of them changes the hashes of all. Any seed is right: no clause depends on it.
 #[derive(Clone, Copy)]
 pub struct Seed {
     start: DefaultHasher,
@@ -80,11 +81,13 @@ impl Seed {
         more.finish()
     }
 
-    /// A whole text, for the names that will be read in it.
+    /// A whole text, for all that will be read in it. It begins with the text's SHA-256 digest, which nobody can work
+    /// backwards: nobody finds a text for a seed that he would like.
     pub fn of_text(text: &[u8]) -> Seed {
-        let mut fed = Fed::new();
-        fed.all.write(text);
-        fed.seed()
+        let digest = Sha256::digest(text);
+        let mut start = DefaultHasher::new();
+        start.write(&digest);
+        Seed { start }
     }
 
     /// The names of structs and functions.

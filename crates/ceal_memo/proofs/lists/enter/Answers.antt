@@ -1,18 +1,34 @@
-use Rattle.std.proofs.Common.{sym, ◌∙◌}
-use Rattle.indexmap.proofs.CallerLemmas.{insert_entry-new}
-use Rattle.ceal_memo.proofs.Entering.{entered_and_back}
+use Rattle.std.proofs.Common.{◌≡◌, ◌<◌, ◌++◌, ◌∷◌, [], false, List, ℕ, length, set, sym, ap, subst, ◌∙◌}
+use Rattle.std.proofs.lemmas.List.{with_items_is}
+use Rattle.ceal_memo.specs.declared.chains.Group.{Group}
+use Rattle.ceal_memo.specs.Numbers.{IsEntered}
+use Rattle.ceal_memo.specs.Chains.{lists_of, stamped}
+use Rattle.ceal_memo.proofs.Entering.{entered_last}
+use Rattle.ceal_memo.proofs.Grouping.{length_set, length_lists}
+use Rattle.ceal_memo.proofs.Listing.{filled_again}
 use Rattle.ceal_memo.proofs.lists.enter.Goals as goal
 
-pub returns-in-None-clause-last : goal.returns-in-None-clause-last
-returns-in-None-clause-last g c =
-    c.in_ok-number.ensures.entries ∙ insert_entry-new g.K.PartialEq.eq c.args.lists.now c.args.key c.args.list (sym c.in_ok-number.ensures.old ∙ c.in-None.is)
+pub returns-in-Some-clause-ok : goal.returns-in-Some-clause-ok
+returns-in-Some-clause-ok c =
+    let groups = c.args.groups.now in
+    let new = c.refill.new.groups in
+    let number = c.in-Some.number in
+    let stamps = c.args.stamp.0 ∷ [] in
+    let lists : lists_of new ≡ set (lists_of groups.items) number (c.args.hash, stamps)
+    = c.refill.ensures.lists ∙ ap (λ (gs : List Group). set (lists_of gs) number (c.args.hash, c.one-list.result)) c.deref_mut-in-Some.ensures.value
+    ∙ ap (λ (l : List ℕ). set (lists_of groups.items) number (c.args.hash, l)) c.one-list.ensures in
+    let long : length new ≡ length groups.items
+    = sym (length_lists new) ∙ ap (λ (ls : List (ℕ × List ℕ)). length ls) lists ∙ length_set (lists_of groups.items) number (c.args.hash, stamps) ∙ length_lists groups.items in
+    let back = with_items_is groups new (long ∙ sym groups.ok.0) in
+    let within = subst (λ (gs : List Group). number < length gs) c.deref.ensures.value c.in-Some.ensures.within in
+    let empty = subst (λ (gs : List Group). stamped gs number ≡ false) c.deref.ensures.value c.in-Some.ensures.empty in
+    subst (λ (ls : List (ℕ × List ℕ)). IsEntered (lists_of groups.items) ls c.args.hash number stamps) (sym (ap (λ (gs : List Group). lists_of gs) back ∙ lists))
+    (filled_again groups.items number c.args.hash stamps within empty c.requires.unique c.requires.absent)
 
-pub returns-in-Some-clause-found : goal.returns-in-Some-clause-found
-returns-in-Some-clause-found g c =
-    (entered_and_back g.K.PartialEq.eq c.args.key c.args.list c.in-Some.before c.args.lists.now.entries c.insert_full.new.self.entries c.put_at.new.lists.entries c.in_ok-number.number
-    (sym c.in_ok-number.ensures.old ∙ c.in-Some.is) c.in_ok-number.ensures.entries c.in_ok-number.ensures.index c.put_at.ensures).1
-
-pub returns-in-Some-clause-same : goal.returns-in-Some-clause-same
-returns-in-Some-clause-same g c =
-    (entered_and_back g.K.PartialEq.eq c.args.key c.args.list c.in-Some.before c.args.lists.now.entries c.insert_full.new.self.entries c.put_at.new.lists.entries c.in_ok-number.number
-    (sym c.in_ok-number.ensures.old ∙ c.in-Some.is) c.in_ok-number.ensures.entries c.in_ok-number.ensures.index c.put_at.ensures).0
+pub returns-in_ok-number-in-None-clause-ok : goal.returns-in_ok-number-in-None-clause-ok
+returns-in_ok-number-in-None-clause-ok c =
+    let lists = lists_of c.args.groups.now.items in
+    let stamps = c.args.stamp.0 ∷ [] in
+    subst (λ (ls : List (ℕ × List ℕ)). IsEntered lists ls c.args.hash c.in_ok-number-in-None.number stamps) (sym c.in_ok-number-in-None.ensures.ok)
+    (subst (λ (n : ℕ). IsEntered lists (lists ++ (c.args.hash, stamps) ∷ []) c.args.hash n stamps) (length_lists c.args.groups.now.items ∙ sym c.in_ok-number-in-None.ensures.last)
+    (entered_last lists c.requires.unique c.args.hash stamps c.requires.absent))

@@ -7,5 +7,5 @@ returns-in-Nowhere c = untouched c.args.stamp.0 c.args.lists.now (λ n found. no
 
 pub returns-in-In : goal.returns-in-In
 returns-in-In c =
-    taken c.args.stamp.0 c.in-In.number c.args.lists.now c.take.new.self c.take.ensures.keys c.take.ensures.here c.take.ensures.others
+    taken c.args.stamp.0 c.in-In.number c.args.lists.now c.take.new.self c.take.ensures.hashes c.take.ensures.here c.take.ensures.others
     (λ n found. number_in n c.in-In.number (sym (c.requires.home n found) ∙ c.in-In.is))
