@@ -9,4 +9,4 @@ pub record Roomy : Type 0 where
 
 -- all stamps stand in one of two lists
 abbrev pub InOne : List Stamp → List Stamp → Type 0
-InOne short plain = (short ≡ []) ⊎ (plain ≡ [])
+InOne sequence plain = (sequence ≡ []) ⊎ (plain ≡ [])

@@ -52,15 +52,13 @@ impl Stale {
         ensures err { OnErr result (self.new ≡ self.old) }
         ensures follows { (order : List ℕ) → Follows order self.old → Follows order self.new }
     {
-        if n <= self.spare {
-            return Ok(());
-        }
+        let spare = n.max(self.spare);
         let count = self.stamps.len();
-        if n as usize > u32::MAX as usize - count {
+        if spare as usize > u32::MAX as usize - count {
             return Err(NoMemory);
         }
-        self.stamps.make_room(count + n as usize)?;
-        self.spare = n;
+        self.stamps.make_room(count + spare as usize)?;
+        self.spare = spare;
         Ok(())
     }
 

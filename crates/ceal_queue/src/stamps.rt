@@ -7,18 +7,19 @@ ghost use Rattle.ceal_order.specs.declared.stamp.Stamp.{Stamp as StampOf};
 
 use ceal_base::no_memory::NoMemory;
 use ceal_order::order::Order;
-use ceal_order::short_list::ShortList;
+use ceal_order::search::before_in_chunk;
+use ceal_order::sequence::Sequence;
 use ceal_order::stamp::Stamp;
 use std::alloc::Global;
 use std::marker::Model;
 
 /// A list of stamps. Contracts see `items`, and `capacity`, how many the list may have without a call that can fail.
 ///
-/// They are in a short list, whose calls take few steps wherever a stamp is. Where that takes memory and is refused, all
-/// of them move to a plain list in which there is room for each, and stay there until it is empty.
+/// They are in a sequence, whose calls take few steps wherever a stamp is. Where that has no room for one more, all of
+/// them move to a plain list in which there is room for each, and stay there until it is empty.
 #[derive(Drop)]
 pub struct Stamps {
-    short: ShortList<Stamp>,
+    sequence: Sequence<Stamp>,
     plain: Vec<Stamp>,
 }
 
@@ -29,9 +30,9 @@ impl Model for Stamps {
 
     ghost Value = { Roomy };
 
-    ghost view = { λ a. record { items = a.short ++ a.plain.items; capacity = vec_capacity a.plain } };
+    ghost view = { λ a. record { items = a.sequence ++ a.plain.items; capacity = vec_capacity a.plain } };
 
-    ghost invariant = { λ a. InOne a.short a.plain.items };
+    ghost invariant = { λ a. InOne a.sequence a.plain.items };
 }
 
 impl Stamps {
@@ -40,7 +41,7 @@ impl Stamps {
         ensures items { result.items ≡ [] }
     {
         Stamps {
-            short: ShortList::new(alloc),
+            sequence: Sequence::new(alloc),
             plain: Vec::new(alloc),
         }
     }
@@ -48,15 +49,16 @@ impl Stamps {
     pub fn len(&self) -> usize
         ensures { result ≡ length self.now.items }
     {
-        self.short.len() + self.plain.len()
+        self.sequence.len() + self.plain.len()
     }
 
-    /// Makes room for a list of that many.
+    /// Makes room for a list of that many, and for the next ones in the sequence.
     pub fn make_room(&mut self, len: usize) -> Result<(), NoMemory>
         ensures items { self.new.items ≡ self.old.items }
         ensures raises { self.old.capacity ≤ self.new.capacity }
         ensures room { OnOk result (len ≤ self.new.capacity) }
     {
+        self.sequence.make_ample_room()?;
         self.plain.reserve(len)?;
         Ok(())
     }
@@ -66,7 +68,7 @@ impl Stamps {
         ensures { (other : StampOf) → slice_index_or self.now.items index other ≡ result }
     {
         if self.plain.is_empty() {
-            self.short.get(index)
+            self.sequence.get(index)
         } else {
             self.plain[index]
         }
@@ -115,13 +117,13 @@ impl Stamps {
         ensures within { result ≤ length self.now.items }
     {
         if self.plain.is_empty() {
-            self.short.count_before(order, stamp)
+            self.sequence.count_before(order, stamp)
         } else {
-            before_in_plain(order, &self.plain, stamp)
+            before_in_chunk(order, &self.plain, stamp)
         }
     }
 
-    /// Puts a stamp in at an index.
+    /// Puts a stamp in at an index. No memory is taken.
     pub fn insert(&mut self, index: usize, stamp: Stamp)
         requires within { index ≤ length self.old.items }
         requires room { length self.old.items < self.old.capacity }
@@ -129,9 +131,9 @@ impl Stamps {
         ensures raises { self.old.capacity ≤ self.new.capacity }
     {
         if self.plain.is_empty() {
-            match self.short.insert(index, stamp) {
+            match self.sequence.insert_in_room(index, stamp) {
                 Ok(()) => return,
-                Err(_refused) => move_all(&mut self.short, &mut self.plain),
+                Err(_full) => move_all(&mut self.sequence, &mut self.plain),
             }
         }
         let _ = self.plain.insert(index, stamp);
@@ -144,46 +146,23 @@ impl Stamps {
         ensures capacity { self.new.capacity ≡ self.old.capacity }
     {
         if self.plain.is_empty() {
-            self.short.remove(index);
+            self.sequence.remove(index);
         } else {
             self.plain.remove(index);
         }
     }
 }
 
-// How many stamps of a plain list stand before one.
-fn before_in_plain(order: &Order, stamps: &[Stamp], stamp: Stamp) -> usize
-    requires here { IsTrue (is_in stamp.0 order.now.stamps) }
-    requires rising { IsRising order.now.stamps (numbers stamps.now) }
-    ensures count { result ≡ count_before order.now.stamps stamp.0 (numbers stamps.now) }
-    ensures within { result ≤ length stamps.now }
-{
-    for at in 0..stamps.len() {
-        if !order.before(stamp_at(stamps, at), stamp) {
-            return at;
-        }
-    }
-    stamps.len()
-}
-
-// The stamp at an index.
-fn stamp_at(stamps: &[Stamp], index: usize) -> Stamp
-    requires { index < length stamps.now }
-    ensures { (other : StampOf) → slice_index_or stamps.now index other ≡ result }
-{
-    stamps[index]
-}
-
-// Moves all stamps of a short list to an empty plain one, where there is room for them.
-fn move_all(short: &mut ShortList<Stamp>, plain: &mut Vec<Stamp>)
+// Moves all stamps of a sequence to an empty plain list, where there is room for them.
+fn move_all(sequence: &mut Sequence<Stamp>, plain: &mut Vec<Stamp>)
     requires empty { plain.old.items ≡ [] }
-    requires room { length short.old ≤ vec_capacity plain.old }
-    ensures moved { plain.new.items ≡ short.old }
-    ensures none { short.new ≡ [] }
+    requires room { length sequence.old ≤ vec_capacity plain.old }
+    ensures moved { plain.new.items ≡ sequence.old }
+    ensures none { sequence.new ≡ [] }
     ensures raises { vec_capacity plain.old ≤ vec_capacity plain.new }
 {
-    for at in 0..short.len() {
-        let _ = plain.push(short.get(at));
+    for at in 0..sequence.len() {
+        let _ = plain.push(sequence.get(at));
     }
-    *short = ShortList::new(*plain.allocator());
+    *sequence = Sequence::new(*plain.allocator());
 }
