@@ -4,6 +4,7 @@ pub mod RisingLemmas
 pub mod Editing
 pub mod StampLists
 pub mod Members
+pub mod Searching
 -- the rest
 pub mod Samples
 pub mod Chains
@@ -13,6 +14,5 @@ pub mod Growing
 pub mod Powers
 pub mod Neighbours
 pub mod Spreading
-pub mod Searching
 pub mod TreeLemmas
 pub mod Parts

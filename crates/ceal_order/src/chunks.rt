@@ -1,18 +1,13 @@
 // Items put into a tree of chunks, and taken out of it.
 
-ghost use Rattle.std.specs.Prelude.{◌≡◌, ◌<◌, ◌≤◌, ◌++◌, length, insert, remove, IfOk, OnOk, OnErr};
+ghost use Rattle.std.specs.Prelude.{◌≡◌, ◌<◌, ◌≤◌, ◌++◌, [], length, insert, remove, IfOk, OnOk, OnErr};
 ghost use Rattle.ceal_order.specs.Tree.{items_of, IsCounted};
 
-use crate::tree::{Fork, Tree, count, forked, joined, leaf, merged, taken_first};
+use crate::tree::{
+    CHUNK_ITEMS, Fork, HALF_CHUNK, Tree, count, forked, joined, merged, taken_first,
+};
 use ceal_base::no_memory::NoMemory;
-use std::alloc::Global;
 use std::mem;
-
-// A chunk has no more items than this in a tree.
-pub const CHUNK_ITEMS: usize = 64;
-
-// A full chunk keeps that many where it is halved.
-const HALF_CHUNK: usize = 32;
 
 // A chunk that has fewer items takes those of the next one, where both fit.
 const FEW_ITEMS: usize = 16;
@@ -25,9 +20,10 @@ struct Opened<T> {
     later: Tree<T>,
 }
 
-/// The tree with one more item at an index. Where there is no memory for it, the items are as before.
+/// The tree with one more item at an index, for which a spare fork may be used. Where there is no room for it, the items
+/// are as before.
 pub fn with_item<T: Copy>(
-    alloc: Global,
+    spares: &mut Vec<Box<Fork<T>>>,
     tree: Tree<T>,
     index: usize,
     item: T,
@@ -46,7 +42,7 @@ pub fn with_item<T: Copy>(
             let later = mem::replace(&mut fork.later, Tree::Empty);
             let before = count(&earlier);
             if index < before {
-                let (earlier, done) = with_item(alloc, earlier, index, item);
+                let (earlier, done) = with_item(spares, earlier, index, item);
                 return (joined(earlier, fork, later), done);
             }
             let here = fork.items.len();
@@ -56,9 +52,9 @@ pub fn with_item<T: Copy>(
                     fork,
                     later,
                 };
-                return with_item_here(alloc, opened, index - before, item);
+                return with_item_here(spares, opened, index - before, item);
             }
-            let (later, done) = with_item(alloc, later, index - before - here, item);
+            let (later, done) = with_item(spares, later, index - before - here, item);
             (joined(earlier, fork, later), done)
         }
     }
@@ -66,7 +62,7 @@ pub fn with_item<T: Copy>(
 
 // The same at an index of the chunk of a fork that is opened. A full chunk is halved.
 fn with_item_here<T: Copy>(
-    alloc: Global,
+    spares: &mut Vec<Box<Fork<T>>>,
     opened: Opened<T>,
     index: usize,
     item: T,
@@ -88,7 +84,7 @@ fn with_item_here<T: Copy>(
         let done = put(&mut fork.items, index, item);
         return (Tree::Fork(forked(earlier, fork, later)), done);
     }
-    match second_half(alloc, &mut fork.items) {
+    match second_half(spares, &mut fork.items) {
         Err(error) => (Tree::Fork(forked(earlier, fork, later)), Err(error)),
         Ok(mut second) => {
             let done = put_in_one(&mut fork.items, &mut second.items, index, item);
@@ -110,8 +106,8 @@ pub fn put<T: Copy>(items: &mut Vec<T>, index: usize, item: T) -> Result<(), NoM
     }
 }
 
-// Puts an item into one of two chunks.
-fn put_in_one<T: Copy>(
+/// Puts an item into one of two chunks.
+pub fn put_in_one<T: Copy>(
     first: &mut Vec<T>,
     second: &mut Vec<T>,
     index: usize,
@@ -124,7 +120,7 @@ fn put_in_one<T: Copy>(
         ≡ first.old.items ++ second.old.items) }
 {
     let here = first.len();
-    if index <= here {
+    if index < here {
         put(first, index, item)?;
         return Ok(());
     }
@@ -132,19 +128,54 @@ fn put_in_one<T: Copy>(
     Ok(())
 }
 
-// Takes the second half of a chunk into a fork of its own, whose chunk has room for as many items as fit.
-fn second_half<T: Copy>(alloc: Global, items: &mut Vec<T>) -> Result<Box<Fork<T>>, NoMemory>
+// Takes the second half of a chunk into a spare fork.
+fn second_half<T: Copy>(
+    spares: &mut Vec<Box<Fork<T>>>,
+    items: &mut Vec<T>,
+) -> Result<Box<Fork<T>>, NoMemory>
     requires { 32 ≤ length items.old.items }
     ensures ok { IfOk result
         (λ second. items.new.items ++ second.value.items.items ≡ items.old.items) }
     ensures err { OnErr result (items.new.items ≡ items.old.items) }
 {
-    let mut half = Vec::with_capacity(alloc, CHUNK_ITEMS)?;
-    half.extend_from_slice(&items[HALF_CHUNK..])?;
-    let mut second = leaf(alloc)?;
+    let mut second = taken_spare(spares)?;
+    second.items.extend_from_slice(&items[HALF_CHUNK..])?;
     items.truncate(HALF_CHUNK);
-    second.items = half;
     Ok(second)
+}
+
+// A spare fork, where there is one. It has no items.
+fn taken_spare<T: Copy>(spares: &mut Vec<Box<Fork<T>>>) -> Result<Box<Fork<T>>, NoMemory>
+    ensures { IfOk result (λ fork. fork.value.items.items ≡ []) }
+{
+    match spares.pop() {
+        None => Err(NoMemory),
+        Some(mut fork) => {
+            fork.items.clear();
+            Ok(fork)
+        }
+    }
+}
+
+/// Takes the items of a full chunk into a spare fork, the first half where one more comes among them, and all where it
+/// comes after them. The others stay.
+pub fn front_part<T: Copy>(
+    spares: &mut Vec<Box<Fork<T>>>,
+    items: &mut Vec<T>,
+    index: usize,
+) -> Result<Box<Fork<T>>, NoMemory>
+    requires { 32 ≤ length items.old.items }
+    ensures ok { IfOk result
+        (λ front. front.value.items.items ++ items.new.items ≡ items.old.items) }
+    ensures err { OnErr result (items.new.items ≡ items.old.items) }
+{
+    let mut front = if index < CHUNK_ITEMS {
+        second_half(spares, items)?
+    } else {
+        taken_spare(spares)?
+    };
+    mem::swap(&mut front.items, items);
+    Ok(front)
 }
 
 /// The tree without the item at an index. A chunk that has become empty goes, and one of few items takes in the next one.

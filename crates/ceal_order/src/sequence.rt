@@ -1,14 +1,15 @@
 // Items in a sequence.
 
-ghost use Rattle.std.specs.Prelude.{◌≡◌, ◌<◌, ◌≤◌, [], length, insert, remove, slice_index_or, IfSome, IfNone, OnOk, OnErr, IsTrue};
+ghost use Rattle.std.specs.Prelude.{◌≡◌, ◌<◌, ◌≤◌, ◌++◌, [], length, insert, remove, slice_index_or, IfSome, IfNone, OnOk, OnErr, IsTrue};
 ghost use Rattle.ceal_order.specs.Stamps.{is_in};
 ghost use Rattle.ceal_order.specs.Rising.{numbers, count_before, IsRising, IsFirstAfter, NoneAfter};
+ghost use Rattle.ceal_order.specs.Tree.{items_of, IsCounted};
 
-use crate::chunks::{CHUNK_ITEMS, put, with_item, without_item};
+use crate::chunks::{front_part, put, put_in_one, with_item, without_item};
 use crate::order::Order;
 use crate::search::{before_in_chunk, before_in_tree};
 use crate::stamp::Stamp;
-use crate::tree::{Tree, count, item_at, joined, leaf};
+use crate::tree::{CHUNK_ITEMS, Fork, HALF_CHUNK, Tree, count, item_at, joined, leaf};
 use ceal_base::no_memory::NoMemory;
 use std::alloc::Global;
 use std::marker::Model;
@@ -19,10 +20,13 @@ const MOST_ITEMS: usize = 4294967295;
 
 /// A list of items. The last ones stand in a chunk of their own, and those before them in chunks in a tree, so that each
 /// change takes as many steps as the logarithm of the number of items, wherever it is, and one at the end mostly few.
+///
+/// Memory is taken by `make_room` and `make_ample_room`, which keep spare forks for the insertions that follow.
 #[derive(Drop)]
 pub struct Sequence<T> {
     front: Tree<T>,
     last: Vec<T>,
+    spares: Vec<Box<Fork<T>>>,
 }
 
 impl<T> Model for Sequence<T> {
@@ -47,6 +51,7 @@ impl<T: Copy> Sequence<T> {
         Sequence {
             front: Tree::Empty,
             last: Vec::new(alloc),
+            spares: Vec::new(alloc),
         }
     }
 
@@ -74,19 +79,84 @@ impl<T: Copy> Sequence<T> {
         ensures ok { OnOk result (self.new ≡ insert self.old index item) }
         ensures err { OnErr result (self.new ≡ self.old) }
     {
+        self.make_room()?;
+        self.insert_in_room(index, item)?;
+        Ok(())
+    }
+
+    /// Takes what memory the next insertion may need.
+    pub fn make_room(&mut self) -> Result<(), NoMemory>
+        ensures { self.new ≡ self.old }
+    {
+        if self.last.len() == self.last.capacity() {
+            self.last.reserve(1)?;
+        }
+        self.make_spare()?;
+        Ok(())
+    }
+
+    // Makes a spare fork, where the next insertion may need one and there is none.
+    fn make_spare(&mut self) -> Result<(), NoMemory>
+        ensures { self.new ≡ self.old }
+    {
+        if self.spares.len() > 0 {
+            return Ok(());
+        }
+        if self.last.len() < CHUNK_ITEMS && count(&self.front) == 0 {
+            return Ok(());
+        }
+        self.add_spare()?;
+        Ok(())
+    }
+
+    // Makes one more spare fork.
+    fn add_spare(&mut self) -> Result<(), NoMemory>
+        ensures { self.new ≡ self.old }
+    {
+        let fork = leaf(*self.last.allocator())?;
+        self.spares.push(fork)?;
+        Ok(())
+    }
+
+    /// Takes what memory the next insertion may need, and where there are many items, some for those after it: after a few
+    /// such calls each chunk may be halved once without taking memory.
+    pub fn make_ample_room(&mut self) -> Result<(), NoMemory>
+        ensures { self.new ≡ self.old }
+    {
+        self.make_room()?;
+        let chunks = self.len() / HALF_CHUNK;
+        if self.spares.len() < chunks {
+            self.add_spare()?;
+        }
+        if self.spares.len() < chunks {
+            self.add_spare()?;
+        }
+        Ok(())
+    }
+
+    /// Puts an item in at an index, without taking memory. `NoMemory` where there is no room.
+    pub fn insert_in_room(&mut self, index: usize, item: T) -> Result<(), NoMemory>
+        requires { index ≤ length self.old }
+        ensures ok { OnOk result (self.new ≡ insert self.old index item) }
+        ensures err { OnErr result (self.new ≡ self.old) }
+    {
         if self.len() >= MOST_ITEMS {
             return Err(NoMemory);
         }
-        self.make_room()?;
         let before = count(&self.front);
         if index < before {
-            let alloc = *self.last.allocator();
             let front = mem::replace(&mut self.front, Tree::Empty);
-            let (front, done) = with_item(alloc, front, index, item);
+            let (front, done) = with_item(&mut self.spares, front, index, item);
             self.front = front;
             return done;
         }
-        put(&mut self.last, index - before, item)?;
+        put_last(
+            &mut self.front,
+            &mut self.last,
+            &mut self.spares,
+            index - before,
+            item,
+        )?;
         Ok(())
     }
 
@@ -102,21 +172,6 @@ impl<T: Copy> Sequence<T> {
         } else {
             self.last.remove(index - before);
         }
-    }
-
-    // Puts the last chunk into the tree where it is full.
-    fn make_room(&mut self) -> Result<(), NoMemory>
-        ensures { self.new ≡ self.old }
-    {
-        if self.last.len() < CHUNK_ITEMS {
-            return Ok(());
-        }
-        let alloc = *self.last.allocator();
-        let mut fork = leaf(alloc)?;
-        fork.items = mem::replace(&mut self.last, Vec::new(alloc));
-        let front = mem::replace(&mut self.front, Tree::Empty);
-        self.front = joined(front, fork, Tree::Empty);
-        Ok(())
     }
 }
 
@@ -158,4 +213,56 @@ impl Sequence<Stamp> {
         }
         Some(self.get(next))
     }
+}
+
+// Puts an item into the last chunk, where that has room for it.
+fn put_last<T: Copy>(
+    front: &mut Tree<T>,
+    last: &mut Vec<T>,
+    spares: &mut Vec<Box<Fork<T>>>,
+    index: usize,
+    item: T,
+) -> Result<(), NoMemory>
+    requires counted { IsCounted front.old }
+    requires within { index ≤ length last.old.items }
+    ensures ok { OnOk result (items_of front.new ++ last.new.items
+        ≡ items_of front.old ++ insert last.old.items index item) }
+    ensures err { OnErr result
+        (items_of front.new ++ last.new.items ≡ items_of front.old ++ last.old.items) }
+    ensures counted { IsCounted front.new }
+{
+    let here = last.len();
+    if here >= CHUNK_ITEMS {
+        put_full(front, last, spares, index, item)?;
+        return Ok(());
+    }
+    if here == last.capacity() {
+        return Err(NoMemory);
+    }
+    put(last, index, item)?;
+    Ok(())
+}
+
+// The same where the last chunk is full: it goes into the tree, or the first half of it.
+fn put_full<T: Copy>(
+    front: &mut Tree<T>,
+    last: &mut Vec<T>,
+    spares: &mut Vec<Box<Fork<T>>>,
+    index: usize,
+    item: T,
+) -> Result<(), NoMemory>
+    requires counted { IsCounted front.old }
+    requires full { 64 ≤ length last.old.items }
+    requires within { index ≤ length last.old.items }
+    ensures ok { OnOk result (items_of front.new ++ last.new.items
+        ≡ items_of front.old ++ insert last.old.items index item) }
+    ensures err { OnErr result
+        (items_of front.new ++ last.new.items ≡ items_of front.old ++ last.old.items) }
+    ensures counted { IsCounted front.new }
+{
+    let mut fork = front_part(spares, last, index)?;
+    let done = put_in_one(&mut fork.items, last, index, item);
+    let tree = mem::replace(front, Tree::Empty);
+    *front = joined(tree, fork, Tree::Empty);
+    done
 }

@@ -11,6 +11,12 @@ use ceal_base::no_memory::NoMemory;
 use std::alloc::Global;
 use std::mem;
 
+// A chunk has no more items than this in a tree.
+pub const CHUNK_ITEMS: usize = 64;
+
+// A full chunk keeps that many where it is halved.
+pub const HALF_CHUNK: usize = 32;
+
 #[cycle(tree)]
 #[derive(Drop)]
 pub enum Tree<T> {
@@ -70,14 +76,15 @@ pub fn item_at<T: Copy>(tree: &Tree<T>, index: usize) -> T
     }
 }
 
-/// A fork of no items.
+/// A fork of no items, with room for as many as a chunk has.
 pub fn leaf<T: Copy>(alloc: Global) -> Result<Box<Fork<T>>, NoMemory>
     ensures { IfOk result (λ fork. fork.value.items.items ≡ []) }
 {
+    let items = Vec::with_capacity(alloc, CHUNK_ITEMS)?;
     Ok(Box::new(
         alloc,
         Fork {
-            items: Vec::new(alloc),
+            items,
             count: 0,
             height: 0,
             earlier: Tree::Empty,

@@ -1,2 +1,2 @@
-pub mod TreeLemmas
+pub mod QueueLemmas
 pub mod Samples

@@ -1,10 +1,8 @@
 -- Three stale reads that wait, and the earliest of them.
 use Rattle.std.proofs.Common.{◌≡◌, ℕ, List, [], ◌∷◌, Some, refl, sym, lit<, arith}
-use Rattle.ceal_queue.proofs.TreeLemmas.{in_other}
+use Rattle.ceal_queue.proofs.QueueLemmas.{in_other}
 use Rattle.ceal_queue.specs.Queue.{Waiting, Follows, IsBefore, IsEarliest, IsWithout}
-use Rattle.ceal_queue.specs.Tree.{stamps_of}
 use Rattle.ceal_order.specs.declared.stamp.Stamp.{Stamp}
-use Rattle.ceal_queue.specs.declared.tree.Tree.{Empty, Fork'}
 
 -- time is told by an order of stamps, and not by their numbers
 abbrev order : List ℕ
@@ -28,10 +26,3 @@ not_before_it h = absurd (omega (arith, h))
 
 taken_out : IsWithout 7 waiting.stamps (9 ∷ 4 ∷ [])
 taken_out = record { gone = refl; others = λ t other. sym (in_other t 7 (9 ∷ 4 ∷ []) (λ e. other (sym e))) }
-
--- the tree that has them, with the middle one on top
-abbrev stamp : ℕ → Stamp
-stamp s = record { 0 = s }
-
-from_left_to_right : (p q r : _) → stamps_of (Fork' p (stamp 9) 2 (Fork' q (stamp 7) 1 Empty Empty) (Fork' r (stamp 4) 1 Empty Empty)) ≡ waiting.stamps
-from_left_to_right p q r = refl

@@ -1,3 +1,4 @@
 -- what the crate promises
 pub mod Queue
-pub mod Tree
+-- what its own functions say of each other
+pub mod Roomy

@@ -34,8 +34,7 @@ pub record IsEarliest (order stamps : List ℕ) (s : ℕ) : Type 0 where
   pub there : is_in s stamps ≡ true
   pub first : (t : ℕ) → is_in t stamps ≡ true → place s order ≤ place t order
 
--- how the parts of a queue fit: the count is that of the stamps, and there is a place for each fork that comes back
-pub record Fits (stamps count spare capacity : ℕ) : Type 0 where
-  pub counted : count ≡ stamps
+-- how the parts of a queue fit: there are few stamps and spare places, and room for all of them
+pub record Fits (count spare capacity : ℕ) : Type 0 where
   pub few : count + spare < 2 ^ 32
   pub places : count + spare ≤ capacity

@@ -5,36 +5,31 @@ ghost use Rattle.std.specs.Option.{ForSome};
 ghost use Rattle.ceal_order.specs.Stamps.{is_in};
 ghost use Rattle.ceal_queue.specs.Queue.{Follows, IsWith, IsWithout, IsBefore, IsEarliest};
 
-use crate::tree::{
-    Fork, Tree, add_forks, first_stamp, has, taken_first, with_stamp, without_stamp,
-};
+use crate::stamps::Stamps;
 use ceal_base::no_memory::NoMemory;
 use ceal_order::order::Order;
 use ceal_order::stamp::Stamp;
 use std::alloc::Global;
 use std::marker::Model;
-use std::mem;
 
 /// A set of stamps. Contracts see `stamps`, from the earliest to the latest, and `spare`, how many more can be put in
 /// without taking memory. Each call that is handed an order needs that the queue follows it, and leaves it so.
 #[derive(Drop)]
 pub struct Stale {
-    tree: Tree,
-    count: u32,
-    spares: Vec<Box<Fork>>,
+    stamps: Stamps,
+    spare: u32,
 }
 
 impl Model for Stale {
     ghost use Rattle.std.specs.Prelude.{length};
-    ghost use Rattle.std.specs.Vec.{vec_len, vec_capacity};
+    ghost use Rattle.ceal_order.specs.Rising.{numbers};
     ghost use Rattle.ceal_queue.specs.Queue.{Waiting, Fits};
-    ghost use Rattle.ceal_queue.specs.Tree.{stamps_of};
 
     ghost Value = { Waiting };
 
-    ghost view = { λ a. record { stamps = stamps_of a.tree; spare = vec_len a.spares } };
+    ghost view = { λ a. record { stamps = numbers a.stamps.items; spare = a.spare } };
 
-    ghost invariant = { λ a. Fits (length (stamps_of a.tree)) a.count (vec_len a.spares) (vec_capacity a.spares) };
+    ghost invariant = { λ a. Fits (length a.stamps.items) a.spare a.stamps.capacity };
 }
 
 impl Stale {
@@ -45,9 +40,8 @@ impl Stale {
         ensures follows { IfOk result (λ queue. (order : List ℕ) → Follows order queue) }
     {
         Ok(Stale {
-            tree: Tree::Empty,
-            count: 0,
-            spares: Vec::new(alloc),
+            stamps: Stamps::new(alloc),
+            spare: 0,
         })
     }
 
@@ -58,16 +52,14 @@ impl Stale {
         ensures err { OnErr result (self.new ≡ self.old) }
         ensures follows { (order : List ℕ) → Follows order self.old → Follows order self.new }
     {
-        let spare = self.spares.len() as u32;
-        if n <= spare {
-            return Ok(());
-        }
-        let more = n.saturating_sub(spare);
-        if more > u32::MAX - self.count - spare {
+        let spare = n.max(self.spare);
+        let count = self.stamps.len();
+        if spare as usize > u32::MAX as usize - count {
             return Err(NoMemory);
         }
-        self.spares.reserve((self.count + more) as usize)?;
-        add_forks(&mut self.spares, more)
+        self.stamps.make_room(count + spare as usize)?;
+        self.spare = spare;
+        Ok(())
     }
 
     /// Puts a stamp in. One that is there already changes nothing, and needs no room.
@@ -83,15 +75,10 @@ impl Stale {
             → self.new.spare + 1 ≡ self.old.spare }
         ensures follows { Follows order.now.stamps self.new }
     {
-        if has(order, &self.tree, stamp) {
-            return;
+        if let Err(at) = self.stamps.search(order, stamp) {
+            self.stamps.insert(at, stamp);
+            self.spare -= 1;
         }
-        let Some(fork) = self.spares.pop() else {
-            unreachable!()
-        };
-        let tree = mem::replace(&mut self.tree, Tree::Empty);
-        self.tree = with_stamp(order, tree, fork, stamp);
-        self.count += 1;
     }
 
     /// The earliest stamp, which stays.
@@ -100,7 +87,7 @@ impl Stale {
             → IsEarliest order self.now.stamps s.0) }
         ensures none { IfNone result ((s : ℕ) → is_in s self.now.stamps ≡ false) }
     {
-        first_stamp(&self.tree)
+        self.stamps.first()
     }
 
     /// Takes out the earliest stamp before the limit, or the earliest of all where there is no limit. None where there
@@ -120,20 +107,13 @@ impl Stale {
         ensures unchanged { IfNone result (self.new ≡ self.old) }
         ensures follows { Follows order.now.stamps self.new }
     {
-        let first = first_stamp(&self.tree)?;
+        let first = self.stamps.first()?;
         if !is_before(order, first, limit) {
             return None;
         }
-        match mem::replace(&mut self.tree, Tree::Empty) {
-            Tree::Empty => unreachable!(),
-            Tree::Fork(fork) => {
-                let (earliest, rest) = taken_first(fork);
-                self.tree = rest;
-                self.count -= 1;
-                let _ = self.spares.push(earliest);
-                Some(first)
-            }
-        }
+        self.stamps.remove(0);
+        self.spare += 1;
+        Some(first)
     }
 
     /// Takes a stamp out. One that is not there changes nothing.
@@ -147,14 +127,10 @@ impl Stale {
         ensures absent { is_in stamp.0 self.old.stamps ≡ false → self.new ≡ self.old }
         ensures follows { Follows order.now.stamps self.new }
     {
-        if !has(order, &self.tree, stamp) {
-            return;
+        if let Ok(at) = self.stamps.search(order, stamp) {
+            self.stamps.remove(at);
+            self.spare += 1;
         }
-        let tree = mem::replace(&mut self.tree, Tree::Empty);
-        let (taken, rest) = without_stamp(order, tree, stamp);
-        self.tree = rest;
-        self.count -= 1;
-        let _ = self.spares.push(taken);
     }
 }
 

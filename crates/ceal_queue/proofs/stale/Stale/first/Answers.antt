@@ -1,12 +1,11 @@
 use Rattle.std.proofs.Common.{◌≡◌, ℕ, Option, Some, None, List, [], ◌∷◌, subst}
 use Rattle.std.specs.Option.{option_map}
 use Rattle.std.specs.Prelude.{IfSome}
-use Rattle.ceal_order.specs.Rising.{IsRising}
+use Rattle.ceal_order.specs.Rising.{numbers, IsRising}
 use Rattle.ceal_order.specs.Stamps.{head_of}
 use Rattle.ceal_order.specs.declared.stamp.Stamp.{Stamp}
 use Rattle.ceal_queue.specs.Queue.{Waiting, Follows, IsEarliest}
-use Rattle.ceal_queue.specs.Tree.{stamps_of}
-use Rattle.ceal_queue.proofs.TreeLemmas.{is_earliest}
+use Rattle.ceal_queue.proofs.QueueLemmas.{is_earliest}
 use Rattle.ceal_queue.proofs.stale.Stale.first.Goals as goal
 
 earliest-of : (o : Option Stamp) (ss : List ℕ) → option_map (λ (s : Stamp). s.0) o ≡ head_of ss → IfSome o (λ s. (order : List ℕ) → IsRising order ss → IsEarliest order ss s.0)
@@ -16,5 +15,5 @@ earliest-of (Some s) (x ∷ ss) e = λ order rising. let same : x ≡ s.0 = cc i
 
 pub returns-clause-first : goal.returns-clause-first
 returns-clause-first c =
-    subst (λ (q : Waiting). IfSome c.first_stamp.result (λ s. (order : List ℕ) → Follows order q → IsEarliest order q.stamps s.0)) c.self.view_is
-    (earliest-of c.first_stamp.result (stamps_of c.self.inside.tree) c.first_stamp.ensures)
+    subst (λ (q : Waiting). IfSome c.first.result (λ s. (order : List ℕ) → Follows order q → IsEarliest order q.stamps s.0)) c.self.view_is
+    (earliest-of c.first.result (numbers c.self.inside.stamps.items) c.first.ensures.first)

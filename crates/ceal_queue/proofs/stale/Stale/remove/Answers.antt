@@ -1,26 +1,22 @@
-use Rattle.std.proofs.Common.{arith, rules, sym}
-use Rattle.ceal_queue.specs.Tree.{stamps_of}
-use Rattle.ceal_queue.proofs.TreeLemmas.{is_without, rising_without, length-without}
+use Rattle.std.proofs.Common.{◌≡◌, arith}
+use Rattle.ceal_order.specs.Rising.{numbers}
+use Rattle.ceal_order.specs.Stamps.{without}
+use Rattle.ceal_order.proofs.Editing.{numbers-remove, remove_place, rising_without}
+use Rattle.ceal_queue.proofs.QueueLemmas.{is_without, length-without}
 use Rattle.ceal_queue.proofs.stale.Stale.remove.Goals as goal
 
-pub invariant_of-self : goal.invariant_of-self
-invariant_of-self c =
-    let left = rw c.replace-tree.ensures.value at c.without_stamp-taken.ensures in
-    let long = length-without c.args.stamp.0 (stamps_of c.self.inside.tree) (sym c.if-not-has.ensures) in
-    record { counted = rw left (omega (arith, long)); few = search rules; places = search rules }
+left : (c : goal.After-self-1) → numbers c.remove.new.self.items ≡ without c.args.stamp.0 (numbers c.self.inside.stamps.items)
+left c = rw (c.remove.ensures.items, numbers-remove, c.in-Ok.ensures.place) (remove_place c.args.stamp.0 (numbers c.self.inside.stamps.items) c.in-Ok.ensures.there)
 
-pub returns-clause-without : goal.returns-clause-without
-returns-clause-without c =
-    let left = rw c.replace-tree.ensures.value at c.without_stamp-taken.ensures in
-    rw (left, ← c.self.view_is) (is_without c.args.order.now.stamps _ _ (rw (← c.self.view_is) at c.requires.follows))
+pub returns-in-Ok-clause-without : goal.returns-in-Ok-clause-without
+returns-in-Ok-clause-without c =
+    rw (left c, ← c.self.view_is) (is_without c.args.order.now.stamps _ _ (rw (← c.self.view_is) at c.requires.follows))
 
-pub returns-clause-follows : goal.returns-clause-follows
-returns-clause-follows c =
-    let left = rw c.replace-tree.ensures.value at c.without_stamp-taken.ensures in
-    rw left (rising_without _ _ _ (rw (← c.self.view_is) at c.requires.follows))
+pub returns-in-Ok-clause-follows : goal.returns-in-Ok-clause-follows
+returns-in-Ok-clause-follows c =
+    rw (left c) (rising_without _ _ _ (rw (← c.self.view_is) at c.requires.follows))
 
-pub returns-clause-fewer : goal.returns-clause-fewer
-returns-clause-fewer c = λ i.
-    let left = rw c.replace-tree.ensures.value at c.without_stamp-taken.ensures in
-    let long = length-without c.args.stamp.0 (stamps_of c.self.inside.tree) (sym c.if-not-has.ensures) in
-    rw (left, ← c.self.view_is) (omega (arith, long))
+pub returns-in-Ok-clause-fewer : goal.returns-in-Ok-clause-fewer
+returns-in-Ok-clause-fewer c = λ i.
+    let long = length-without c.args.stamp.0 (numbers c.self.inside.stamps.items) c.in-Ok.ensures.there in
+    rw (left c, ← c.self.view_is) (omega (arith, long))
