@@ -1,5 +1,5 @@
 -- What a conversation has come to.
-use Rattle.std.specs.Prelude.{◌≡◌, ℕ, Bool, true, false, List, [], ◌∷◌, ◌++◌, Option, Result, MatchResult, option_map, take}
+use Rattle.std.specs.Prelude.{◌≡◌, ◌≤◌, ℕ, Bool, true, false, List, [], ◌∷◌, ◌++◌, Option, Result, MatchResult, option_map, take, length}
 
 -- How many steps a run may take in it, what was heard so far, whether its end was heard, and what was said so far.
 pub record Exchange : Type 0 where
@@ -31,3 +31,11 @@ pub record IsBegun (fuel : ℕ) (e : Exchange) : Type 0 where
   pub unheard : e.heard ≡ []
   pub going : e.ended ≡ false
   pub unsaid : e.said ≡ []
+
+-- a text of this sort was said
+abbrev pub Says : Option Exchange → Option Exchange → (List ℕ → Type 0) → Type 0
+Says old new P = (text : List ℕ) × P text × (new ≡ option_map (saying text) old)
+
+-- The first bytes of these were said.
+abbrev pub SaysPrefix : Option Exchange → Option Exchange → List ℕ → Type 0
+SaysPrefix old new bytes = (count : ℕ) × (count ≤ length bytes) × (new ≡ option_map (saying (take count bytes)) old)

@@ -1,5 +1,5 @@
 -- What is said for what was heard.
-use Rattle.std.specs.Prelude.{◌≡◌, ◌≢◌, ◌⊎◌, ◌<◌, ◌≤◌, ◌-◌, ◌^◌, ℕ, Bool, true, List, [], ◌++◌, All, length}
+use Rattle.std.specs.Prelude.{◌≡◌, ◌≢◌, ◌⊎◌, ◌<◌, ◌≤◌, ◌+◌, ◌-◌, ◌^◌, ℕ, Bool, true, false, List, [], ◌∷◌, ◌++◌, length, take}
 use Rattle.ceal_base.specs.declared.fault.Fault.{Fault}
 use Rattle.ceal_compile.specs.FaultLine.{fault_line}
 use Rattle.ceal_compile.specs.Source.{IsFirstFault}
@@ -49,7 +49,8 @@ IsAnswered fuel lines said = (HasNoMark lines × (said ≡ [])) ⊎ IsServed fue
 
 -- no byte is a line feed
 abbrev pub IsOneLine : List ℕ → Type 0
-IsOneLine text = All (λ b. b ≢ LINE_FEED) text
+IsOneLine [] = Unit {0}
+IsOneLine (b ∷ bs) = (b ≢ LINE_FEED) × IsOneLine bs
 
 -- More may be asked for: what was heard is complete lines, to which all was said, and the beginning of one more line.
 pub record IsTurn (e : Exchange) : Type 0 where
@@ -75,3 +76,24 @@ IsSaidFor fuel text said = IsServed fuel true text said ⊎ IsTurnedAway true te
 -- What was said begins all that is said for what was heard.
 abbrev pub IsBeginning : Exchange → Type 0
 IsBeginning e = Begins (IsSaidFor e.fuel e.heard) e.said
+
+-- the most bytes that a source part has with its mark, and a line with its line feed
+abbrev pub LIMIT : ℕ
+LIMIT = 4194304
+
+-- Among the first bytes, at most as many as this, is no line feed, and there are more.
+pub record IsLong (limit : ℕ) (text : List ℕ) : Type 0 where
+  pub one : IsOneLine (take limit text)
+  pub long : limit < length text
+
+-- What was heard has complete lines, and after them too much: of a source part without its mark, or of one line.
+pub record IsTooLong (e : Exchange) : Type 0 where
+  pub lines : List ℕ
+  pub part : List ℕ
+  pub heard : e.heard ≡ lines ++ part
+  pub complete : IsBeforeLine lines
+  pub long : IsLong LIMIT part ⊎ (HasNoMark lines × IsLong (LIMIT - length lines) part)
+
+-- So it is, or the lines are more than a number of 64 bits counts.
+abbrev pub IsOverlong : Exchange → Type 0
+IsOverlong e = IsTooLong e ⊎ (2 ^ 64 - 1 ≤ length e.heard)

@@ -1,26 +1,60 @@
 // The lines of what is heard.
 
+ghost use Rattle.std.specs.Prelude.{◌≡◌, ◌+◌, ◌-◌, ◌<◌, ◌≤◌, ◌++◌, [], Some, Ok, Err, length, drop, vec_len, IfSome, IfOk, IfErr, IsErrOf, MatchOption, OnOk, OnErr, option_map};
+ghost use Rattle.ceal_io.specs.Streams.{Rose};
+ghost use Rattle.ceal_serve.specs.Listening.{IsCaughtUp, Hears, HearsMore, HearsEnd, HearsSome, HasLine, heard_end};
+ghost use Rattle.ceal_serve.specs.Turns.{IsLong, IsOneLine, IsTurn};
+
 use crate::conversation::Conversation;
 use crate::trouble::Trouble;
 use std::alloc::Global;
+use std::marker::Model;
 
 /// How many bytes are asked for at once.
 const PIECE: usize = 4096;
 
-/// What was heard and not yet taken.
+/// The most bytes that a source part has with its mark, and a line with its line feed.
+pub const LIMIT: usize = 4_194_304;
+
+/// What was heard and not yet taken, as contracts see it.
 #[derive(Drop)]
 pub struct Lines {
     bytes: Vec<u8>,
     from: usize,
 }
 
+impl Model for Lines {
+    ghost use Rattle.std.specs.Prelude.{◌≤◌, drop, vec_len, List, ℕ};
+
+    ghost Value = { List ℕ };
+
+    ghost view = { λ s. drop s.from s.bytes.items };
+
+    ghost invariant = { λ s. (s.from ≤ vec_len s.bytes) × (vec_len s.bytes ≤ 4198400) };
+}
+
+// Removes the first bytes.
+fn remove_front(bytes: &mut Vec<u8>, count: usize)
+    requires { count ≤ vec_len bytes.old }
+    ensures items { bytes.new.items ≡ drop count bytes.old.items }
+    ensures len { vec_len bytes.new ≡ vec_len bytes.old - count }
+{
+    let len = bytes.len();
+    bytes.as_mut_slice().copy_within(count..len, 0);
+    bytes.truncate(len - count);
+}
+
 // Where the first line feed is.
-fn line_end(text: &[u8]) -> Option<usize> {
+fn line_end(text: &[u8]) -> Option<usize>
+    ensures { MatchOption result (IsOneLine text.now) (λ at. HasLine text.now at) }
+{
     text.iter().position(|b| *b == b'\n')
 }
 
 // The place of a line feed, unless the line that it ends has too many bytes.
-fn within(at: usize, limit: usize) -> Result<Option<usize>, Trouble> {
+fn within(at: usize, limit: usize) -> Result<Option<usize>, Trouble>
+    ensures { (at < limit → result ≡ Ok (Some at)) × (limit ≤ at → result ≡ Err Trouble.TooLong) }
+{
     if at < limit {
         Ok(Some(at))
     } else {
@@ -30,7 +64,9 @@ fn within(at: usize, limit: usize) -> Result<Option<usize>, Trouble> {
 
 impl Lines {
     /// Nothing was heard.
-    pub fn new(alloc: Global) -> Lines {
+    pub fn new(alloc: Global) -> Lines
+        ensures { result ≡ [] }
+    {
         Lines {
             bytes: Vec::new(alloc),
             from: 0,
@@ -38,33 +74,55 @@ impl Lines {
     }
 
     /// What was heard and not yet taken.
-    pub fn rest(&self) -> &[u8] {
+    pub fn rest(&self) -> &[u8]
+        ensures rest { result.now ≡ self.now }
+        ensures bound { length result.now ≤ 4198400 }
+    {
         &self.bytes[self.from..]
     }
 
     /// Takes the first bytes.
-    pub fn take(&mut self, count: usize) {
+    pub fn take(&mut self, count: usize)
+        requires { count ≤ length self.old }
+        ensures { self.new ≡ drop count self.old }
+    {
         self.from += count;
     }
 
-    // Lets go of the memory of what was taken.
-    fn keep_rest(&mut self) {
-        let rest = self.bytes.len() - self.from;
-        self.bytes.copy_within(self.from.., 0);
-        self.bytes.truncate(rest);
+    // Keeps what was heard after what is there, and lets go of what was taken.
+    fn keep(&mut self, piece: &[u8]) -> Result<(), Trouble>
+        requires room { length self.old + length piece.now ≤ 4198400 }
+        ensures kept { OnOk result (self.new ≡ self.old ++ piece.now) }
+        ensures memory { IfErr result (λ trouble. trouble ≡ Trouble.Memory) }
+    {
+        remove_front(&mut self.bytes, self.from);
         self.from = 0;
+        self.bytes.extend_from_slice(piece)?;
+        Ok(())
     }
 
     // Hears more, and answers where it begins; nothing at the end of what there is to hear.
-    fn hear<C: Conversation>(&mut self, talk: &mut C) -> Result<Option<usize>, Trouble> {
+    fn hear<C: Conversation>(&mut self, talk: &mut C) -> Result<Option<usize>, Trouble>
+        requires turn { IfSome (C.exchange talk.old) IsTurn }
+        requires room { length self.old ≤ LIMIT }
+        ensures heard { IfOk result (λ found. MatchOption found
+            ((C.exchange talk.new ≡ option_map heard_end (C.exchange talk.old)) × (self.new ≡ self.old))
+            (λ before. HearsMore (C.exchange talk.old) (C.exchange talk.new) self.old self.new × (before ≡ length self.old))) }
+        ensures lost { OnErr result (HearsSome (C.exchange talk.old) (C.exchange talk.new)) }
+        ensures long { ¬ IsErrOf result Trouble.TooLong }
+        ensures writing { ¬ IsErrOf result Trouble.WriteFault }
+        ensures fault { IsErrOf result Trouble.ReadFault
+            → Rose (C.read_faults talk.old) (C.read_faults talk.new) }
+        ensures later { C.read_faults talk.old ≤ C.read_faults talk.new }
+        ensures writes { C.write_faults talk.new ≡ C.write_faults talk.old }
+    {
         let mut piece = [0u8; PIECE];
         let count = talk.read(&mut piece)?;
         if count == 0 {
             return Ok(None);
         }
-        self.keep_rest();
-        let before = self.bytes.len();
-        self.bytes.extend_from_slice(&piece[..count])?;
+        let before = self.rest().len();
+        self.keep(&piece[..count])?;
         Ok(Some(before))
     }
 
@@ -74,7 +132,24 @@ impl Lines {
         &mut self,
         talk: &mut C,
         limit: usize,
-    ) -> Result<Option<usize>, Trouble> {
+    ) -> Result<Option<usize>, Trouble>
+        requires limit { limit ≤ LIMIT }
+        requires caught_up { IfSome (C.exchange talk.old) (IsCaughtUp self.old) }
+        ensures heard { IfOk result (λ found. MatchOption found
+            (HearsEnd (C.exchange talk.old) (C.exchange talk.new) self.old self.new)
+            (λ _. Hears (C.exchange talk.old) (C.exchange talk.new) self.old self.new)) }
+        ensures line { IfOk result (λ found. MatchOption found
+            (IsOneLine self.new × (length self.new ≤ limit))
+            (λ at. HasLine self.new at × (at < limit))) }
+        ensures long { IsErrOf result Trouble.TooLong
+            → Hears (C.exchange talk.old) (C.exchange talk.new) self.old self.new × IsLong limit self.new }
+        ensures lost { OnErr result (HearsSome (C.exchange talk.old) (C.exchange talk.new)) }
+        ensures writing { ¬ IsErrOf result Trouble.WriteFault }
+        ensures fault { IsErrOf result Trouble.ReadFault
+            → Rose (C.read_faults talk.old) (C.read_faults talk.new) }
+        ensures later { C.read_faults talk.old ≤ C.read_faults talk.new }
+        ensures writes { C.write_faults talk.new ≡ C.write_faults talk.old }
+    {
         if let Some(at) = line_end(self.rest()) {
             return within(at, limit);
         }

@@ -2,6 +2,7 @@
 #![tactic(auto)]
 
 mod conversation;
+mod laws;
 mod lines;
 mod replies;
 mod serve;
@@ -10,7 +11,7 @@ mod top;
 mod trouble;
 
 use crate::conversation::Streams;
-use crate::top::{ceal_serve, status_line};
+use crate::top::{serve_main, status_line};
 use ceal_cli::{Status, status_number};
 use ceal_io::{StdSink, StdSource};
 use std::process::ExitCode;
@@ -37,5 +38,5 @@ fn run(rt: &HostRuntime) -> Status {
     let source = StdSource::new(rt.reader());
     let sink = StdSink::new(io::writer(rt));
     let mut talk = Streams::new(source, sink);
-    ceal_serve(rt.alloc(), words, &mut talk)
+    serve_main(rt.alloc(), words, &mut talk)
 }

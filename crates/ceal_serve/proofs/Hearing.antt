@@ -1,0 +1,72 @@
+-- What was heard, piece after piece.
+use Rattle.std.proofs.Common.{◌≡◌, ℕ, zero, suc, ◌<◌, ◌≤◌, Bool, true, false, Option, Some, None, Result, Ok, Err, List, [], ◌∷◌, ◌++◌, length, take, refl, sym, ap, ◌∙◌, subst, append_assoc, append-nil, arith, option_map}
+use Rattle.std.specs.Prelude.{IfSome, OnErr}
+use Rattle.ceal_serve.specs.Exchange.{Exchange, hearing, saying}
+use Rattle.ceal_serve.specs.Listening.{IsCaughtUp, Hears, HearsMore, heard_more}
+use Rattle.ceal_serve.specs.Turns.{IsOneLine, IsTurn}
+
+pub more-twice : (o : Option Exchange) (a b : List ℕ) → option_map (heard_more b) (option_map (heard_more a) o) ≡ option_map (heard_more (a ++ b)) o
+more-twice None a b = refl
+more-twice (Some e) a b = ap (λ (h : List ℕ). Some (record e { heard = h })) (append_assoc e.heard a b)
+
+pub more-none : (o : Option Exchange) → option_map (heard_more []) o ≡ o
+more-none None = refl
+more-none (Some e) = ap (λ (h : List ℕ). Some (record e { heard = h })) (append-nil e.heard)
+
+pub some-heard : (o : Option Exchange) (bytes : List ℕ) → 0 < length bytes → option_map (hearing bytes) o ≡ option_map (heard_more bytes) o
+some-heard o [] h = absurd (omega (arith, h))
+some-heard o (b ∷ bs) h = refl
+
+pub said-twice : (o : Option Exchange) (a b : List ℕ) → option_map (saying b) (option_map (saying a) o) ≡ option_map (saying (a ++ b)) o
+said-twice None a b = refl
+said-twice (Some e) a b = ap (λ (s : List ℕ). Some (record e { said = s })) (append_assoc e.said a b)
+
+pub said-none : (o : Option Exchange) → option_map (saying []) o ≡ o
+said-none None = refl
+said-none (Some e) = ap (λ (s : List ℕ). Some (record e { said = s })) (append-nil e.said)
+
+-- what is true of what is known stays true
+pub known-after : (o n : Option Exchange) (f : Exchange → Exchange) (P Q : Exchange → Type 0) → n ≡ option_map f o → ((e : Exchange) → P e → Q (f e)) → IfSome o P → IfSome n Q
+known-after None n f P Q e step h = subst (λ (x : Option Exchange). IfSome x Q) (sym e) tt
+known-after (Some x) n f P Q e step h = subst (λ (y : Option Exchange). IfSome y Q) (sym e) (step x h)
+
+pub is-turn : (rest : List ℕ) (e : Exchange) → IsOneLine rest → IsCaughtUp rest e → IsTurn e
+is-turn rest e one h = record { lines = h.lines; part = rest; heard = h.heard; complete = h.complete; one = one; answered = h.answered }
+
+pub caught-up : (rest more : List ℕ) (e : Exchange) → IsCaughtUp rest e → IsCaughtUp (rest ++ more) (heard_more more e)
+caught-up rest more e h = record { lines = h.lines; heard = ap (λ (l : List ℕ). l ++ more) h.heard ∙ append_assoc h.lines rest more; complete = h.complete; answered = h.answered }
+
+-- an error leaves what is told of it
+pub on-err : {A E : Type 0} (r : Result A E) (P : Type 0) → P → OnErr r P
+on-err (Ok a) P h = tt
+on-err (Err e) P h = h
+
+-- some bytes were read
+pub some-read : (o n : Option Exchange) (count : ℕ) (piece : List ℕ) → (count ≡ 0 → ⊥) → count ≤ length piece
+    → n ≡ option_map (hearing (take count piece)) o → n ≡ option_map (heard_more (take count piece)) o
+some-read o n count piece some within h =
+    h ∙ some-heard o (take count piece) (positive (take count piece) (length-take-le count piece within))
+  where
+    length-take-le : (n : ℕ) (xs : List ℕ) → n ≤ length xs → length (take n xs) ≡ n
+    length-take-le zero xs h = refl
+    length-take-le (suc n) [] h = absurd (omega (arith, h))
+    length-take-le (suc n) (x ∷ xs) h = ap suc (length-take-le n xs (omega (arith, h)))
+
+    positive : (xs : List ℕ) → length xs ≡ count → 0 < length xs
+    positive xs e = grind (arith, some, e)
+
+-- where more was heard of one line, it may be asked for still more
+pub turn-after : (o n : Option Exchange) (before after : List ℕ) → IfSome o (IsCaughtUp before) → Hears o n before after → IsOneLine after → IfSome n IsTurn
+turn-after o n before after h k one =
+    known-after o n (heard_more k.more) (IsCaughtUp before) IsTurn k.exchange
+    (λ e c. is-turn after (heard_more k.more e) one (subst (λ (l : List ℕ). IsCaughtUp l (heard_more k.more e)) (sym k.there) (caught-up before k.more e c))) h
+
+pub hears-nothing : (o : Option Exchange) (before : List ℕ) → Hears o o before before
+hears-nothing o before = record { more = []; exchange = sym (more-none o); there = sym (append-nil before) }
+
+pub hears-more : (o m n : Option Exchange) (a b c : List ℕ) → Hears o m a b → HearsMore m n b c → Hears o n a c
+hears-more o m n a b c h k = record {
+  more = h.more ++ k.more;
+  exchange = k.exchange ∙ (ap (option_map (heard_more k.more)) h.exchange ∙ more-twice o h.more k.more);
+  there = k.there ∙ (ap (λ (l : List ℕ). l ++ k.more) h.there ∙ append_assoc a h.more k.more);
+}

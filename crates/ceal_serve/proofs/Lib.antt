@@ -1,0 +1,9 @@
+-- texts: their mark and their lines
+mod Marks
+mod FirstLine
+mod Heads
+-- conversations
+mod Hearing
+mod Following
+-- and `ceal run`
+mod AsRun
