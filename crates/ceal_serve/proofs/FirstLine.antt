@@ -6,6 +6,7 @@ use Rattle.std.proofs.lemmas.List.Quantifiers.{position-Some}
 use Rattle.std.proofs.lemmas.List.{drop_more}
 use Rattle.std.proofs.lemmas.List.Sums.{fails_before_first}
 use borrow.Author.Tests.{ltb-true, ltb-false}
+use Rattle.ceal_cli.specs.Lines.{pieces_of, lines_of, script_lines, without_return}
 use Rattle.ceal_serve.specs.Listening.{HasLine}
 use Rattle.ceal_serve.specs.Turns.{IsOneLine}
 
@@ -85,13 +86,20 @@ one-line-take text zero h = tt
 one-line-take [] (suc n) h = tt
 one-line-take (b ∷ text) (suc n) h = (h.0, one-line-take text n h.1)
 
+feed-test : (b : ℕ) → (b ≡ 10 → ⊥) → (b == 10) ≡ false
+feed-test b h = by (b == 10) refl
+  where
+    by : (r : Bool) → (b == 10) ≡ r → (b == 10) ≡ false
+    by true e = absurd (h (grind arith))
+    by false e = e
+
 piece-first : (line more : List ℕ) → IsOneLine line → pieces_of (line ++ 10 ∷ more) ≡ line ∷ pieces_of more
 piece-first [] more n = refl
-piece-first (b ∷ line) more n = rw (not-feed b n.0, piece-first line more n.1) refl
+piece-first (b ∷ line) more n = rw (feed-test b n.0, piece-first line more n.1) refl
 
 one-piece : (line : List ℕ) → IsOneLine line → pieces_of line ≡ line ∷ []
 one-piece [] n = refl
-one-piece (b ∷ line) n = rw (not-feed b n.0, one-piece line n.1) refl
+one-piece (b ∷ line) n = rw (feed-test b n.0, one-piece line n.1) refl
 
 -- there is a piece, whatever the text is
 record Begun (lines : List (List ℕ)) : Type 0 where

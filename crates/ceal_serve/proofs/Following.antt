@@ -1,5 +1,5 @@
 -- Replies to lines, one after another, and what is said for a text.
-use Rattle.std.proofs.Common.{◌≡◌, ◌⊎◌, inl, inr, ◌+◌, ℕ, Bool, true, false, Option, Some, None, List, [], ◌∷◌, ◌++◌, length, take, drop, refl, sym, ap, ◌∙◌, subst, append_assoc, append-nil}
+use Rattle.std.proofs.Common.{◌≡◌, ◌⊎◌, inl, inr, suc, ◌+◌, ℕ, Bool, true, false, Option, Some, None, List, [], ◌∷◌, ◌++◌, length, take, drop, refl, sym, ap, ◌∙◌, subst, append_assoc, append-nil, arith}
 use Rattle.ceal_compile.specs.Compiled.{IsCompiled}
 use Rattle.ceal_compile.specs.Source.{IsProgram}
 use Rattle.ceal_compile.specs.declared.program.Program.{Program}
@@ -157,7 +157,9 @@ take-whole (b ∷ line) rest = ap (λ (l : List ℕ). b ∷ l) (take-whole line 
 
 drop-whole : (line rest : List ℕ) → drop (length line + 1) (line ++ 10 ∷ rest) ≡ rest
 drop-whole [] rest = refl
-drop-whole (b ∷ line) rest = drop-whole line rest
+drop-whole (b ∷ line) rest =
+    let e : length (b ∷ line) + 1 ≡ suc (length line + 1) = omega arith in
+    ap (λ n. drop n (b ∷ (line ++ 10 ∷ rest))) e ∙ drop-whole line rest
 
 -- the first line, and what is left after it
 pub take-line : (text : List ℕ) (at : ℕ) (h : HasLine text at) → take at text ≡ h.line

@@ -1,7 +1,8 @@
 -- What was heard, piece after piece.
-use Rattle.std.proofs.Common.{◌≡◌, ℕ, zero, suc, ◌<◌, ◌≤◌, Bool, true, false, Option, Some, None, Result, Ok, Err, List, [], ◌∷◌, ◌++◌, length, take, refl, sym, ap, ◌∙◌, subst, append_assoc, append-nil, arith, option_map}
+use Rattle.std.proofs.Common.{◌≡◌, ℕ, zero, suc, ◌<◌, ◌≤◌, Bool, true, false, Option, Some, None, Result, Ok, Err, List, [], ◌∷◌, ◌++◌, length, take, drop, take-append-drop, refl, sym, ap, ◌∙◌, subst, append_assoc, append-nil, arith, option_map}
 use Rattle.std.specs.Prelude.{IfSome, OnErr}
-use Rattle.ceal_serve.specs.Exchange.{Exchange, hearing, saying}
+use Rattle.ceal_cli.specs.Output.{IsPrefix}
+use Rattle.ceal_serve.specs.Exchange.{Exchange, Says, SaysPrefix, hearing, saying}
 use Rattle.ceal_serve.specs.Listening.{IsCaughtUp, Hears, HearsMore, heard_more}
 use Rattle.ceal_serve.specs.Turns.{IsOneLine, IsTurn}
 
@@ -70,3 +71,21 @@ hears-more o m n a b c h k = record {
   exchange = k.exchange ∙ (ap (option_map (heard_more k.more)) h.exchange ∙ more-twice o h.more k.more);
   there = k.there ∙ (ap (λ (l : List ℕ). l ++ k.more) h.there ∙ append_assoc a h.more k.more);
 }
+
+-- what was said
+pub nothing-said : (o : Option Exchange) (P : List ℕ → Type 0) → P [] → Says o o P
+nothing-said o P h = ([], h, sym (said-none o))
+
+pub prefix-said : (old new : Option Exchange) (text : List ℕ) → SaysPrefix old new text → Says old new (λ out. IsPrefix out text)
+prefix-said old new text (count, within, e) = (take count text, record { rest = drop count text; same = take-append-drop count text }, e)
+
+pub says-as : (old new : Option Exchange) (P Q : List ℕ → Type 0) → ((text : List ℕ) → P text → Q text) → Says old new P → Says old new Q
+says-as old new P Q f (text, h, e) = (text, f text h, e)
+
+pub known-said : (old new : Option Exchange) (P : List ℕ → Type 0) (A B : Exchange → Type 0) → Says old new P
+    → ((text : List ℕ) (e : Exchange) → P text → A e → B (saying text e)) → IfSome old A → IfSome new B
+known-said old new P A B (text, p, e) step h = known-after old new (saying text) A B e (λ x a. step text x p a) h
+
+pub known-same : (old new : Option Exchange) (A B : Exchange → Type 0) → new ≡ old → ((e : Exchange) → A e → B e) → IfSome old A → IfSome new B
+known-same None new A B e step h = subst (λ (o : Option Exchange). IfSome o B) (sym e) tt
+known-same (Some x) new A B e step h = subst (λ (o : Option Exchange). IfSome o B) (sym e) (step x h)

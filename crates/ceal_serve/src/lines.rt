@@ -1,8 +1,8 @@
 // The lines of what is heard.
 
-ghost use Rattle.std.specs.Prelude.{◌≡◌, ◌+◌, ◌-◌, ◌<◌, ◌≤◌, ◌++◌, [], Some, Ok, Err, length, drop, vec_len, IfSome, IfOk, IfErr, IsErrOf, MatchOption, OnOk, OnErr, option_map};
-ghost use Rattle.ceal_io.specs.Streams.{Rose};
-ghost use Rattle.ceal_serve.specs.Listening.{IsCaughtUp, Hears, HearsMore, HearsEnd, HearsSome, HasLine, heard_end};
+ghost use Rattle.std.specs.Prelude.{◌≡◌, ◌+◌, ◌-◌, ◌<◌, ◌≤◌, ◌==◌, ◌++◌, [], Some, Ok, Err, length, drop, position, vec_len, IfSome, IfOk, IfErr, IsErrOf, MatchOption, OnOk, OnErr};
+ghost use Rattle.ceal_serve.specs.Listening.{IsCaughtUp, Hears, HearsMore, HearsEnd, HearsLine, HearsSome, HasLine};
+ghost use Rattle.ceal_serve.specs.Troubles.{IsCounted};
 ghost use Rattle.ceal_serve.specs.Turns.{IsLong, IsOneLine, IsTurn};
 
 use crate::conversation::Conversation;
@@ -45,10 +45,17 @@ fn remove_front(bytes: &mut Vec<u8>, count: usize)
 }
 
 // Where the first line feed is.
+fn line_feed(text: &[u8]) -> Option<usize>
+    ensures { result ≡ position (λ b. b == 10) text.now }
+{
+    text.iter().position(|b| *b == b'\n')
+}
+
+// Where the first line ends.
 fn line_end(text: &[u8]) -> Option<usize>
     ensures { MatchOption result (IsOneLine text.now) (λ at. HasLine text.now at) }
 {
-    text.iter().position(|b| *b == b'\n')
+    line_feed(text)
 }
 
 // The place of a line feed, unless the line that it ends has too many bytes.
@@ -106,15 +113,13 @@ impl Lines {
         requires turn { IfSome (C.exchange talk.old) IsTurn }
         requires room { length self.old ≤ LIMIT }
         ensures heard { IfOk result (λ found. MatchOption found
-            ((C.exchange talk.new ≡ option_map heard_end (C.exchange talk.old)) × (self.new ≡ self.old))
-            (λ before. HearsMore (C.exchange talk.old) (C.exchange talk.new) self.old self.new × (before ≡ length self.old))) }
+            (HearsEnd (C.exchange talk.old) (C.exchange talk.new) self.old self.new)
+            (λ before. HearsMore (C.exchange talk.old) (C.exchange talk.new) self.old self.new
+            × (before ≡ length self.old))) }
         ensures lost { OnErr result (HearsSome (C.exchange talk.old) (C.exchange talk.new)) }
-        ensures long { ¬ IsErrOf result Trouble.TooLong }
-        ensures writing { ¬ IsErrOf result Trouble.WriteFault }
-        ensures fault { IsErrOf result Trouble.ReadFault
-            → Rose (C.read_faults talk.old) (C.read_faults talk.new) }
-        ensures later { C.read_faults talk.old ≤ C.read_faults talk.new }
-        ensures writes { C.write_faults talk.new ≡ C.write_faults talk.old }
+        ensures short { ¬ IsErrOf result Trouble.TooLong }
+        ensures counted { IsCounted result (C.read_faults talk.old) (C.read_faults talk.new)
+            (C.write_faults talk.old) (C.write_faults talk.new) }
     {
         let mut piece = [0u8; PIECE];
         let count = talk.read(&mut piece)?;
@@ -126,33 +131,24 @@ impl Lines {
         Ok(Some(before))
     }
 
-    /// Where the next line ends, which has at most `limit` bytes with its line feed, and is heard where it was not. At the
-    /// end of what there is to hear there is none, and what is left is the last line.
-    pub fn hear_line<C: Conversation>(
+    // Where the next line ends, of which what was heard is the beginning.
+    fn hear_on<C: Conversation>(
         &mut self,
         talk: &mut C,
         limit: usize,
     ) -> Result<Option<usize>, Trouble>
         requires limit { limit ≤ LIMIT }
+        requires one { IsOneLine self.old }
         requires caught_up { IfSome (C.exchange talk.old) (IsCaughtUp self.old) }
-        ensures heard { IfOk result (λ found. MatchOption found
-            (HearsEnd (C.exchange talk.old) (C.exchange talk.new) self.old self.new)
-            (λ _. Hears (C.exchange talk.old) (C.exchange talk.new) self.old self.new)) }
-        ensures line { IfOk result (λ found. MatchOption found
-            (IsOneLine self.new × (length self.new ≤ limit))
-            (λ at. HasLine self.new at × (at < limit))) }
+        ensures heard { IfOk result (λ found. HearsLine found limit (C.exchange talk.old)
+            (C.exchange talk.new) self.old self.new) }
         ensures long { IsErrOf result Trouble.TooLong
-            → Hears (C.exchange talk.old) (C.exchange talk.new) self.old self.new × IsLong limit self.new }
+            → Hears (C.exchange talk.old) (C.exchange talk.new) self.old self.new
+            × IsLong limit self.new }
         ensures lost { OnErr result (HearsSome (C.exchange talk.old) (C.exchange talk.new)) }
-        ensures writing { ¬ IsErrOf result Trouble.WriteFault }
-        ensures fault { IsErrOf result Trouble.ReadFault
-            → Rose (C.read_faults talk.old) (C.read_faults talk.new) }
-        ensures later { C.read_faults talk.old ≤ C.read_faults talk.new }
-        ensures writes { C.write_faults talk.new ≡ C.write_faults talk.old }
+        ensures counted { IsCounted result (C.read_faults talk.old) (C.read_faults talk.new)
+            (C.write_faults talk.old) (C.write_faults talk.new) }
     {
-        if let Some(at) = line_end(self.rest()) {
-            return within(at, limit);
-        }
         while self.rest().len() <= limit {
             let Some(before) = self.hear(talk)? else {
                 return Ok(None);
@@ -162,5 +158,29 @@ impl Lines {
             }
         }
         Err(Trouble::TooLong)
+    }
+
+    /// Where the next line ends, which has at most `limit` bytes with its line feed, and is heard where it was not. At the
+    /// end of what there is to hear there is none, and what is left is the last line.
+    pub fn hear_line<C: Conversation>(
+        &mut self,
+        talk: &mut C,
+        limit: usize,
+    ) -> Result<Option<usize>, Trouble>
+        requires limit { limit ≤ LIMIT }
+        requires caught_up { IfSome (C.exchange talk.old) (IsCaughtUp self.old) }
+        ensures heard { IfOk result (λ found. HearsLine found limit (C.exchange talk.old)
+            (C.exchange talk.new) self.old self.new) }
+        ensures long { IsErrOf result Trouble.TooLong
+            → Hears (C.exchange talk.old) (C.exchange talk.new) self.old self.new
+            × IsLong limit self.new }
+        ensures lost { OnErr result (HearsSome (C.exchange talk.old) (C.exchange talk.new)) }
+        ensures counted { IsCounted result (C.read_faults talk.old) (C.read_faults talk.new)
+            (C.write_faults talk.old) (C.write_faults talk.new) }
+    {
+        match line_end(self.rest()) {
+            Some(at) => within(at, limit),
+            None => self.hear_on(talk, limit),
+        }
     }
 }
