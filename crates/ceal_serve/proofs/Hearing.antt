@@ -3,7 +3,7 @@ use Rattle.std.proofs.Common.{◌≡◌, ℕ, zero, suc, ◌<◌, ◌≤◌, Boo
 use Rattle.std.specs.Prelude.{IfSome, OnErr}
 use Rattle.ceal_cli.specs.Output.{IsPrefix}
 use Rattle.ceal_serve.specs.Exchange.{Exchange, Says, SaysPrefix, hearing, saying}
-use Rattle.ceal_serve.specs.Listening.{IsCaughtUp, Hears, HearsMore, heard_more}
+use Rattle.ceal_serve.specs.Listening.{IsCaughtUp, Hears, HearsEnd, HearsLine, HearsMore, HearsSome, HasLine, heard_end, heard_more}
 use Rattle.ceal_serve.specs.Turns.{IsOneLine, IsTurn}
 
 pub more-twice : (o : Option Exchange) (a b : List ℕ) → option_map (heard_more b) (option_map (heard_more a) o) ≡ option_map (heard_more (a ++ b)) o
@@ -42,19 +42,18 @@ pub on-err : {A E : Type 0} (r : Result A E) (P : Type 0) → P → OnErr r P
 on-err (Ok a) P h = tt
 on-err (Err e) P h = h
 
+length-take : (n : ℕ) (xs : List ℕ) → n ≤ length xs → length (take n xs) ≡ n
+length-take zero xs h = refl
+length-take (suc n) [] h = absurd (omega (arith, h))
+length-take (suc n) (x ∷ xs) h = ap suc (length-take n xs (omega (arith, h)))
+
+taken-some : (count : ℕ) (piece : List ℕ) → (count ≡ 0 → ⊥) → count ≤ length piece → 0 < length (take count piece)
+taken-some count piece some within = let e = length-take count piece within in grind (arith, some, e)
+
 -- some bytes were read
 pub some-read : (o n : Option Exchange) (count : ℕ) (piece : List ℕ) → (count ≡ 0 → ⊥) → count ≤ length piece
     → n ≡ option_map (hearing (take count piece)) o → n ≡ option_map (heard_more (take count piece)) o
-some-read o n count piece some within h =
-    h ∙ some-heard o (take count piece) (positive (take count piece) (length-take-le count piece within))
-  where
-    length-take-le : (n : ℕ) (xs : List ℕ) → n ≤ length xs → length (take n xs) ≡ n
-    length-take-le zero xs h = refl
-    length-take-le (suc n) [] h = absurd (omega (arith, h))
-    length-take-le (suc n) (x ∷ xs) h = ap suc (length-take-le n xs (omega (arith, h)))
-
-    positive : (xs : List ℕ) → length xs ≡ count → 0 < length xs
-    positive xs e = grind (arith, some, e)
+some-read o n count piece some within h = h ∙ some-heard o (take count piece) (taken-some count piece some within)
 
 -- where more was heard of one line, it may be asked for still more
 pub turn-after : (o n : Option Exchange) (before after : List ℕ) → IfSome o (IsCaughtUp before) → Hears o n before after → IsOneLine after → IfSome n IsTurn
@@ -89,3 +88,26 @@ known-said old new P A B (text, p, e) step h = known-after old new (saying text)
 pub known-same : (old new : Option Exchange) (A B : Exchange → Type 0) → new ≡ old → ((e : Exchange) → A e → B e) → IfSome old A → IfSome new B
 known-same None new A B e step h = subst (λ (o : Option Exchange). IfSome o B) (sym e) tt
 known-same (Some x) new A B e step h = subst (λ (o : Option Exchange). IfSome o B) (sym e) (step x h)
+
+-- a read of some bytes, and one of none
+pub hears-piece : (o n : Option Exchange) (count : ℕ) (piece before after : List ℕ) → (count ≡ 0 → ⊥) → count ≤ length piece
+    → n ≡ option_map (hearing (take count piece)) o → after ≡ before ++ take count piece → HearsMore o n before after
+hears-piece o n count piece before after some within e there =
+    record { more = take count piece; some = taken-some count piece some within; exchange = some-read o n count piece some within e; there = there }
+
+pub hears-no-more : (o n : Option Exchange) (count : ℕ) (piece before : List ℕ) → count ≡ 0 → n ≡ option_map (hearing (take count piece)) o → HearsEnd o n before before
+hears-no-more o n count piece before none e = record {
+  more = [];
+  exchange = e ∙ (ap (λ k. option_map (hearing (take k piece)) o) none ∙ ap (option_map heard_end) (sym (more-none o)));
+  there = sym (append-nil before);
+}
+
+pub hears-to-end : (o m n : Option Exchange) (a b c : List ℕ) → Hears o m a b → HearsEnd m n b c → HearsEnd o n a c
+hears-to-end o m n a b c h k = record {
+  more = h.more ++ k.more;
+  exchange = k.exchange ∙ ap (option_map heard_end) (ap (option_map (heard_more k.more)) h.exchange ∙ more-twice o h.more k.more);
+  there = k.there ∙ (ap (λ (l : List ℕ). l ++ k.more) h.there ∙ append_assoc a h.more k.more);
+}
+
+pub hears-lost : (o m n : Option Exchange) (a b : List ℕ) → Hears o m a b → HearsSome m n → HearsSome o n
+hears-lost o m n a b h (more, e) = (h.more ++ more, e ∙ (ap (option_map (heard_more more)) h.exchange ∙ more-twice o h.more more))

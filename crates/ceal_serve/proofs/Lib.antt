@@ -4,6 +4,8 @@ mod FirstLine
 mod Heads
 -- conversations
 mod Hearing
+mod Lines
+mod Sources
 mod Following
 -- and `ceal run`
 mod AsRun

@@ -1,5 +1,5 @@
 -- What is said for what was heard.
-use Rattle.std.specs.Prelude.{◌≡◌, ◌≢◌, ◌⊎◌, ◌<◌, ◌≤◌, ◌+◌, ◌-◌, ◌^◌, ℕ, Bool, true, false, List, [], ◌∷◌, ◌++◌, length, take}
+use Rattle.std.specs.Prelude.{◌≡◌, ◌≢◌, ◌⊎◌, ◌<◌, ◌-◌, ℕ, Bool, true, false, List, [], ◌∷◌, ◌++◌, length, take}
 use Rattle.ceal_base.specs.declared.fault.Fault.{Fault}
 use Rattle.ceal_compile.specs.FaultLine.{fault_line}
 use Rattle.ceal_compile.specs.Source.{IsFirstFault}
@@ -93,7 +93,3 @@ pub record IsTooLong (e : Exchange) : Type 0 where
   pub heard : e.heard ≡ lines ++ part
   pub complete : IsBeforeLine lines
   pub long : IsLong LIMIT part ⊎ (HasNoMark lines × IsLong (LIMIT - length lines) part)
-
--- So it is, or the lines are more than a number of 64 bits counts.
-abbrev pub IsOverlong : Exchange → Type 0
-IsOverlong e = IsTooLong e ⊎ (2 ^ 64 - 1 ≤ length e.heard)

@@ -8,7 +8,7 @@ ghost use Rattle.ceal_serve.specs.Exchange.{Says};
 ghost use Rattle.ceal_serve.specs.Listening.{HasLine};
 ghost use Rattle.ceal_serve.specs.Replying.{IsAt, IsLast};
 ghost use Rattle.ceal_serve.specs.Troubles.{IsCounted};
-ghost use Rattle.ceal_serve.specs.Turns.{IsBeginning, IsDone, IsOneLine, IsOverlong};
+ghost use Rattle.ceal_serve.specs.Turns.{IsBeginning, IsDone, IsOneLine, IsTooLong};
 
 use crate::conversation::{Conversation, say};
 use crate::lines::{LIMIT, Lines};
@@ -98,7 +98,7 @@ pub fn reply_all<C: Conversation>(
     requires at { IfSome (C.exchange talk.old) (IsAt lines.old (situation session.old)) }
     ensures done { OnOk result (IfSome (C.exchange talk.new) IsDone) }
     ensures beginning { IfSome (C.exchange talk.new) IsBeginning }
-    ensures long { IsErrOf result Trouble.TooLong → IfSome (C.exchange talk.new) IsOverlong }
+    ensures long { IsErrOf result Trouble.TooLong → IfSome (C.exchange talk.new) IsTooLong }
     ensures counted { IsCounted result (C.read_faults talk.old) (C.read_faults talk.new)
         (C.write_faults talk.old) (C.write_faults talk.new) }
 {
@@ -110,5 +110,6 @@ pub fn reply_all<C: Conversation>(
             None => return reply_last(session, lines.rest(), talk),
         }
     }
-    Err(Trouble::TooLong)
+    // There are no more numbers to count lines with.
+    Err(Trouble::Memory)
 }

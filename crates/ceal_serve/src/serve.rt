@@ -7,7 +7,7 @@ ghost use Rattle.ceal_session.specs.Following.{IsAllowed};
 ghost use Rattle.ceal_serve.specs.Exchange.{IsBegun};
 ghost use Rattle.ceal_serve.specs.Listening.{IsHeardSource, SourceIs};
 ghost use Rattle.ceal_serve.specs.Troubles.{IsCounted};
-ghost use Rattle.ceal_serve.specs.Turns.{IsBeginning, IsDone, IsRefused, IsOverlong};
+ghost use Rattle.ceal_serve.specs.Turns.{IsBeginning, IsDone, IsRefused, IsTooLong};
 
 use crate::conversation::Conversation;
 use crate::lines::{LIMIT, Lines};
@@ -37,7 +37,7 @@ fn serve_source<C: Conversation>(
     ensures served { IfOk result (λ accepted.
         IfSome (C.exchange talk.new) (if accepted then IsDone else IsRefused)) }
     ensures beginning { IfSome (C.exchange talk.new) IsBeginning }
-    ensures long { IsErrOf result Trouble.TooLong → IfSome (C.exchange talk.new) IsOverlong }
+    ensures long { IsErrOf result Trouble.TooLong → IfSome (C.exchange talk.new) IsTooLong }
     ensures counted { IsCounted result (C.read_faults talk.old) (C.read_faults talk.new)
         (C.write_faults talk.old) (C.write_faults talk.new) }
 {
@@ -71,7 +71,7 @@ fn serve_lines<C: Conversation>(
     ensures served { IfOk result (λ accepted.
         IfSome (C.exchange talk.new) (if accepted then IsDone else IsRefused)) }
     ensures beginning { IfSome (C.exchange talk.new) IsBeginning }
-    ensures long { IsErrOf result Trouble.TooLong → IfSome (C.exchange talk.new) IsOverlong }
+    ensures long { IsErrOf result Trouble.TooLong → IfSome (C.exchange talk.new) IsTooLong }
     ensures counted { IsCounted result (C.read_faults talk.old) (C.read_faults talk.new)
         (C.write_faults talk.old) (C.write_faults talk.new) }
 {
@@ -89,7 +89,7 @@ pub fn serve<C: Conversation>(alloc: Global, fuel: u32, talk: &mut C) -> Status
     ensures done { result ≡ Done → IfSome (C.exchange talk.new) IsDone }
     ensures refused { result ≡ Refused → IfSome (C.exchange talk.new) IsRefused }
     ensures beginning { IfSome (C.exchange talk.new) IsBeginning }
-    ensures too_long { result ≡ TooLong → IfSome (C.exchange talk.new) IsOverlong }
+    ensures too_long { result ≡ TooLong → IfSome (C.exchange talk.new) IsTooLong }
     ensures read_fault { result ≡ ReadFault
         → Rose (C.read_faults talk.old) (C.read_faults talk.new) }
     ensures write_fault { result ≡ WriteFault

@@ -5,7 +5,7 @@ ghost use Rattle.ceal_cli.specs.Modes.{texts};
 ghost use Rattle.ceal_cli.specs.declared.top.Status.TheVariants.{Done, Refused, Usage, TooLong, Memory, ReadFault, WriteFault};
 ghost use Rattle.ceal_io.specs.Streams.{Rose};
 ghost use Rattle.ceal_serve.specs.Exchange.{IsBegun};
-ghost use Rattle.ceal_serve.specs.Turns.{IsBeginning, IsDone, IsRefused, IsOverlong};
+ghost use Rattle.ceal_serve.specs.Turns.{IsBeginning, IsDone, IsRefused, IsTooLong};
 ghost use Rattle.ceal_serve.specs.Words.{AskToServe, AskForNothing, status_text};
 
 use crate::conversation::Conversation;
@@ -47,7 +47,7 @@ pub fn serve_main<C: Conversation>(alloc: Global, words: Vec<String>, talk: &mut
     ensures beginning { ¬ AskForNothing (texts words)
         → IfSome (C.exchange talk.new) IsBeginning }
     // When each answer comes.
-    ensures too_long { result ≡ TooLong → IfSome (C.exchange talk.new) IsOverlong }
+    ensures too_long { result ≡ TooLong → IfSome (C.exchange talk.new) IsTooLong }
     ensures read_fault { result ≡ ReadFault
         → Rose (C.read_faults talk.old) (C.read_faults talk.new) }
     ensures write_fault { result ≡ WriteFault
