@@ -198,8 +198,11 @@ module _ (script : SomeScriptLaw) (rest : List ℕ) (session : Situation) (e : E
         let after = line-more e.fuel h.text e.said session h.follows kept has.line text next has.one serves-line in
         let w = some-end e.fuel (h.text ++ (has.line ++ 10 ∷ [])) (e.said ++ text) next after script has.rest in
         let heard : e.heard ≡ (h.text ++ (has.line ++ 10 ∷ [])) ++ has.rest = whole-line e.heard h.text rest at has h.heard in
-        inr ((e.said ++ text) ++ w.0, inl (subst (λ (t : List ℕ). IsServed e.fuel true t ((e.said ++ text) ++ w.0)) (sym heard) w.1),
-        record { rest = prefix.rest ++ w.0; same = same-pieces e.said text out w.0 prefix })
+        inr (
+          (e.said ++ text) ++ w.0,
+          inl (subst (λ (t : List ℕ). IsServed e.fuel true t ((e.said ++ text) ++ w.0)) (sym heard) w.1),
+          record { rest = prefix.rest ++ w.0; same = same-pieces e.said text out w.0 prefix },
+        )
 
 -- the reply to the first line was said
 pub at-next : KeptLaw → (rest : List ℕ) (session next : Situation) (e : Exchange) (at : ℕ) (out : List ℕ) → IsAt rest session e → HasLine rest at
@@ -228,5 +231,8 @@ module _ (kept : KeptLaw) (rest : List ℕ) (session : Situation) (e : Exchange)
       subst (λ (t : List ℕ). Begins (IsSaidFor e.fuel e.heard) t) (sym (ap (λ (o : List ℕ). e.said ++ o) none ∙ append-nil e.said)) (beginning-at script rest session e h.at)
   beginning-last script out (inr (text, next, serves, prefix)) =
       let w = last-served e.fuel h.at.text e.said session h.at.follows kept rest text next one serves in
-      inr (e.said ++ text, inl (subst (λ (t : List ℕ). IsServed e.fuel true t (e.said ++ text)) (sym h.at.heard) w),
-      record { rest = prefix.rest; same = append_assoc e.said out prefix.rest ∙ ap (λ (t : List ℕ). e.said ++ t) prefix.same })
+      inr (
+        e.said ++ text,
+        inl (subst (λ (t : List ℕ). IsServed e.fuel true t (e.said ++ text)) (sym h.at.heard) w),
+        record { rest = prefix.rest; same = append_assoc e.said out prefix.rest ∙ ap (λ (t : List ℕ). e.said ++ t) prefix.same },
+      )

@@ -7,5 +7,6 @@ mod Hearing
 mod Lines
 mod Sources
 mod Following
+mod Opening
 -- and `ceal run`
 mod AsRun

@@ -31,8 +31,8 @@ listening-taken fuel old new lines rest marked o t k =
     known-same o o (IsListening fuel old lines) (IsListening fuel new rest) refl (λ e b. record {
       fuel_is = b.fuel_is;
       heard = b.heard
-      ∙ (ap (λ (l : List ℕ). old ++ l) (t.lines_are ∙ sym (append_assoc t.line (10 ∷ []) rest))
-      ∙ (sym (append_assoc old (t.line ++ 10 ∷ []) rest) ∙ ap (λ (l : List ℕ). l ++ rest) (sym t.text)));
+          ∙ (ap (λ (l : List ℕ). old ++ l) (t.lines_are ∙ sym (append_assoc t.line (10 ∷ []) rest))
+          ∙ (sym (append_assoc old (t.line ++ 10 ∷ []) rest) ∙ ap (λ (l : List ℕ). l ++ rest) (sym t.text)));
       going = b.going;
       unsaid = b.unsaid;
     }) k

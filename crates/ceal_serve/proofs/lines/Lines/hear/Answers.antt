@@ -1,5 +1,5 @@
 use Rattle.std.proofs.Common.{rules, arith}
-use Rattle.ceal_serve.proofs.Hearing.{on-err, some-read}
+use Rattle.ceal_serve.proofs.Hearing.{hears-no-more, hears-piece, on-err, some-read}
 use Rattle.ceal_serve.proofs.lines.Lines.hear.Goals as goal
 
 pub returns-in_err-keep-clause-lost : goal.returns-in_err-keep-clause-lost
