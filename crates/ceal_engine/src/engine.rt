@@ -104,7 +104,12 @@ impl Engine {
 
     /// An engine without inputs. A run may take `fuel` steps. It takes the room for the arguments of a call. Any seed is
     /// right: its memo tables begin with it.
-    pub fn seeded(alloc: Global, code: Code, fuel: u32, seed: Seed) -> Result<Engine, NoMemory>
+    pub fn seeded(
+        alloc: Global,
+        code: Code,
+        fuel: u32,
+        seed: Seed,
+    ) -> Result<Engine, NoMemory>
         requires valid { valid code ≡ true }
         requires fuel { InLimits fuel }
         ensures code { IfOk result (λ e. e.code ≡ code) }
