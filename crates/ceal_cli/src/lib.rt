@@ -31,3 +31,4 @@ mod verify;
 mod words;
 
 pub use top::{INPUT_LIMIT, Status, ceal_main, status_line, status_number};
+pub use words::{Mode, asked_mode};

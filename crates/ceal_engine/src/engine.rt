@@ -31,6 +31,7 @@ use std::alloc::Global;
 use std::marker::Model;
 
 mod answers;
+mod found;
 mod runs;
 
 /// Runs trace code on inputs, and keeps the memory of the run up to date where inputs are edited.
