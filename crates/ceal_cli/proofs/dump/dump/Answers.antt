@@ -10,6 +10,7 @@ returns g c =
           c.renamed_law.ensures.law)
           (rw (← c.script.ensures, ← c.in_ok-session.ensures.state) c.write_dump-told.ensures.writes);
       dumped = dumped-readable c.args.input.bytes.now c.args.input.part c.requires.split c.args.program c.args.fuel c.requires.opens c.some_reply.ensures.begun c.kept_line.ensures.law
-          c.renamed_law.ensures.law c.write_dump-told.result _ _ _ _
+          c.renamed_law.ensures.law c.write_dump-told.result (g.K.Sink.written c.args.sink.now) (g.K.Sink.written c.write_dump-told.new.sink)
+          (g.K.Sink.faults c.args.sink.now) (g.K.Sink.faults c.write_dump-told.new.sink)
           (rw (← c.script.ensures, ← c.in_ok-session.ensures.state) c.write_dump-told.ensures.writes);
     }

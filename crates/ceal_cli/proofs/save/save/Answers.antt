@@ -9,6 +9,7 @@ returns g c = record {
       c.renamed_law.ensures.law c.saved_law.ensures.law)
       (rw (← c.script-script.ensures, ← c.source-source.ensures, ← c.in_ok-session.ensures.state) c.write_save-told.ensures.writes);
   saved = saved-readable c.args.input.bytes.now c.args.input.part c.requires.split c.args.program c.args.fuel c.requires.opens c.some_reply.ensures.begun c.kept_line.ensures.law
-      c.renamed_law.ensures.law c.saved_law.ensures.law c.write_save-told.result _ _ _ _
+      c.renamed_law.ensures.law c.saved_law.ensures.law c.write_save-told.result (g.K.Sink.written c.args.sink.now) (g.K.Sink.written c.write_save-told.new.sink)
+      (g.K.Sink.faults c.args.sink.now) (g.K.Sink.faults c.write_save-told.new.sink)
       (rw (← c.script-script.ensures, ← c.source-source.ensures, ← c.in_ok-session.ensures.state) c.write_save-told.ensures.writes);
 }
