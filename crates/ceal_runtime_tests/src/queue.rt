@@ -3,10 +3,9 @@
 ghost use Rattle.std.specs.Prelude.{◌≡◌, ◌≤◌, ℕ, List, []};
 ghost use Rattle.ceal_queue.specs.Queue.{Follows};
 
-use crate::asserts::{equal, holds};
+use crate::asserts::equal;
 use crate::orders::order_with_room;
 use ceal_order::order::Order;
-use ceal_queue::laws::follows_still;
 use ceal_queue::stale::Stale;
 use std::process::Abort;
 
@@ -38,56 +37,6 @@ fn the_earliest_before_a_limit(rt: HostRuntime) {
     let mut order = order_with_room(&rt, alloc, 4);
     let mut queue = Stale::new(alloc).expect(&rt, "memory");
     pushes_and_pops(&rt, &mut order, &mut queue);
-    drop(queue);
-    drop(order);
-}
-
-// More than stand in one chunk of a tree.
-const MANY: u32 = 200;
-
-// Puts a new stamp before all others into a queue.
-fn push_earlier<R: Abort>(rt: &R, order: &mut Order, queue: &mut Stale)
-    requires follows { Follows order.old.stamps queue.old }
-    ensures follows { Follows order.new.stamps queue.new }
-{
-    order.reserve(1).expect(rt, "memory");
-    queue.reserve(1).expect(rt, "memory");
-    let first = order.first();
-    let stamp = order.insert_after(first);
-    follows_still();
-    queue.push(order, stamp);
-}
-
-fn push_many<R: Abort>(rt: &R, order: &mut Order, queue: &mut Stale)
-    requires follows { Follows order.old.stamps queue.old }
-    ensures follows { Follows order.new.stamps queue.new }
-{
-    for pushed in 0..MANY {
-        push_earlier(rt, order, queue);
-    }
-}
-
-// Pops all, each of which is after the one before it.
-fn pop_many<R: Abort>(rt: &R, order: &Order, queue: &mut Stale)
-    requires follows { Follows order.now.stamps queue.old }
-{
-    let mut last = order.first();
-    for popped in 0..MANY {
-        let stamp = queue.pop_before(order, None).expect(rt, "a stamp");
-        holds(rt, order.before(last, stamp));
-        last = stamp;
-    }
-    equal(rt, queue.pop_before(order, None), None);
-}
-
-// Each of many goes before those that are there, and the earliest comes out first.
-#[test]
-fn many_from_the_earliest_on(rt: HostRuntime) {
-    let alloc = rt.alloc();
-    let mut order = Order::new(alloc).expect(&rt, "memory");
-    let mut queue = Stale::new(alloc).expect(&rt, "memory");
-    push_many(&rt, &mut order, &mut queue);
-    pop_many(&rt, &order, &mut queue);
     drop(queue);
     drop(order);
 }
