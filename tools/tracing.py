@@ -245,7 +245,7 @@ class Panel:
 
 
 def bands(pairs, scale, top, bottom):
-    """Where the steps that both traces have stood before, and where they stand now."""
+    """Where the steps that both traces have were before, and where they are now."""
     runs = []
     for old, new, label in pairs:
         if runs and runs[-1][1] == old and runs[-1][3] == new and runs[-1][4] == label:

@@ -14,7 +14,7 @@ USAGE = """usage: ./run FILE ..                   runs programs with their scrip
        ./run --build                   proves and builds the program
        ./run --install FOLDER          puts the proved program into a folder
        ./run --version                 says which version this is
-FILE may be - for standard input. Options stand before, between or after the other words; what comes after a word -- is no option:
+FILE may be - for standard input. Options come before, between or after the other words; what comes after a word -- is no option:
        --fuel N    a run takes at most N steps: with run, dump, many, save
        --strict    fails, and says why, if a line was refused or the last run was out of fuel, if there is nothing to save or to dump,
                    and if a dump is not verified: with run, many, resume, save, dump, verify

@@ -31,7 +31,7 @@ frames-push fs f = reverse-append fs (f ∷ [])
 
 pub ruleset frame_steps = (frames-push, loose-one, skipped-levels)
 
--- the stack of a unit that goes on after a read, by itself
+-- the stack of a unit that continues after a read, by itself
 resumed-in : (code : Code) (stack under : CodeStack) (c : Closure) (now : Word)
     → stack_in stack ≡ entered code c.unit.0 (given code c.unit.0 c.var c.args now) (stack_in under) → stack_in under ≡ Empty
     → stack_in stack ≡ resumed code c.unit c.var c.args now
@@ -114,7 +114,7 @@ pub make-some : (old stepped new : Repair) (key : Key) (v u i : ℕ) (env : Vari
 make-some old stepped new key v u i env block at n m e rest state stack find =
     make-bare old new key v u i env block at n m (rw e at rest) (rw e at state) (rw e at stack) (rw e at find)
 
--- what a result comes to where its own clause says it
+-- what a result is where its own clause says it
 pub if-acts : {A B : Type 0} (r : Result A B) (P Q : A → Type 0) → ((a : A) → P a → Q a) → IfOk r P → IfOk r Q
 if-acts (Ok a) P Q f h = f a h
 if-acts (Err b) P Q f h = h

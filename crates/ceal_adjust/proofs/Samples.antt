@@ -1,4 +1,5 @@
--- The repair of INC after an edit: unit 0 reads its first parameter, and unit 1 writes one more than the value to the second.
+-- The repair of INC after an edit: unit 0 reads its first parameter, and unit 1 writes one more than the value to the
+-- second.
 use Rattle.std.proofs.Common.{◌≡◌, pos, Some, [], ◌∷◌, refl}
 use Rattle.ceal_base.specs.Trace.{flat}
 use Rattle.ceal_base.specs.declared.kind.Shape.TheVariants.{ModInt}

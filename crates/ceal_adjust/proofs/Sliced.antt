@@ -1,4 +1,4 @@
--- Turns of a repair that goes on, and what slices come to by them.
+-- Turns of a repair in progress, and the results of slices by them.
 use Rattle.std.proofs.Common.{◌≡◌, ℕ, zero, suc, ◌+◌, ◌≤◌, ◌<◌, true, false, Bool, Option, Some, None, List, ◌∷◌, ◌++◌, append_assoc, inl, inr, ◌⊎◌, refl, sym, ap, subst, ◌∙◌, arith}
 use Rattle.std.proofs.lemmas.Bool.{cases_order}
 use Rattle.std.specs.Bool.{⊤}
@@ -191,14 +191,14 @@ module _ (code : Code) (inputs : List Block) (f : ℕ) (args : List Word) (fits 
           rw e (omega (arith, h.work, h.ended.within)),
         )
 
--- that many turns have brought a repair to this one
+-- n turns have brought a repair to this one
 pub record Reached (code : Code) (inputs : List Block) (f : ℕ) (args : List Word) (n : ℕ) (r : Repair) (q : RepairInCode) : Type 0 where
   pub repair : Repair
   pub stands : StandsFor q repair
   pub sound : Sound code own inputs f args repair
   pub turns : Turns code own inputs n r repair
 
--- that many are no more than there may be
+-- n is at most the number of reads, if there is one
 abbrev pub Within : Option ℕ → ℕ → Type 0
 Within None n = ⊤
 Within (Some k) n = n ≤ k
@@ -233,7 +233,7 @@ module _ (code : Code) (inputs : List Block) (f : ℕ) (args : List Word) (fits 
   pub reached-first : (q : RepairInCode) → StandsFor q r → Reached code inputs f args 0 r q
   reached-first q stands = record { repair = r; stands = stands; sound = sound; turns = Turns.none }
 
-  -- items that agree with the store in which a slice begins are honest, and the other way about
+  -- items that agree with the store in which a slice begins are honest, and conversely
   pub agrees-done : AgreesAll code (starting code inputs r.known) (flat r.items) → IsHonest code inputs r.items
   agrees-done a = (start-law code own inputs f args fits r sound).1 a
 

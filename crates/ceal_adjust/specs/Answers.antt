@@ -21,7 +21,7 @@ abbrev pub Keeps : Limit → ℕ → ℕ → Type 0
 Keeps (Written n) steps work = steps ≤ n
 Keeps (Work n) steps work = work ≤ n
 
--- The machine that began has come to one that has ended, and has written these items, within the limit.
+-- The machine that began has ended, has written these items, and is within the limit.
 pub record HasEnded (code : Code) (limit : Limit) (start : Machine) (out : List Item) : Type 0 where
   pub machine : Machine
   pub leads : Leads code own start machine out
@@ -33,7 +33,7 @@ pub record EndsAt (code : Code) (limit : Limit) (start : Machine) (out : List It
   pub ended : HasEnded code limit start out
   pub state : ended.machine.state ≡ s
 
--- it has come to one that is beyond the limit
+-- it is beyond the limit
 pub record IsBeyond (code : Code) (limit : Limit) (start : Machine) : Type 0 where
   pub machine : Machine
   pub out : List Item

@@ -31,7 +31,7 @@ state_in r = record {
   work = r.work;
 }
 
--- what follows, the next first, where these levels stand around the items of now
+-- what follows, the next first, where these levels are around the items of now
 abbrev pub frames_in : List Frame → List Trace → Frames
 frames_in [] ts = Bottom
 frames_in (Fix ∷ fs) ts = AfterFix (first ts) (frames_in fs (around ts))

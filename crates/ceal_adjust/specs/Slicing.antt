@@ -1,4 +1,4 @@
--- A repair that goes on, as the code keeps it, and what a slice of it comes to.
+-- A repair in progress, as the code keeps it, and the result of a slice of it.
 use Rattle.std.specs.Prelude.{◌≡◌, ◌≤◌, ℕ, suc, Bool, true, false, ⊤, Option, Some, None, List, ◌++◌, ◌∷◌}
 use Rattle.ceal_base.specs.Block.{Block}
 use Rattle.ceal_base.specs.Trace.{flat}
@@ -43,13 +43,13 @@ pub record IsSliceOf (code : Code) (inputs : List Block) (reads : Option ℕ) (f
   pub stands : StandsFor q repair
   pub ends : is_done code inputs repair ≡ done
 
--- what that many reads come to, or all, by the definition
+-- the result of re-executing this number of reads, or all, by the definition
 abbrev pub Comes : Code → List Block → Option ℕ → ℕ → Repair → Sliced → Type 0
 Comes code inputs reads fuel r (More q) = IsSliceOf code inputs reads fuel false r q
 Comes code inputs reads fuel r (Done q) = IsSliceOf code inputs reads fuel true r q
 Comes code inputs reads fuel r Spent = sliced code own inputs reads fuel r ≡ None
 
--- what is left of a repair when no more reads are to be re-executed: it is done or not
+-- what is left of a repair when no more reads should be re-executed: it is done or not
 abbrev pub IsConcluded : Code → List Block → Repair → RepairInCode → Sliced → Type 0
 IsConcluded code inputs r q (More p) = (p ≡ q) × ¬ IsHonest code inputs r.items
 IsConcluded code inputs r q (Done p) = (p ≡ q) × IsHonest code inputs r.items

@@ -57,11 +57,11 @@ pub fn first_forest(
     Ok(answer)
 }
 
-/// The repair of a trace on other inputs: change propagation, by one walk over the old items. One pass before it
-/// makes the tables by which what is taken is found, and one learns the plain words; a look-up by a table is a binary
-/// search among the old items with that key. The forest is the flat form of a trace of a call of this code, on inputs
-/// that the given ones extend with any bases; new blocks have the numbers from `next` on. It is out of fuel exactly
-/// where a run from scratch on the given inputs needs more steps than the fuel allows, although only a part is re-executed.
+/// The repair of a trace on other inputs: change propagation, by one walk over the old items. One pass before it makes
+/// the tables by which what is taken is found, and one learns the plain words; a look-up by a table is a binary search
+/// among the old items with that key. The forest is the flat form of a trace of a call of this code, on inputs that the
+/// given ones extend with any bases; new blocks have the numbers from `next` on. It is out of fuel exactly when a run
+/// from scratch on the given inputs needs more steps than the fuel allows, although only a part is re-executed.
 pub fn adjust(
     alloc: Global,
     code: &Code,

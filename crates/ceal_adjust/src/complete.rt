@@ -55,9 +55,9 @@ fn steps_among(stepped: bool, item: &Option<Item>) -> u32
 /// What a machine may not exceed.
 #[derive(Clone, Copy)]
 pub enum Limit {
-    /// that many steps among all that it writes
+    /// this number of steps, among all that it writes
     Written(u32),
-    /// that many steps that are re-executed
+    /// this number of steps, among those that are re-executed
     Work(u32),
 }
 
@@ -83,7 +83,7 @@ fn sum(steps: u64, more: u32) -> Result<u64, NoMemory>
 }
 
 /// Turns the machine until it has ended, or there are more steps than the limit allows: then it is None. No forest that
-/// fits into memory comes to 2^64 turns; a repair that did would be answered as out of memory.
+/// fits into memory takes 2^64 turns; a repair that did would be answered as out of memory.
 pub fn turn_to_end(
     alloc: Global,
     repair: &mut Repair<'_>,

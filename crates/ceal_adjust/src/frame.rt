@@ -21,7 +21,7 @@ pub enum Frame {
     Run { below: Stack },
 }
 
-/// The machine has ended, or it goes on: it has taken a step or not, and it writes an item or not.
+/// The machine has ended, or it continues: it has taken a step or not, and it writes an item or not.
 #[derive(Drop)]
 pub enum Turn {
     Ended,

@@ -23,8 +23,8 @@ use std::alloc::Global;
 mod propagate;
 mod rerun;
 
-/// A repair that is under way. It walks the old items once, with a cursor that only moves on. The stack runs in the mode
-/// Running by itself, with a number of levels of old items left over to it.
+/// A repair that is under way. It walks the old items once, with a cursor that only moves on. The stack runs in the
+/// mode Running by itself, with a number of levels of old items left over to it.
 #[derive(Drop)]
 pub struct Repair<'a> {
     alloc: Global,
@@ -108,8 +108,8 @@ impl<'a> Repair<'a> {
         }
     }
 
-    /// The unit of a read by itself, after that many steps, with what is inside the read left over: the items up to the End
-    /// that closes it.
+    /// The unit of a read by itself, after the given number of steps, with what is inside the read left over: the items
+    /// up to the End that closes it.
     #[tactic(auto, using(crate::proofs::MachineSteps::frame_steps), unfolding(crate::specs::Machines::machine_of))]
     pub fn alone(
         memory: TraceMemory<'a>,
@@ -214,8 +214,8 @@ impl<'a> Repair<'a> {
         Ok(())
     }
 
-    /// One turn: it writes a step, moves on in the old items, or ends a read. After running out of memory the repair is of no
-    /// further use.
+    /// One turn: it writes a step, moves on in the old items, or ends a read. After running out of memory the repair
+    /// must not be used any more.
     #[tactic(auto, unfolding(crate::specs::Machines::machine_of, ceal_theory::specs::Turns::turn))]
     pub fn turn(&mut self) -> Result<Turn, NoMemory>
         ensures code { OnOk result (code_of self.new ≡ code_of self.old) }

@@ -21,7 +21,7 @@ use ceal_code::code::Code;
 use ceal_code::trace_memory::TraceMemory;
 use std::alloc::Global;
 
-/// A repair that goes on: the flat items as they are, the core blocks that were known since it began, the number of the
+/// A repair in progress: the flat items as they are, the core blocks that were known since it began, the number of the
 /// next new block, and how many steps were re-executed.
 #[derive(Drop)]
 pub struct Repair {
@@ -34,7 +34,7 @@ pub struct Repair {
 /// What a slice comes to.
 #[derive(Drop)]
 pub enum Sliced {
-    /// reads are stale still: the repair goes on
+    /// reads are still stale: the repair is in progress
     More(Repair),
     /// no read is stale
     Done(Repair),
@@ -42,8 +42,8 @@ pub enum Sliced {
     Spent,
 }
 
-/// The repair of a trace that has not begun. The forest is the flat form of a trace of a call of this code, on inputs that
-/// the given ones extend with any bases; new blocks will have the numbers from `next` on.
+/// The repair of a trace that has not begun. The forest is the flat form of a trace of a call of this code, on inputs
+/// that the given ones extend with any bases; new blocks will have the numbers from `next` on.
 pub fn begin_repair(
     alloc: Global,
     code: &Code,
@@ -84,7 +84,7 @@ fn is_honest(alloc: Global, code: &Code, repair: &Repair, inputs: &Inputs) -> Re
     }
 }
 
-/// What is left when no more reads are to be re-executed.
+/// What is left when no more reads should be re-executed.
 fn concluded(
     alloc: Global,
     code: &Code,
@@ -102,7 +102,7 @@ fn concluded(
     }
 }
 
-/// Whether that many reads are all that may be re-executed.
+/// Whether the given number of reads was re-executed.
 fn is_last(reads: Option<u32>, turns: u64) -> bool
     ensures { IsTrue result ↔ (reads ≡ Some turns) }
 {
@@ -112,8 +112,9 @@ fn is_last(reads: Option<u32>, turns: u64) -> bool
     }
 }
 
-/// A slice: at most that many reads are re-executed outside each other, each with all that is stale inside it, or all where no
-/// number is given. Each turn walks the trace from its beginning, so it is for small traces and for comparison.
+/// A slice: at most `reads` reads are re-executed outside each other, each with all that is stale inside it, or all
+/// where no number is given. Each turn walks the trace from its beginning, so it is for small traces and for
+/// comparison.
 pub fn slice_repair(
     alloc: Global,
     code: &Code,

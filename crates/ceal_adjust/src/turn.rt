@@ -1,4 +1,4 @@
-// One turn of a repair that goes on: the unit of the first stale read is re-executed by itself.
+// One turn of a repair in progress: the unit of the first stale read is re-executed by itself.
 
 ghost use Rattle.std.specs.Prelude.{◌≡◌, ◌≤◌, ◌∷◌, ◌++◌, ℕ, List, MatchOption, IfOk, OnOk};
 ghost use Rattle.ceal_base.specs.Block.{Block};
@@ -40,7 +40,8 @@ pub enum Turned {
     Over,
 }
 
-/// The memory in which a slice begins: known blocks have their plain words, and their modifiables are at their defaults.
+/// The memory in which a slice begins: known blocks have their plain words, and their modifiables are at their
+/// defaults.
 pub fn memory_of<'a>(
     alloc: Global,
     code: &'a Code,
@@ -105,7 +106,7 @@ fn behind_end(items: &[Item]) -> Result<&[Item], NoMemory>
     Ok(items)
 }
 
-/// What the unit of a stale read comes to by itself.
+/// The result of the unit of a stale read by itself.
 #[derive(Drop)]
 struct Ran {
     inside: Vec<Item>,
@@ -114,8 +115,8 @@ struct Ran {
     spent: u32,
 }
 
-/// The unit of a stale read runs by itself, with what was inside the read left over. None where more steps are re-executed
-/// than the fuel allows.
+/// The unit of a stale read runs by itself, with what was inside the read left over. None where more steps are
+/// re-executed than the fuel allows.
 fn run_alone(
     alloc: Global,
     memory: TraceMemory<'_>,

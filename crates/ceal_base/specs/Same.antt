@@ -8,7 +8,7 @@ use Rattle.ceal_base.specs.declared.word.BlockId.TheVariants.{Input, Core}
 use Rattle.ceal_base.specs.declared.word.Word.{Word}
 use Rattle.ceal_base.specs.declared.word.Word.TheVariants.{Num, Null, Block as BlockWord, At}
 
--- where the number stands first, or the list's length
+-- the index of its first occurrence, or the list's length
 abbrev pub index_of : List ℕ → ℕ → ℕ
 index_of [] n = 0
 index_of (b ∷ bs) n = if b == n then 0 else index_of bs n + 1

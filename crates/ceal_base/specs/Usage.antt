@@ -44,7 +44,7 @@ ValueUsage fs (ModrefInt at) = Unit {0}
 ValueUsage fs (Modref at s) = Unit {0}
 
 -- a statement of a core function: no field is written, only core functions are called, and `break` and `continue`
--- stand in a loop; the truth value says whether the statement stands in one
+-- are in a loop; the truth value says whether the statement is in one
 unfoldable mutual
   pub CoreUsage : List TypedFunction → Bool → TypedStmt → Type 0
   CoreUsage fs looped (Declare at n kind value) = ValueUsage fs value

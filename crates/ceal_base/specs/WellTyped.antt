@@ -44,7 +44,7 @@ IsPointer (Ptr s) = Unit {0}
 IsPointer ModInt = Unit {0}
 IsPointer (ModPtr s) = Unit {0}
 
--- a value of this kind may stand where that kind is asked; `null`, which has none, where a pointer is asked
+-- a value of this kind may be used where that kind is asked; `null`, which has none, where a pointer is asked
 abbrev pub Suits : Kind → Option Kind → Type 0
 Suits asked None = IsPointer asked
 Suits asked (Some given) = asked ≡ given
@@ -56,7 +56,7 @@ Comparable None (Some kind) = IsPointer kind
 Comparable (Some kind) None = IsPointer kind
 Comparable (Some kind) (Some other) = kind ≡ other
 
--- the operator may stand between values of these kinds
+-- the operator may be used between values of these kinds
 abbrev pub OperandsSuit : Binary → Option Kind → Option Kind → Type 0
 OperandsSuit Same left right = Comparable left right
 OperandsSuit Differ left right = Comparable left right
@@ -74,12 +74,12 @@ kind_held (Some ModInt) = Some Int
 kind_held (Some (ModPtr s)) = Some (Ptr s)
 kind_held _ = None
 
--- the kind of `p->f`, of a plain field alone
+-- the kind of `p->f`, of a plain field
 abbrev pub plain_kind : Option FieldKind → Option Kind
 plain_kind (Some (Plain kind)) = Some kind
 plain_kind _ = None
 
--- the kind of `&p->f`, of an embedded modifiable alone
+-- the kind of `&p->f`, of an embedded modifiable
 abbrev pub address_kind : Option FieldKind → Option Kind
 address_kind (Some CellInt) = Some ModInt
 address_kind (Some (CellPtr s)) = Some (ModPtr s)
@@ -143,7 +143,7 @@ unfoldable mutual
 abbrev pub ExprTyped : Context → List ℕ → TypedExpr → Type 0
 ExprTyped c seen e = FormTyped c seen e.kind e.form
 
--- the expression is typed, and may stand where the kind is asked
+-- the expression is typed, and may be used where the kind is asked
 abbrev pub ExprSuits : Context → List ℕ → Kind → TypedExpr → Type 0
 ExprSuits c seen asked e = ExprTyped c seen e × Suits asked e.kind
 

@@ -1,4 +1,4 @@
-// A value on the heap that may stand inside its own type.
+// A value on the heap that may occur inside its own type.
 
 ghost use Rattle.std.specs.Prelude.{◌≡◌, IfOk};
 

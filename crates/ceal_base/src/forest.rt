@@ -59,7 +59,7 @@ pub enum Item {
         place: Place,
         value: Word,
     },
-    /// a read with its closure: the unit that goes on, the variable that takes the value, and the arguments;
+    /// a read with its closure: the unit that continues, the variable that takes the value, and the arguments;
     /// the items up to the `End` that closes it are inside it
     Read {
         place: Place,

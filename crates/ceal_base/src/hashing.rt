@@ -3,8 +3,8 @@
 ghost use Rattle.std.specs.Prelude.{◌≡◌};
 ghost use Rattle.ceal_base.specs.Hashing.{mixed as one_more, scrambled};
 
-/// One more number after a digest. Values of a program are hashed, and it chooses them: a digest that is a sum of products
-/// gives keys by a product one hash, and this one does not (the finaliser of SplitMix64).
+/// One more number after a digest. Values of a program are hashed, and it chooses them: a digest that is a sum of
+/// products gives keys by a product one hash, and this one does not (the finaliser of SplitMix64).
 pub fn mixed(digest: u64, number: u64) -> u64
     ensures mixed { result ≡ one_more digest number }
 {

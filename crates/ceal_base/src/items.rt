@@ -1,4 +1,4 @@
-// A list that may stand inside the type of its own items.
+// A list that may occur inside the type of its own items.
 
 ghost use Rattle.std.specs.Prelude.{◌≡◌, ◌∷◌, [], ◌++◌, OnOk, OnErr};
 

@@ -1,7 +1,7 @@
 //! What every part of the compiler and of the runtime speaks of: values and memory, the trees of a program,
 //! the forest of a trace, faults, and the operators of the language.
 //!
-//! Contracts see a type that holds a list as that list, or as the record of its parts. The definitions stand in
+//! Contracts see a type that holds a list as that list, or as the record of its parts. The definitions are in
 //! `specs/`: the operators as equations, memory and its blocks, a trace as tree data with its flat list, and
 //! memories that are one up to the numbers of their core blocks.
 #![tactic(auto)]

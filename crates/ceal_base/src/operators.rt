@@ -34,8 +34,8 @@ pub enum Binary {
     Differ,
     And,
     Or,
-    /// the element of a row of this many modifiables, by the place of its first one and an index; null for an index below 0
-    /// or past the row
+    /// the element of a row of this many modifiables, by the place of its first one and an index; null for an index
+    /// below 0 or past the row
     Pick(u32),
 }
 

@@ -4,9 +4,9 @@ use crate::forest::Forest;
 use crate::memory::{Inputs, Memory};
 use crate::words::Words;
 
-/// A trace on record: the inputs with their bases, the call of a core function by its number, the flat items of the trace,
-/// and the memory after it. The core blocks of the memory stand in the order of their allocations, and its words name
-/// them by the numbers that the trace gives them.
+/// A trace on record: the inputs with their bases, the call of a core function by its number, the flat items of the
+/// trace, and the memory after it. The core blocks of the memory are in the order of their allocations, and its words
+/// name them by the numbers that the trace gives them.
 #[derive(Drop)]
 pub struct Record {
     pub inputs: Inputs,

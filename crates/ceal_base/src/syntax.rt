@@ -6,7 +6,7 @@ use crate::items::Items;
 use crate::operators::{Binary, Unary};
 use crate::text::Text;
 
-/// A name, and where it stands.
+/// A name, and its place.
 #[derive(Drop)]
 pub struct Ident {
     pub text: Text,
@@ -82,7 +82,7 @@ pub enum Value {
 pub enum Stmt {
     Declare(Span, TypeForm, Ident, Value),
     Assign(Ident, Value),
-    /// what stands left of the last `->`, the field's name, and the value
+    /// what is to the left of the last `->`, the field's name, and the value
     SetField(Span, Expr, Ident, Expr),
     Write(Span, Expr, Expr),
     Call(Ident, Exprs),

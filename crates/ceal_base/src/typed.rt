@@ -10,8 +10,8 @@ use crate::operators::{Binary, Unary};
 use crate::syntax::Ident;
 use crate::text::Text;
 
-/// A field of a struct. A row of modifiables `f[N]` is N fields of one kind, named `f[0]` to `f[N-1]`: `row` is N at the
-/// first of them, and 0 at every other field.
+/// A field of a struct. A row of modifiables `f[N]` is N fields of one kind, named `f[0]` to `f[N-1]`: `row` is N at
+/// the first of them, and 0 at every other field.
 #[derive(Drop)]
 pub struct FieldInfo {
     pub name: Text,
@@ -52,7 +52,7 @@ pub enum TypedForm {
     /// the span is that of the operator; of `Pick` it is that of the field's name, and its operands are the address of
     /// the row's first modifiable and the index
     Binary(Binary, Span, Boxed<TypedExpr>, Boxed<TypedExpr>),
-    /// a plain field: what stands left of the last `->`, the struct's number, the field's number
+    /// a plain field: what is to the left of the last `->`, the struct's number, the field's number
     Field(Boxed<TypedExpr>, u32, u32),
     /// `&` of an embedded modifiable, with the same parts
     Address(Boxed<TypedExpr>, u32, u32),

@@ -43,7 +43,7 @@ status_number Memory = 4
 status_number ReadFault = 5
 status_number WriteFault = 6
 
--- what is told of a status
+-- what is said of a status
 abbrev pub status_text : Status → List ℕ
 status_text Done = []
 status_text Refused = []

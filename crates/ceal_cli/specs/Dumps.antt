@@ -35,7 +35,7 @@ IsWrittenOf m write out = IsWrittenBy (asked m.state Steps) m write out
 abbrev pub IsDumpOf : Situation → List ℕ → Type 0
 IsDumpOf m out = IsWrittenOf m dump_text out
 
--- So it is after the lines, from a state where nothing was run.
+-- The same, after these lines in a new session.
 pub record IsDumped (code : Code) (s : State) (lines : List (List ℕ)) (out : List ℕ) : Type 0 where
   pub replies : List ℕ
   pub end : Situation

@@ -18,7 +18,7 @@ IsSaveRead bytes part (Ok s) = (part.marked ≡ true) × IsSave (source_of bytes
 IsSaveRead bytes part (Err Memory) = Unit {0}
 IsSaveRead bytes part (Err Unreadable) = ¬ Resumption bytes
 
--- The session goes on from the save before the second mark, which holds.
+-- The session continues from the save before the second mark, which holds.
 pub record GoesOn (program : Program) (bytes : List ℕ) (part : Split) (session : Situation) : Type 0 where
   pub marked : part.marked ≡ true
   pub saved : Save

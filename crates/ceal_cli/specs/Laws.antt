@@ -63,7 +63,7 @@ RefusedLaw = (mode : Mode) (input : List ℕ) → ReadsInput mode → length inp
 abbrev pub RepliedLaw : Type 0
 RepliedLaw = (input : List ℕ) (fuel : ℕ) → IsAccepted input → (out : List ℕ) × IsOutput (Run fuel) input out
 
--- And so it has for `dump`, for `save`, for `many` and for `verify`, whatever stands after the mark.
+-- And so it has for `dump`, for `save`, for `many` and for `verify`, whatever is after the mark.
 abbrev pub DumpedLaw : Type 0
 DumpedLaw = (input : List ℕ) (fuel : ℕ) → IsAccepted input → (out : List ℕ) × IsOutput (Dump fuel) input out
 

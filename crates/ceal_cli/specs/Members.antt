@@ -16,7 +16,7 @@ use Rattle.ceal_session.specs.State.{Situation}
 use Rattle.ceal_cli.specs.declared.members.Member.{Member}
 use Rattle.ceal_cli.specs.declared.members.Start.{Start}
 
--- The input is accepted, this is its program, and a run may take that many steps.
+-- The input is accepted, this is its program, and `fuel` is the largest number of steps of a run.
 pub record Opens (input : List ℕ) (program : Program) (fuel : ℕ) : Type 0 where
   pub small : length input < 2 ^ 32
   pub reads : IsProgram input program.typed
@@ -35,7 +35,7 @@ AreIn sessions situations = StandFor (λ member m. IsIn (situation member.sessio
 abbrev pub AreReady : List (Entry Member) → Type 0
 AreReady sessions = IsReady AreIn (AllMeet Stands) sessions
 
--- The line is answered by the text, and the sessions go on.
+-- The line is answered by the text, and the sessions continue.
 abbrev pub Answered
     : Situation → List (Entry Member) → List ℕ → List (Entry Member) → List ℕ → Type 0
 Answered first old line new text = IsAnswered AreIn (Answers Replies first) old line text new

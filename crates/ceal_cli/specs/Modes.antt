@@ -27,7 +27,7 @@ IsOption fuel option =
     (text : Text) × SpellsFuel text fuel
     × ((option ≡ codes "--fuel" ∷ text ∷ []) ⊎ (option ≡ (codes "--fuel=" ++ text) ∷ []))
 
--- The option stands before the word, or after it; what is after a `--` is no option.
+-- The option is before the word, or after it; what is after a `--` is no option.
 abbrev pub HaveOption : ℕ → Text → List Text → Type 0
 HaveOption fuel word words =
     (option : List Text) × (rest : List Text) × IsOption fuel option

@@ -97,7 +97,7 @@ IsGenerated kind seed size out = IsOutputFromRun (workload_text kind seed size) 
 
 -- What is written for an accepted input: `accepted`, the text of its trace code, or, from a state
 -- without inputs, the replies to the lines of its script, the dump or the save after them, or the replies
--- of many sessions; or what the checker says of the dump after the mark, or the replies to the script
+-- of many sessions. Or it is what the checker says of the dump after the mark, or the replies to the script
 -- after the save there. For a workload the input is of no account.
 abbrev pub IsAnswer : Mode → List ℕ → List ℕ → Type 0
 IsAnswer Check input out = IsAccepted input × (out ≡ accepted_text)

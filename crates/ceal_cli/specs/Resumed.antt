@@ -1,4 +1,4 @@
--- A session that is resumed: what stands after the first mark, and what is written.
+-- A session that is resumed: what is after the first mark, and what is written.
 use Rattle.std.specs.Prelude.{◌≡◌, ◌⊎◌, ℕ, true, List, codes}
 use Rattle.ceal_base.specs.Trace.{Trace, flat}
 use Rattle.ceal_base.specs.declared.typed.Typed.{Typed}
@@ -33,7 +33,7 @@ not_holding = codes "refused V2: save does not hold\n"
 abbrev pub IsResumable : Code → List ℕ → Type 0
 IsResumable code bytes = (r : Resumption bytes) × Holding code r.saved
 
--- why there is none to go on from
+-- why there is none to continue from
 abbrev pub IsNotResumed : Code → List ℕ → List ℕ → Type 0
 IsNotResumed code bytes out =
     (¬ Resumption bytes × (out ≡ unreadable_save))

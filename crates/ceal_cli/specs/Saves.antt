@@ -1,4 +1,4 @@
--- What is written to go on from later: the source part, a line `%%`, and the save of the situation after a
+-- What is written to continue from later: the source part, a line `%%`, and the save of the situation after a
 -- script.
 use Rattle.std.specs.Prelude.{ℕ, List, ◌++◌, codes}
 use Rattle.ceal_base.specs.declared.recorded.Record.{Record}
@@ -29,7 +29,7 @@ with_source source s = source ++ (mark_line ++ save_text s)
 abbrev pub IsSaveOf : Situation → List ℕ → List ℕ → Type 0
 IsSaveOf m source out = IsWrittenOf m (λ kept. with_source source (save_of m kept)) out
 
--- So it is after the lines, from a state where nothing was run.
+-- The same, after these lines in a new session.
 pub record IsSavedBehind
     (code : Code) (s : State) (source : List ℕ) (lines : List (List ℕ)) (out : List ℕ) : Type 0 where
   pub replies : List ℕ

@@ -29,7 +29,7 @@ use ceal_theory::names::renaming_law;
 use ceal_types::seed::Seed;
 use std::alloc::Global;
 
-// The dump of a record. Where one of its counts has no room in 32 bits, there is no memory for that many.
+// The dump of a record. Where one of its counts has no room in 32 bits, that is out of memory.
 fn text_of(alloc: Global, kept: &Record) -> Result<Text, NoMemory>
     requires core { all_core kept.now.forest ≡ true }
     requires ends { closed 0 kept.now.forest ≡ true }

@@ -57,9 +57,10 @@ pub fn one_side()
     ceal_snap::laws::one_save_law();
 }
 
-/// An input has an output in each mode that reads: the line of its fault where it is not accepted, and else what is asked
-/// for, also where the bytes after the mark are the dump of no record, or where no save that holds is there to go on from.
-/// And a workload has its text. The lexer counts bytes in 32 bits, so a text of `2 ^ 32` bytes or more is no input.
+/// An input has an output in each mode that reads: the line of its fault where it is not accepted, and otherwise what
+/// is asked for. So it has one where the bytes after the mark are the dump of no record, or where there is no save that
+/// holds to continue from. And a workload has its text. The lexer counts bytes in 32 bits, so a text of `2 ^ 32` bytes
+/// or more is no input.
 pub fn some_output()
     ensures output { SomeOutputLaw }
     ensures check { CheckedLaw }
@@ -94,9 +95,9 @@ pub fn some_output()
     ceal_compile::laws::accepted_is_compiled();
 }
 
-/// Where `verify` writes yes, the call that the dump records ends after exactly its steps, run from scratch by the meaning of
-/// the source, in the dumped memory up to the numbers of core blocks, of which there are as many. Nothing is asked of who made
-/// the dump.
+/// Where `verify` writes yes, the call that the dump records ends after exactly its steps, run from scratch by the
+/// meaning of the source, in the dumped memory up to the numbers of core blocks, of which there are as many. Nothing is
+/// asked of who made the dump.
 pub fn verified()
     ensures law { VerifiedLaw }
 {
@@ -123,9 +124,10 @@ pub fn save_tail()
     ensures law { TailLaw }
 {}
 
-/// What `save` wrote of an input, a line `%%` and more lines after it are taken by `resume`, and it writes the replies that
-/// `run` gives to these lines after those of the first script: a session that is saved and resumed answers as one that goes
-/// on. That `save` writes such a text, unless it says that there is no run, is a clause of `ceal_main` (`saved`).
+/// What `save` wrote of an input, a line `%%` and more lines after it are taken by `resume`, and it writes the replies
+/// that `run` gives to these lines after those of the first script: a session that is saved and resumed answers as one
+/// that never stopped. That `save` writes such a text, unless it says that there is no run, is a clause of `ceal_main`
+/// (`saved`).
 pub fn resumed_output()
     ensures taken { ResumableLaw }
     ensures replies { ResumedOutputLaw }
@@ -142,8 +144,8 @@ pub fn resumed_output()
     ceal_session::laws::resumed_law();
 }
 
-/// For a save that holds, whoever wrote it, `resume` writes the replies of a session that has the first trace of the call,
-/// line by line, but for the numbers of `work` and `bound` before the next completed run or repair.
+/// For a save that holds, whoever wrote it, `resume` writes the replies of a session that has the first trace of the
+/// call, line by line, but for the numbers of `work` and `bound` before the next completed run or repair.
 pub fn stranger_output()
     ensures law { StrangerOutputLaw }
 {
@@ -155,8 +157,9 @@ pub fn stranger_output()
     ceal_session::laws::stranger_law();
 }
 
-/// With `many`, the replies to the lines for one of the first 64 names are those that its session gives to them by itself, so
-/// they depend only on these lines, and are what `run` writes for them. The lines for any other name are refused.
+/// With `many`, the replies to the lines for one of the first 64 names are those that its session gives to them by
+/// itself, so they depend only on these lines, and are what `run` writes for them. The lines for any other name are
+/// refused.
 pub fn own_replies()
     ensures own { OwnRepliesLaw Replies }
     ensures refused { Others_refused_law Replies }

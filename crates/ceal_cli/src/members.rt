@@ -61,8 +61,8 @@ impl Answerer for Member {
     }
 }
 
-/// What makes the sessions of an input, which is compiled again for each. The hashes of names begin in all of them with one
-/// seed, made of the whole input. Contracts see the program and the fuel.
+/// What makes the sessions of an input, which is compiled again for each. The hashes of names begin in all of them with
+/// one seed, made of the whole input. Contracts see the program and the fuel.
 #[derive(Drop)]
 pub struct Members<'a> {
     alloc: Global,

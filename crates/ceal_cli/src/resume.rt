@@ -29,12 +29,12 @@ use ceal_types::seed::Seed;
 use std::alloc::Global;
 use std::mem::forget;
 
-/// Why no session goes on.
+/// Why no session continues.
 #[derive(Clone, Copy, PartialEq, Eq, Debug)]
 pub enum NotResumed {
     /// there was no memory
     Memory,
-    /// no save stands before a second mark
+    /// there is no save before a second mark
     Unreadable,
     /// the save does not hold
     Unsound,
@@ -53,7 +53,7 @@ fn save_before(alloc: Global, bytes: &[u8], part: &Split) -> Result<Saved, SaveE
     read_save(alloc, source(bytes, part))
 }
 
-// The session that goes on from the save before the second mark.
+// The session that continues from the save before the second mark.
 fn resumed(
     alloc: Global,
     program: Program,
@@ -84,8 +84,8 @@ fn resumed(
     }
 }
 
-/// Writes the replies to the script after the second mark, from the save before it on, and says whether there is one that
-/// holds. Where there is none, the line that says why is written.
+/// Writes the replies to the script after the second mark, from the save before it on, and says whether there is one
+/// that holds. Where there is none, the line that says why is written.
 pub fn resume<K: Sink>(
     alloc: Global,
     input: Input<'_>,
@@ -100,7 +100,8 @@ pub fn resume<K: Sink>(
     ensures writes { Writes result (K.written sink.old) (K.written sink.new)
         (K.faults sink.old) (K.faults sink.new) (IsOutput Resume input.entry.bytes.now) }
 {
-    // for the proof: an input has one program and one save; a session keeps to its situation, where each line has a reply
+    // for the proof: an input has one program and one save; a session keeps to its situation, where each line has a
+    // reply
     kept_line();
     some_reply();
     one_answer();

@@ -1,4 +1,4 @@
-// What is written to go on from later.
+// What is written to continue from later.
 
 ghost use Rattle.std.specs.Prelude.{◌≡◌, true, IfOk, OnOk};
 ghost use Rattle.ceal_dump.specs.DumpText.{all_core, closed};
@@ -33,7 +33,7 @@ use ceal_theory::names::renaming_law;
 use ceal_types::seed::Seed;
 use std::alloc::Global;
 
-// The source part, a line `%%`, and the save. Where one of its counts has no room in 32 bits, there is no memory for that many.
+// The source part, a line `%%`, and the save. Where one of its counts has no room in 32 bits, that is out of memory.
 fn text_of(alloc: Global, source: &[u8], saved: &Saved) -> Result<Text, NoMemory>
     requires names { AreSpelled saved.now.names }
     requires core { all_core saved.now.kept.forest ≡ true }

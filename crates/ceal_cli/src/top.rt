@@ -26,7 +26,8 @@ use std::alloc::Global;
 pub enum Status {
     /// what was asked for was done and written whole
     Done,
-    /// the source part is not accepted, or there is no save that holds to go on from; the line that says why was written whole
+    /// the source part is not accepted, or there is no save that holds to continue from; the line that says why was
+    /// written whole
     Refused,
     /// the words ask for nothing
     Usage,
@@ -163,7 +164,8 @@ pub fn ceal_main<S: Source, K: Sink>(
         (λ input. WritesPrefix (K.written sink.old) (K.written sink.new) mode input) }
     ensures silent { IsSilent result → Keeps (K.written sink.old) (K.written sink.new) }
 
-    // The input is read whole, up to the limit, before anything is written of it; where none is asked for, none is read.
+    // The input is read whole, up to the limit, before anything is written of it; where none is asked for, none is
+    // read.
     ensures read { IsAfterReading result → AskToRead (texts words.now)
         → IsAtEnd (S.left source.new) }
     ensures within { IsAfterReading result → AskToRead (texts words.now)

@@ -20,7 +20,7 @@ pub enum Mode {
     Check,
     /// the trace code of the source part, and else its first fault
     List,
-    /// the replies to the script, where a run may take that many steps
+    /// the replies to the script, with the largest number of steps of a run
     Run(u32),
     /// the replies of a workload, which no input is read for
     Gen {
@@ -28,13 +28,13 @@ pub enum Mode {
         seed: u32,
         size: u32,
     },
-    /// the dump of the run's record after the script, where a run may take that many steps
+    /// the dump of the run's record after the script, with the largest number of steps of a run
     Dump(u32),
     /// what the checker says of the dump after the mark
     Verify,
-    /// the replies to a script of many sessions, where a run may take that many steps
+    /// the replies to a script of many sessions, with the largest number of steps of a run
     Many(u32),
-    /// the source part and the save of the session after the script, where a run may take that many steps
+    /// the source part and the save of the session after the script, with the largest number of steps of a run
     Save(u32),
     /// the replies to the script after the save after the mark
     Resume,

@@ -14,7 +14,7 @@ use Rattle.ceal_fold.specs.Folding.{folded}
 use Rattle.ceal_mean.specs.Fresh.{fresh}
 use Rattle.ceal_norm.specs.Laws.{AreUnitsOf}
 
--- every run of a core function comes to the same memory as that of the source, in as many steps and with as
+-- every run of a core function ends with the same memory as that of the source, in as many steps and with as
 -- many new blocks
 abbrev pub Means : Code → Typed → Type 0
 Means code p = (f : ℕ) (args : List Word) (inputs : List Block) (fuel : ℕ) → IsCore (slice_get p.functions f)

@@ -38,7 +38,7 @@ pub record IsMisplaced (ts : List Token) (r : Result Typed Fault) : Type 0 where
   pub stands : IsFirstFault ts fault
   pub same : r ≡ Err fault
 
--- The tokens are those of a tree, and it comes to this.
+-- The tokens are those of a tree, and this is its result.
 pub record IsParsed (ts : List Token) (r : Result Typed Fault) : Type 0 where
   pub tree : Tree
   pub accepted : Accepts ts tree

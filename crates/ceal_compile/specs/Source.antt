@@ -16,7 +16,7 @@ pub record IsMisspelled (input : List ℕ) (part : Split) (r : Result Typed Faul
   pub stands : IsFirstMisspelling (source_of input part) fault
   pub same : r ≡ Err fault
 
--- The part has these tokens, and they come to this.
+-- The part has these tokens, and this is their result.
 pub record IsLexed (input : List ℕ) (part : Split) (r : Result Typed Fault) : Type 0 where
   pub tokens : List Token
   pub lexed : AreTokens (source_of input part) part.marked tokens

@@ -183,7 +183,7 @@ pub fn compile(alloc: Global, input: &[u8]) -> Result<Program, FrontError>
     compile_part(alloc, input, &split(input))
 }
 
-/// A law: an input comes to one program or one first fault at most.
+/// A law: an input has at most one program or one first fault.
 pub fn one_answer()
     ensures law { (input : List ℕ) (a b : ResultOf TypedRecord FaultRecord) → Comes input a
         → Comes input b → a ≡ b }

@@ -6,7 +6,7 @@ ghost use Rattle.ceal_base.specs.declared.typed.Typed.{Typed as TypedRecord};
 ghost use Rattle.ceal_compile.specs.Laws.{CallsLaw, CompiledLaw, OneCodeLaw, SomeCodeLaw, SomeCompiledLaw, StructsLaw};
 ghost use Rattle.ceal_compile.specs.Source.{Comes};
 
-/// A law: an input comes to a program or to a first fault, if it is shorter than 2^32 bytes.
+/// A law: an input has a program or a first fault, if it is shorter than 2^32 bytes.
 pub fn some_answer()
     ensures law { (input : List ℕ) → length input < 2 ^ 32
         → (r : ResultOf TypedRecord FaultRecord) × Comes input r }

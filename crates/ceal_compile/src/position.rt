@@ -1,4 +1,4 @@
-// Where a byte stands in a text.
+// The place of a byte in a text.
 
 ghost use Rattle.std.specs.Prelude.{◌≡◌, ◌+◌, ◌<◌, ◌≤◌, ◌==◌, ◌^◌, if◌then◌else◌};
 ghost use Rattle.ceal_compile.specs.FaultLine.{line_after, column_after};

@@ -1,4 +1,5 @@
--- Two runs of INC side by side: unit 0 reads its first parameter, and unit 1 writes one more than the value to the second.
+-- Two runs of INC side by side: unit 0 reads its first parameter, and unit 1 writes one more than the value to the
+-- second.
 use Rattle.std.proofs.Common.{◌≡◌, pos, Some, [], ◌∷◌, refl}
 use Rattle.ceal_base.specs.declared.word.BlockId.TheVariants.{Core}
 use Rattle.ceal_base.specs.declared.word.Word.{Word}

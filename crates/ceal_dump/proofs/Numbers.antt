@@ -7,7 +7,7 @@ use Rattle.std.proofs.lemmas.Fmt.{decimal_by_steps}
 use Rattle.ceal_base.specs.Digits.{is_digit}
 use Rattle.ceal_dump.specs.Reading.{first_byte, with_digit, number_from, number_at, small, small_at, int_at}
 
--- the bytes do not go on with a digit
+-- the bytes do not continue with a digit
 abbrev pub Ends : List ℕ → Type 0
 Ends bs = is_digit (first_byte bs) ≡ false
 

@@ -1,4 +1,4 @@
--- The dump text of a record. Every line ends with a line feed, and one space stands between the words of a line.
+-- The dump text of a record. Every line ends with a line feed, and there is one space between the words of a line.
 use Rattle.std.specs.Prelude.{◌≡◌, pos, negsuc, ℕ, zero, suc, ◌<◌, ◌^◌, Bool, true, false, ◌&&◌, List, [], ◌∷◌, ◌++◌, length, codes}
 use Rattle.std.specs.Fmt.{decimal, signed_decimal}
 use Rattle.ceal_base.specs.Block.{Block}
@@ -130,7 +130,7 @@ pub record HasDump (r : Record) : Type 0 where
   pub core : all_core r.forest ≡ true
   pub ends : closed 0 r.forest ≡ true
 
--- its counts alone
+-- only its counts
 pub record HasRoom (r : Record) : Type 0 where
   pub inputs : length r.inputs < 2 ^ 32
   pub items : length r.forest < 2 ^ 32

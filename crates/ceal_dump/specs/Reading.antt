@@ -120,7 +120,7 @@ many_from read (suc n) bs =
     if length bs == 0 then ([], bs)
     else ((read bs).0 ∷ (many_from read n (read bs).1).0, (many_from read n (read bs).1).1)
 
--- that many lines of blocks
+-- this number of lines of blocks
 abbrev pub blocks_from : ℕ → List ℕ → List Block × List ℕ
 blocks_from n bs = many_from line_at n bs
 
@@ -162,7 +162,7 @@ item_at bs =
     else if first_byte bs == 114 then read_at (drop 2 bs)
     else (End, drop 2 bs)
 
--- that many items
+-- this number of items
 abbrev pub items_from : ℕ → List ℕ → List Item × List ℕ
 items_from n bs = many_from item_at n bs
 

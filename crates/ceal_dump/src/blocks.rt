@@ -1,4 +1,4 @@
-// Blocks as they stand in a dump, read.
+// Reads the blocks of a dump.
 
 ghost use Rattle.std.specs.Prelude.{◌≡◌, IfOk, OnOk};
 ghost use Rattle.ceal_dump.specs.Reading.{shape_at, line_at, blocks_from};

@@ -75,8 +75,8 @@ pub fn has_room(kept: &Record) -> bool
         && is_count(kept.memory.items().len())
 }
 
-/// Whether the record has a dump: its counts have room in 32 bits, each allocation is of a core block, and each read has its
-/// end.
+/// Whether the record has a dump: its counts have room in 32 bits, each allocation is of a core block, and each read
+/// has its end.
 pub fn has_dump(kept: &Record) -> bool
     ensures value { IsTrue result ↔ HasDump kept.now }
 {

@@ -1,4 +1,4 @@
-// Items as they stand in a dump, read.
+// Reads the items of a dump.
 
 ghost use Rattle.std.specs.Prelude.{◌≡◌, IfOk, OnOk};
 ghost use Rattle.ceal_dump.specs.Reading.{key_at, alloc_at, write_at, read_at, item_at, items_from};

@@ -12,8 +12,8 @@ pub fn dump_or_none()
     ensures law { DumpOrNoneLaw }
 {}
 
-/// What is written of a record is read as that record: `dump_text` writes its dump (`dump`), and of a dump `read_dump` gives
-/// the record, if there is memory.
+/// What is written of a record is read as that record: `dump_text` writes its dump (`dump`), and of a dump `read_dump`
+/// gives the record, if there is memory.
 pub fn read_back_law()
     ensures law { ReadBackLaw }
 {}

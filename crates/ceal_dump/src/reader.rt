@@ -7,7 +7,8 @@ ghost use Rattle.ceal_dump.specs.Reading.{first_byte, number_from, number_at, sm
 use ceal_base::digits::is_digit;
 use std::marker::Model;
 
-/// From here on a number is not looked at further: with another digit it fits 64 bits, and no number of a dump is so large.
+/// From here on a number is not looked at further: with another digit it fits 64 bits, and no number of a dump is so
+/// large.
 const LARGE: u64 = 1 << 60;
 
 /// Bytes that are read from the front, which contracts see as those that are left.

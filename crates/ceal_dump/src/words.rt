@@ -1,4 +1,4 @@
-// Words as they stand in a dump, read.
+// Reads the words of a dump.
 
 ghost use Rattle.std.specs.Prelude.{◌≡◌, IfOk, OnOk};
 ghost use Rattle.ceal_dump.specs.Reading as reading;

@@ -1,5 +1,6 @@
-//! Two small programs that embed CEAL as a library, as its users would write them: `order` keeps a session and speaks to it by the
-//! lines of a script; `square` drives an engine by calls, with code compiled from a text. `docs/LIBRARY.md` goes through both.
+//! Two small programs that embed CEAL as a library, as its users would write them: `order` keeps a session and speaks
+//! to it by the lines of a script; `square` drives an engine by calls, with code compiled from a text.
+//! `docs/LIBRARY.md` goes through both.
 #![tactic(auto)]
 
 mod order;

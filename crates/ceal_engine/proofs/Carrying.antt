@@ -1,4 +1,4 @@
--- A run with which a repair goes on, and what a slice of it is of the definition's repair.
+-- A run with which a repair is in progress, and which slice of the definition's repair a slice of it is.
 use Rattle.std.proofs.Common.{◌≡◌, ℕ, ◌+◌, ◌<◌, Bool, true, false, Option, Some, None, List, refl, sym, ap, subst, ◌∙◌, inl, inr, ◌⊎◌, arith}
 use Rattle.std.specs.Option.{IsSomeAnd}
 use Rattle.std.specs.Prelude.{◌↔◌, IsSome, Ok, Err}
@@ -80,7 +80,7 @@ module _ (code : Code) (fuel : ℕ) (inputs : List Block) (call : Call) (l : Tra
     carried = carried-begin-law code inputs inputs call.function call.args l (next run.heap) 0 edited;
   }
 
--- ---- the run with which a repair goes on
+-- ---- the run with which a repair is in progress
 
 pub opened-whole : (phase : Phase) (run : Running) → IsWhole phase → opened phase (Some run) ≡ Some (idle run)
 opened-whole New run h = absurd (grind (arith, h))
@@ -108,7 +108,7 @@ module _ (code : Code) (fuel : ℕ) (inputs : List Block) (phase : Phase) where
   open-run (Some call) (Some run) (KeepsRun.part p k) old e =
       subst (IsPartKept code fuel inputs call) (some-same run old (sym (opened-part phase (Some run) p) ∙ e)) k
 
-  -- where there is a run, one is there to go on with
+  -- where there is a run, there is one to continue with
   pub some-open : (call : Option Call) (run : Option Running) → Keeps code fuel inputs phase call run → has_run phase ≡ true → opened phase run ≡ None → ⊥
   some-open call None h there e = absurd (grind (arith, h, there))
   some-open None (Some run) h there e = elim h [ ]
@@ -181,8 +181,8 @@ module _ (code : Code) (inputs : List Block) (f : ℕ) (args : List Word) (fuel 
     pub whole-done : k ≡ None → IsHonest code inputs z.items
     whole-done e = whole-law code s.names inputs f args part.fits (counted_anew q) anew-sound z (subst (λ o. Slices code s.names inputs o (counted_anew q) z) e by-rules)
 
--- The slice is the definition's with its blocks renamed: a block that was known before has the number that it had, and a
--- new one a number that no block had.
+-- The slice is the definition's with its blocks renamed: a block that was known before has the number that it had, and
+-- a new one a number that no block had.
 pub record Renames (code : Code) (next' : ℕ) (before now : Repair) (l m : Trace) : Type 0 where
   pub pairs : Pairs
   pub one : OneToOne pairs
@@ -233,7 +233,7 @@ not-done-of code inputs r stale = go (is_done code inputs r) refl
     go true e = absurd (stale ((is-done-law code inputs r).0 e))
     go false e = e
 
--- ---- an engine that goes on
+-- ---- an engine whose repair is in progress
 
 module _ (code : Code) (fuel : ℕ) (inputs : List Block) (phase : Phase) (call : Call) (before run : Running) (is : opened phase (Some before) ≡ Some run) (k : IsPartKept code fuel inputs call run) where
   abbrev e : EngineState
@@ -414,7 +414,7 @@ pub slice-for : (code : Code) (fuel : ℕ) (inputs : List Block) (call : Option 
 slice-for code fuel inputs None reads run run' s h = tt
 slice-for code fuel inputs (Some call) reads run run' s h = h call.function call.args
 
--- ---- a repair of the call goes on
+-- ---- a repair of the call is in progress
 
 pub is-under-way : (code : Code) (fuel : ℕ) (inputs : List Block) (phase : Phase) (call : Option Call) (run : Option Running) → Keeps code fuel inputs phase call run → phase ≡ Partial → IsUnderWay (state_of code fuel inputs call phase run)
 is-under-way code fuel inputs phase call None h e = absurd (grind (arith, rw e at h))

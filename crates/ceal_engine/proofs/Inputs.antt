@@ -134,7 +134,7 @@ module _ (code : Code) (xs ys : List Block) (kept : ShapesKept (alone xs) (alone
   call-kept None h = tt
   call-kept (Some call) h = record { is_valid = h.is_valid; blocks = fits; words = args-kept (slice_get code.functions call.function) call.args h.words }
 
--- a trace goes on where each old input has its shape and its plain words
+-- a trace still replays where each old input has its shape and its plain words
 pub extended-refl : (code : Code) (inputs : List Block) → Extended code inputs inputs
 extended-refl code inputs i block e = ap (option_map (plain_block code.structs)) e
 

@@ -85,7 +85,7 @@ kept-on code inputs more f args fuel l old run k extended fit long same has = re
     on : OnMore code inputs more f args l
     on = inputs-law code inputs more f args k.fits fit extended l k.replays
 
--- A run of a repair that goes on is one on inputs that extend its own, where its tables have the bases of these.
+-- A run of a repair in progress is one on inputs that extend its own, where its tables have the bases of these.
 part-on : (code : Code) (inputs more : List Block) (f : ℕ) (args : List Word) (fuel : ℕ) (q : Repair) (old run : Running) → IsPartRun code inputs f args fuel q old
     → Extended code inputs more → inputs_fit code.structs more ≡ true → length inputs ≤ length more → SameRun old run → HasBases code.structs more run.heap run.tables.mods → IsPartRun code more f args fuel q run
 part-on code inputs more f args fuel q old run k extended fit long same has = record {

@@ -73,7 +73,7 @@ module _ (code : Code) (fuel : ℕ) (inputs : List Block) (call : Option Call) (
       let w = ap (λ (t : Tables). write_count t.trace.nodes) s.tables in
       (omega (arith, p.0, a), omega (arith, p.1, a, b, d, w, s.spent))
 
-  -- where nothing is to be done
+  -- where nothing needs to be done
   pub looks-idle : (run : Option Running) → phase ≡ Finished → LooksOfRepair (state_of code fuel inputs call phase run) (state_of code fuel inputs call phase (option_map idle run))
   looks-idle None e = λ few. (omega arith, rw e (omega arith))
   looks-idle (Some run) e = λ few. (omega arith, rw e (omega arith))

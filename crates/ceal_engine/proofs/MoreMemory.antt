@@ -75,7 +75,7 @@ module _ (code : Code) (inputs more : List Block) (f : ℕ) (args : List Word) (
       walked code (length inputs) (plain_of code inputs l) r.yields [] r.known (input_plain code inputs) (inputs-hold code inputs fits.blocks) old-plain
       (started-known (length inputs) [] code f args (args-known code inputs f args fits)) r.mentions
 
-  -- the plain words of the core blocks go by the trace, on all inputs that extend these
+  -- the plain words of the core blocks follow from the trace, on all inputs that extend these
   pub core-plain : (c : ℕ) → plain_of code more l (Core c) ≡ plain_of code inputs l (Core c)
   unfolding plain_of
   core-plain c = go (uses c l) refl (plain_after code (input_plain code inputs) l (Core c)) refl

@@ -1,4 +1,4 @@
--- A repair that goes on where no read is stale, and what it leaves of the nodes at the beginning.
+-- A repair in progress where no read is stale, and what it leaves of the nodes at the beginning.
 use Rattle.std.proofs.Common.{◌≡◌, ◌≢◌, ◌⊎◌, inl, inr, ℕ, zero, suc, ◌≤◌, Ok, Option, Some, None, List, refl, sym, ap, ◌∙◌, subst, arith}
 use Rattle.std.specs.Option.{IsSomeAnd}
 use Rattle.ceal_base.specs.Block.{Block}
@@ -52,7 +52,7 @@ module _ (code : Code) (inputs : List Block) (f : ℕ) (args : List Word) (fuel 
       let turned = turns-law code s.names inputs f args part.fits (counted_anew q) sound 0 (counted_anew q) Turns.none in
       none-some _ (sym s.is ∙ there s.names turned k some)
 
--- ---- the run with which a repair goes on
+-- ---- the run with which a repair is in progress
 
 module _ (code : Code) (fuel : ℕ) (inputs : List Block) (phase : Phase) (call : Option Call) (before : Option Running) (keeps : Keeps code fuel inputs phase call before) where
   -- it is a part of one that is done

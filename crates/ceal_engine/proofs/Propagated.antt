@@ -31,7 +31,7 @@ module _ (code : Code) (fuel : ℕ) (inputs : List Block) (phase : Phase) (whole
       let same : l ≡ k.trace = some-same l k.trace (sym e ∙ trace-kept code fuel inputs call run k.trace k.of) in
       (k.trace, k.of, subst (IsHonest code inputs) same honest)
 
--- in Finished nothing is to be done
+-- in Finished nothing needs to be done
 pub finished-clause : (code : Code) (fuel : ℕ) (inputs : List Block) (call : Option Call) (run : Option Running) → Keeps code fuel inputs IsFinished call run → (phase : Phase) (after : Option Running) → forest_in after ≡ forest_in run
     → work_kept after ≡ 0 → (l : Trace) → stands_for (forest_in run) ≡ Some l → IsSomeAnd (stands_for (forest_in after)) (IsRepaired (state_of code fuel inputs call phase after) l)
 finished-clause code fuel inputs call None h phase after f w l e = none-some l e

@@ -171,7 +171,7 @@ module _ (code : Code) (fuel : ℕ) (inputs : List Block) (call : Call) (fits : 
         front = k.front;
       }
 
-    -- where nothing is to be done, the trace is its own repair
+    -- where nothing needs to be done, the trace is its own repair
     pub still-repaired : (phase : Phase) (run : Option Running) → Rattle.ceal_engine.specs.Keeping.work_kept run ≡ 0 → IsHonest code inputs l → IsRepaired (state_of code fuel inputs (Some call) phase run) l l
     still-repaired phase run none h = record {
       names = λ k. next old.heap + k;

@@ -1,4 +1,5 @@
--- An engine that has run INC: unit 0 reads its first parameter, and unit 1 writes one more than the value to the second.
+-- An engine that has run INC: unit 0 reads its first parameter, and unit 1 writes one more than the value to the
+-- second.
 use Rattle.std.proofs.Common.{◌≡◌, ℕ, zero, suc, pos, true, false, Some, None, [], ◌∷◌, refl, arith, rules, IsSome}
 use Rattle.std.specs.List.{IsDistinct}
 use Rattle.ceal_base.specs.Trace.{flat}

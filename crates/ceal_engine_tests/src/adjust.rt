@@ -1,4 +1,4 @@
-// Programs are run, their inputs are edited, and the traces are repaired. The traces that are wanted stand in `wanted`.
+// Programs are run, their inputs are edited, and the traces are repaired. The expected traces are in `wanted`.
 
 use crate::asserts::{equal, holds};
 use crate::edits::repaired;
@@ -19,7 +19,7 @@ use std::alloc::{AllocError, Global};
 use std::process::Abort;
 use std::test::Fail;
 
-/// What is told of a first trace, and of its repair after an edit.
+/// The texts of a first trace, and of its repair after an edit.
 #[derive(Drop)]
 struct Texts {
     first: String,
@@ -34,7 +34,7 @@ fn answer(alloc: Global, answer: &Adjusted) -> Result<String, AllocError> {
     }
 }
 
-/// What is told of a first trace, and of its repair.
+/// The texts of a first trace, and of its repair.
 fn answers(alloc: Global, first: &Adjusted, second: &Adjusted) -> Result<Texts, AllocError> {
     let first = answer(alloc, first)?;
     let second = answer(alloc, second)?;
@@ -52,7 +52,7 @@ fn checked(
     Ok(Some(texts?))
 }
 
-/// What is told of the first trace of a call, and of its repair after an edit; None where the call may not be run, or
+/// The texts of the first trace of a call, and of its repair after an edit; None where the call may not be run, or
 /// the edit is none. An engine that is driven through the same has the same work.
 fn story(
     alloc: Global,

@@ -46,7 +46,7 @@ pub(crate) fn propagate(engine: &mut Engine) -> Result<(), Fail> {
     engine.propagate().map_err(failed)
 }
 
-/// A slice of that many reads.
+/// A slice of `reads` reads.
 pub(crate) fn slice(engine: &mut Engine, reads: u32) -> Result<Progress, Fail> {
     if engine.phase() == Phase::New || reads < 1 {
         return Err(Fail::from("it takes no slice"));

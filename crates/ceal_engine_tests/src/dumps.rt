@@ -1,5 +1,5 @@
-// Recorded traces, their texts and their verdicts. The dumps were worked out by hand from the rules of the language and of
-// the text.
+// Recorded traces, their texts and their verdicts. The dumps were worked out by hand from the rules of the language and
+// of the text.
 
 ghost use Rattle.std.specs.Prelude.{◌≡◌, true};
 ghost use Rattle.ceal_code.specs.Valid.{valid};
@@ -142,8 +142,8 @@ fn a_dump_is_written(rt: HostRuntime) -> Result<(), Fail> {
     Ok(())
 }
 
-/// The verdict on a record of the increment: with this function, this content that is read, this one that is written, and
-/// this one that the memory has.
+/// The verdict on a record of the increment: with this function, this content that is read, this one that is written,
+/// and this one that the memory has.
 fn increment(
     alloc: Global,
     function: &str,

@@ -1,5 +1,5 @@
-// An engine runs MAP, inputs are edited, and the run is brought up to date. The answers were worked out by hand from the rules of
-// the language.
+// An engine runs MAP, inputs are edited, and the run is brought up to date. The answers were worked out by hand from
+// the rules of the language.
 
 ghost use Rattle.std.specs.Prelude.{◌≤◌};
 
@@ -120,8 +120,8 @@ fn a_new_block_has_a_free_number(rt: HostRuntime) -> Result<(), Fail> {
     told
 }
 
-/// The list of the numbers from `count` down to 1, by its cells from the last one on, a modifiable that points to it, and one for
-/// its image.
+/// The list of the numbers from `count` down to 1, by its cells from the last one on, a modifiable that points to it,
+/// and one for its image.
 fn fill_long(engine: &mut Engine, count: u32) -> Result<(), Fail>
     requires some { 1 ≤ count }
 {
@@ -134,7 +134,7 @@ fn fill_long(engine: &mut Engine, count: u32) -> Result<(), Fail>
     add(engine, Shape::ModPtr(0), &[Word::Null])
 }
 
-/// Propagation has re-executed that many steps, and has looked at some contents, but not at more than 100 since `before`.
+/// Propagation has re-executed `work` steps, and has looked at some contents, but not at more than 100 since `before`.
 fn looked_at_few<R: Abort>(rt: &R, engine: &Engine, work: u32, before: u64) {
     holds(rt, engine.phase() == Phase::Finished);
     equal(rt, engine.work(), work);
@@ -143,7 +143,7 @@ fn looked_at_few<R: Abort>(rt: &R, engine: &Engine, work: u32, before: u64) {
     holds(rt, looked - before <= 100);
 }
 
-/// The run is finished, with that many steps.
+/// The run is finished, with `steps` steps.
 fn has_steps<R: Abort>(rt: &R, engine: &Engine, steps: u32) {
     holds(rt, engine.phase() == Phase::Finished);
     equal(rt, engine.steps(), steps);

@@ -89,7 +89,8 @@ ceal maps(mod struct cell *a, mod struct cell *b, mod struct cell *c, mod struct
 %%
 ";
 
-/// The lists 1, 2, 3 in the cells 2, 3, 4 and 4, 5 in the cells 7, 8, each with a modifiable that points to it, and one for its image.
+/// The lists 1, 2, 3 in the cells 2, 3, 4 and 4, 5 in the cells 7, 8, each with a modifiable that points to it, and one
+/// for its image.
 fn two_lists(alloc: Global) -> Result<Inputs, NoMemory> {
     let mut inputs = list(alloc, &[1, 2, 3])?;
     for (shape, words) in [
@@ -114,7 +115,8 @@ fn of_maps(alloc: Global, steps: &[Step<'_>]) -> Result<(), Fail> {
 
 #[test]
 fn cells_go_and_come_back_between_slices(rt: HostRuntime) -> Result<(), Fail> {
-    // the first cell of each list is passed by, then the end of the first list, which is repaired already, and all come back
+    // the first cell of each list is passed by, then the end of the first list, which is repaired already, and all come
+    // back
     let steps = [
         Step {
             edits: &[(0, 0, input(3)), (5, 0, input(8))],
@@ -149,7 +151,7 @@ fn modifiable(n: u32) -> Place {
     }
 }
 
-/// A slice of one read comes to this.
+/// The outcome of a slice of one read.
 fn comes_to<R: Abort>(rt: &R, engine: &mut Engine, progress: Progress) -> Result<(), Fail> {
     let found = slice(engine, 1)?;
     holds(rt, found == progress);

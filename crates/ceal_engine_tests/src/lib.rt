@@ -1,7 +1,7 @@
-//! The tests, by public calls, of what runs and repairs: repair over whole traces (`adjust`, with `edits`), the run over nodes
-//! (`nodes`), the engine (with `drive`; beside `adjust` in `side_by_side`, in slices in `in_slices`, and where memory is refused in
-//! `recovered`), the recorded traces (`dumps`), and sessions: where memory is refused (`refused`), and saved (`saves`). No crate
-//! stands on this one.
+//! The tests, by public calls, of what runs and repairs: repair over whole traces (`adjust`, with `edits`), the run
+//! over nodes (`nodes`), the engine (with `drive`; beside `adjust` in `side_by_side`, in slices in `in_slices`, and
+//! where memory is refused in `recovered`), the recorded traces (`dumps`). Sessions are tested where memory is refused
+//! (`refused`), and saved (`saves`). No crate uses this one.
 #![tactic(auto)]
 
 #[cfg(test)]

@@ -1,5 +1,5 @@
-// An engine's calls, where memory may be refused: what was refused is asked again, as in `refused`, and the run is then that of the
-// interpreter from nothing. The numbers of steps and core blocks were worked out by hand.
+// An engine's calls, where memory may be refused: what was refused is asked again, as in `refused`, and the run is then
+// that of the interpreter from nothing. The numbers of steps and core blocks were worked out by hand.
 
 ghost use Rattle.std.specs.Prelude.{◌≡◌, IfSome};
 ghost use Rattle.ceal_compile.specs.Compiled.{IsCompiled};
@@ -59,8 +59,8 @@ fn recovers<R: Abort>(rt: &R, engine: &mut Engine, answer: Result<(), RunError>)
     }
 }
 
-/// Slices of one read until the run is up to date, also where memory is refused once: then the run is dropped, and the next
-/// slice runs the call again.
+/// Slices of one read until the run is up to date, also where memory is refused once: then the run is dropped, and the
+/// next slice runs the call again.
 fn by_slices<R: Abort>(rt: &R, engine: &mut Engine) {
     for _slice in 0..4 {
         holds(rt, engine.phase() != Phase::New);
@@ -74,7 +74,7 @@ fn by_slices<R: Abort>(rt: &R, engine: &mut Engine) {
     panic!(rt; "reads are still stale")
 }
 
-/// The run has that many steps and core blocks.
+/// The run has `steps` steps and `blocks` core blocks.
 fn has<R: Abort>(rt: &R, engine: &Engine, steps: u32, blocks: u32) {
     holds(rt, engine.phase() == Phase::Finished);
     equal(rt, (engine.steps(), engine.live_blocks()), (steps, blocks));
@@ -105,13 +105,13 @@ fn engine(alloc: Global) -> Option<(Typed, Engine)> {
     }
 }
 
-/// What the program comes to where it is interpreted from nothing on the inputs of the engine.
+/// The result of the program when it is interpreted from nothing on the inputs of the engine.
 fn interpreted(alloc: Global, program: &Typed, engine: &Engine) -> Result<Outcome, NoMemory> {
     let args = [at(3), at(4)];
     interpret(alloc, program, 1, &args, engine.input_blocks(), 100)
 }
 
-/// The record of the run, by which its core blocks stand in the order of their allocations.
+/// The record of the run, by which its core blocks are in the order of their allocations.
 fn recorded(alloc: Global, engine: &Engine) -> Result<Record, NoMemory>
     requires { engine.now.phase ≡ Finished }
 {

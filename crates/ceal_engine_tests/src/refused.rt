@@ -1,5 +1,5 @@
-// The lines of a session, where memory may be refused. In the gate none is; `rt try --test --fail-alloc N` refuses the Nth
-// allocation of each test, and what was refused is then asked again. The replies were worked out by hand.
+// The lines of a session, where memory may be refused. In the gate none is; `rt try --test --fail-alloc N` refuses the
+// Nth allocation of each test, and what was refused is then asked again. The replies were worked out by hand.
 
 use crate::asserts::equal;
 use crate::recovered::program;
@@ -18,7 +18,8 @@ fn session(alloc: Global) -> Option<Session> {
 
 const ALREADY_RUN: &str = "refused C6: already run\n";
 
-/// The reply to a line that is given again. A run that had begun, and for which there was no memory, is brought about by `propagate`.
+/// The reply to a line that is given again. A run that had begun, and for which there was no memory, is brought about
+/// by `propagate`.
 fn reply_again(session: &mut Session, line: &str, wanted: &str) -> Result<Text, NoMemory> {
     let text = session.command(line.as_bytes())?;
     if text.items() == ALREADY_RUN.as_bytes() && wanted != ALREADY_RUN {

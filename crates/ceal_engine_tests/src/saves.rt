@@ -155,7 +155,7 @@ fn a_session_is_saved(rt: HostRuntime) -> Result<(), Fail> {
     Ok(())
 }
 
-/// The session over INC that goes on from this save.
+/// The session over INC that continues from this save.
 fn resumed(alloc: Global, text: &str) -> Result<Result<Session, RestoreError>, Fail> {
     let program = program(alloc, INC)?;
     match read_save(alloc, text.as_bytes()) {
@@ -262,7 +262,7 @@ fn list_goes_on<R: Abort>(rt: &R, session: &mut Session) -> Result<(), Fail> {
     replies(rt, session, &lines)
 }
 
-/// The session that goes on from the save of a list.
+/// The session that continues from the save of a list.
 fn list_resumed<R: Abort>(
     rt: &R,
     alloc: Global,

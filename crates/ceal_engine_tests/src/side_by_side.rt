@@ -48,7 +48,8 @@ fn edited_work(
     work_of(engine)
 }
 
-/// Whether an engine has the work of this repair after the same edit of the same inputs. One that is out of fuel has none.
+/// Whether an engine has the work of this repair after the same edit of the same inputs. One that is out of fuel has
+/// none.
 fn agrees(
     engine: &mut Engine,
     function: u32,
@@ -62,7 +63,7 @@ fn agrees(
     }
 }
 
-/// The same of an engine of its own, for a source text and the most steps of a run.
+/// The same of a separate engine, for a source text and the most steps of a run.
 pub(crate) fn beside(
     alloc: Global,
     program: (&[u8], u32),
@@ -124,8 +125,8 @@ fn cell(number: u32) -> Word
     }
 }
 
-/// Another pointer in one of the inputs: the list begins at another cell, or a cell has another one after it as its tail, or there is
-/// none.
+/// Another pointer in one of the inputs: the list begins at another cell, or a cell has another one after it as its
+/// tail, or there is none.
 fn drawn(draws: &mut Draws) -> Edit {
     let from = draws.below(CELLS);
     let word = cell(from + 1 + draws.below(3));
@@ -201,7 +202,7 @@ fn goes_on(
     told
 }
 
-/// That many edits, one after another.
+/// The given number of edits, one after another.
 fn edits_follow<R: Abort>(
     rt: &R,
     alloc: Global,

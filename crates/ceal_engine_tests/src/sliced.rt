@@ -1,5 +1,5 @@
-// Repair in slices, with edits between them, by an engine and by the repair of the definition, side by side: the engine goes on as long, with
-// as much work, and comes to the same trace. The tests that call it are in `in_slices`.
+// Repair in slices, with edits between them, by an engine and by the repair of the definition, side by side: the engine
+// continues as long, with as much work, and ends with the same trace. The tests that call it are in `in_slices`.
 
 ghost use Rattle.std.specs.Prelude.{◌≡◌, true, IfOk, IfSome};
 ghost use Rattle.ceal_adjust.specs.Slicing.{HoldsFor, IfGiven};
@@ -35,7 +35,7 @@ struct Call<'a> {
     args: &'a [Word],
 }
 
-/// Other words for fields of inputs, and then a slice of that many reads.
+/// Other words for fields of inputs, and then a slice of this number of reads.
 #[derive(Clone, Copy)]
 pub struct Step<'a> {
     pub edits: &'a [(u32, u32, Word)],
@@ -156,7 +156,7 @@ fn text_of_run(call: Call<'_>, engine: &Engine) -> Result<String, NoMemory>
     text
 }
 
-/// The engine has come to the end of this repair.
+/// The engine has reached the end of this repair.
 fn has_come(call: Call<'_>, engine: &Engine, inputs: &Inputs, repair: &Repair) -> Result<(), Fail> {
     if engine.phase() != Phase::Finished {
         return Err(Fail::from("the engine goes on"));

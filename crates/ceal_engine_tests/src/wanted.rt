@@ -1,5 +1,5 @@
-// Traces that the tests of repair want, as text with the work below: of the first run of a program, and of its repair after an edit. They
-// were worked out by hand from the rules of the language.
+// Traces that the tests of repair want, as text with the work below: of the first run of a program, and of its repair
+// after an edit. They were worked out by hand from the rules of the language.
 
 /// INC on 4 and 0.
 pub const INCREMENT: &str = ".v2 = read(in0.0) u1(&in1.0): 4

@@ -105,7 +105,7 @@ sizes-take xs i s is h =
 pub sizes-parts : (xs : List TypedStmt) (i : ℕ) → sizes (take i xs) + sizes (drop i xs) ≡ sizes xs
 sizes-parts xs i = sym (sizes-append (take i xs) (drop i xs)) ∙ ap sizes (take-append-drop i xs)
 
--- whether a path goes on
+-- whether a path continues
 pub on-declare : (at : Span) (n : ℕ) (kind : Kind) (v : TypedValue) → goes_on (Declare at n kind v) ≡ true
 unfolding goes_on
 on-declare at n kind v = refl

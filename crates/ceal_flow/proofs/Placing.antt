@@ -1,4 +1,4 @@
--- Where the blocks of statements and of functions stand in a graph.
+-- The places of the blocks of statements and of functions in a graph.
 use Rattle.std.proofs.Common.{◌≡◌, ℕ, zero, suc, ◌+◌, ◌<◌, true, Option, Some, List, [], ◌∷◌, ◌++◌, length, slice_get, replicate, if◌then◌else◌, refl, ap, sym, ◌∙◌, arith, append_assoc, length-append, All, subst}
 use Rattle.std.proofs.lemmas.List.Elements.{All-head, All-tail}
 use Rattle.ceal_base.specs.declared.typed.TypedFunction.{TypedFunction}
@@ -46,13 +46,13 @@ module _ (blocks : List GraphBlock) where
       placed-right n (blocks_of s n (entry ss (n + size s) after exits) exits) (all_blocks ss (n + size s) after exits) (size s)
       (sym (blocks-length s n (entry ss (n + size s) after exits) exits)) (rw (all-cons, on) at h)
 
--- a part stands where it is put
+-- a part is where it is put
 pub placed-part : (before xs after : List GraphBlock) (n : ℕ) → n ≡ length before → Placed (before ++ (xs ++ after)) n xs
 placed-part before xs after n e i l =
     let same : n + i ≡ length before + i = omega arith in
     get-append_right before (xs ++ after) (n + i) i same ∙ get-append_left xs after i l
 
--- what `lower` makes of the function of this number: it begins at some block, where its blocks stand
+-- what `lower` makes of the function of this number: it begins at some block, where its blocks are
 pub record Made (blocks : List GraphBlock) (made : Option GraphFunction) (f : TypedFunction) : Type 0 where
   pub start : ℕ
   pub function : made ≡ Some (function_at f start)

@@ -42,7 +42,7 @@ all_blocks-drop xs i s n after exits is h = rw (drop-cons xs i s h, ← is, add-
 pub all_go_on-drop : (xs : List TypedStmt) (i : ℕ) (s : TypedStmt) → s ≡ get_or xs i s → i < length xs → all_go_on (drop i xs) ≡ (goes_on s && all_go_on (drop (i + 1) xs))
 all_go_on-drop xs i s is h = rw (drop-cons xs i s h, ← is, add-one) (on-cons s (drop (suc i) xs))
 
--- a statement after which some path goes on leaves the rest
+-- a statement after which some path continues leaves the rest
 pub put-next : (xs : List TypedStmt) (i : ℕ) (s : TypedStmt) (old new all : List GraphBlock) (next after : ℕ) (exits : Exits) → s ≡ get_or xs i s → i < length xs
     → next ≡ entry (drop (i + 1) xs) (length old + size s) after exits → new ≡ old ++ blocks_of s (length old) next exits → goes_on s ≡ true
     → old ++ all_blocks (drop i xs) (length old) after exits ≡ all

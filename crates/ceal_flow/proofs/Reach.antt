@@ -66,8 +66,8 @@ module _ (blocks : List GraphBlock) where
   exit-kept exits c d (inr (inl e)) = subst (λ x. Kept x) e d.behind
   exit-kept exits c d (inr (inr e)) = subst (λ x. Kept x) e d.test
 
-  -- blocks of statements from block `n` on, which are entered at `start`, and after which a path goes on to `after`, or
-  -- where none does, one leads out
+  -- blocks of statements from block `n` on, which are entered at `start`, and after which a path continues to `after`,
+  -- or where none does, one leads out
   pub record Laws (start : ℕ) (xs : List GraphBlock) (n after : ℕ) (exits : Exits) (on : Bool) : Type 0 where
     pub onward : on ≡ true → Leads blocks start after
     pub out : on ≡ false → LeadsOut start exits
@@ -151,7 +151,7 @@ module _ (blocks : List GraphBlock) where
       acts = seq-acts;
     }
 
-  -- a part that does not go on, and what is left out after it
+  -- a part that does not continue, and what is left out after it
   module _ (start mid : ℕ) (xs : List GraphBlock) (n k after : ℕ) (exits : Exits) (one : Laws start xs n mid exits false) where
     last-inside : (i : ℕ) → IsKept (slice_get (xs ++ replicate k Unreached) i) → Leads blocks start (n + i)
     last-inside i h = elim (parted IsKept xs (replicate k Unreached) i h) [

@@ -82,7 +82,7 @@ module _ (p : Typed) (kept : KeepsUsage p) where
   abbrev g : Graph
   g = graph_of p
 
-  -- a frame and a point: the items stand at the block, and the words of the variables are the same
+  -- a frame and a point: the items are at the block, and the words of the variables are the same
   pub record Along (f : Frame) (q : Point) : Type 0 where
     pub done : ℕ
     pub over : slice_get g.blocks done ≡ Some Done

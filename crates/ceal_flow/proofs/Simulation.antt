@@ -1,4 +1,4 @@
--- A run of the graph goes along with a run of the source: what each frame has still to do stands at the block of the
+-- A run of the graph corresponds to a run of the source: what each frame has still to do is at the block of the
 -- point that goes with it.
 use Rattle.std.proofs.Common.{◌≡◌, ℕ, ◌+◌, Bool, true, false, List, [], ◌∷◌, ◌++◌, map, refl, sym, ◌∙◌, ap, subst, All}
 use Rattle.std.proofs.lemmas.List.Elements.{All-head, All-tail}
@@ -38,27 +38,27 @@ FirstSteps [] = Unit {0}
 FirstSteps (item ∷ rest) = is_jump (statement_of item) ≡ false
 
 module _ (fs : List TypedFunction) (blocks : List GraphBlock) (done : ℕ) where
-  -- a statement stands at block `n`, and leads to `after`
+  -- a statement is at block `n`, and leads to `after`
   pub record Placement (exits : Exits) (s : TypedStmt) (n after : ℕ) : Type 0 where
     pub looped : Bool
     pub usage : CoreUsage fs looped s
     pub placed : Placed blocks n (blocks_of s n after exits)
 
-  -- the items still to do stand at a block, from which jumps lead to these exits: each statement stands where the one
-  -- before it leads, and after one that does not go on anything may follow
+  -- the items still to do are at a block, from which jumps lead to these exits: each statement is where the one
+  -- before it leads, and after one that does not continue anything may follow
   abbrev pub Stands : Exits → List Item → ℕ → Type 0
   Stands exits [] at = at ≡ done
   Stands exits (Do s ∷ rest) at =
       (n : ℕ) × (after : ℕ) × (at ≡ target s n exits) × Placement exits s n after × (goes_on s ≡ true → Stands exits rest after)
   Stands exits (Again w ∷ rest) at = at ≡ exits.test
 
-  -- the loop of these exits, which stands among those outside of it
+  -- the loop of these exits, which is among those outside of it
   pub record Loop (exits : Exits) (w : TypedStmt) (outer : Exits) : Type 0 where
     pub ends : exits.done ≡ outer.done
     pub steps : is_jump w ≡ false
     pub stands : Placement outer w exits.test exits.behind
 
-  -- the loops around the items stand where the exits lead
+  -- the loops around the items are where the exits lead
   abbrev pub Around : Exits → List Item → Type 0
   Around exits [] = exits ≡ no_loop done
   Around exits (Do s ∷ rest) = Around exits rest
@@ -124,7 +124,7 @@ module _ (fs : List TypedFunction) (blocks : List GraphBlock) (done : ℕ) where
     behind-ready exits (Do s ∷ rest) h = behind-ready exits rest h
     behind-ready exits (Again w ∷ rest) h = all-ready h.0 rest exits.behind h.2 h.3
 
-  -- the first statement, what follows it where it goes on, and the loops around it
+  -- the first statement, what follows it where it continues, and the loops around it
   pub record Front (s : TypedStmt) (rest : List Item) (at : ℕ) : Type 0 where
     pub exits : Exits
     pub n : ℕ

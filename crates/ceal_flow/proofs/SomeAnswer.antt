@@ -77,7 +77,7 @@ marked-few (true ∷ m) = let h = marked-few m in omega (arith, h)
 marked-few (false ∷ m) = let h = marked-few m in omega (arith, h)
 
 module _ (blocks : List GraphBlock) (v : ℕ) where
-  -- a mark comes to a block that uses the variable, and to one that keeps it and jumps to a mark
+  -- a mark reaches a block that uses the variable, and one that keeps it and jumps to a mark
   abbrev new : Marks → GraphBlock → Bool
   new m block = is_in v (uses block) || (keeps v block && any_mark m (jumps block))
 

@@ -27,7 +27,7 @@ unfoldable pub sizes : List TypedStmt → ℕ
 sizes [] = 0
 sizes (s ∷ rest) = size s + sizes rest
 
--- whether some path goes on after a statement: not after a jump, nor after an `if` neither part of which goes on
+-- whether some path continues after a statement: not after a jump, nor after an `if` neither part of which continues
 unfoldable mutual
   pub goes_on : TypedStmt → Bool
   goes_on (If' at test _ first _ second) = row_goes_on first || row_goes_on second
@@ -36,12 +36,12 @@ unfoldable mutual
   goes_on (Continue at) = false
   goes_on _ = true
 
-  -- whether some path goes on after the statements of a row
+  -- whether some path continues after the statements of a row
   pub row_goes_on : {n : _} → Row_of-TypedStmt n → Bool
   row_goes_on end_of-TypedStmt = true
   row_goes_on (more_of-TypedStmt s rest) = goes_on s && row_goes_on rest
 
--- whether some path goes on after the statements of a list
+-- whether some path continues after the statements of a list
 unfoldable pub all_go_on : List TypedStmt → Bool
 all_go_on [] = true
 all_go_on (s ∷ rest) = goes_on s && all_go_on rest
@@ -50,7 +50,7 @@ all_go_on (s ∷ rest) = goes_on s && all_go_on rest
 abbrev pub no_loop : ℕ → Exits
 no_loop done = record { done = done; behind = done; test = done }
 
--- and in the body of a loop that stands among these exits: its test is block `test`, and block `after` comes after it
+-- and in the body of a loop that is among these exits: its test is block `test`, and block `after` comes after it
 abbrev pub in_loop : Exits → ℕ → ℕ → Exits
 in_loop exits test behind = record { done = exits.done; behind = behind; test = test }
 

@@ -16,7 +16,7 @@ use Rattle.ceal_flow.specs.declared.block.GraphBlock.TheVariants.{Act, Unreached
 use Rattle.ceal_flow.specs.declared.function.GraphFunction.{GraphFunction}
 use Rattle.ceal_flow.specs.declared.function.GraphFunction.TheVariants.{Core, Init}
 
--- every run of a core function comes to the same memory, in as many steps and with as many new blocks
+-- every run of a core function ends with the same memory, in as many steps and with as many new blocks
 abbrev pub RunsAs : Graph → Typed → Type 0
 RunsAs g p = (f : ℕ) (args : List Word) (inputs : List Block) (fuel : ℕ)
     → IsCore (slice_get p.functions f) → fresh g f args inputs fuel ≡ source_fresh p f args inputs fuel
@@ -54,7 +54,7 @@ IsSimple (Break at) = ⊥
 IsSimple (Continue at) = ⊥
 IsSimple _ = Unit {0}
 
--- blocks act by such statements alone
+-- blocks act only by such statements
 abbrev pub ActLaw : Type 0
 ActLaw =
     (p : Typed) (b : ℕ) (s : TypedStmt) (next : ℕ) → slice_get (graph_of p).blocks b ≡ Some (Act s next) → IsSimple s

@@ -47,7 +47,7 @@ value_mentions (ModrefInt at) = []
 value_mentions (Modref at s) = []
 
 -- the variables that a statement uses: any mention in an expression is a use. The statements in it are not looked at,
--- since they are blocks of their own
+-- since they are separate blocks
 abbrev pub stmt_uses : TypedStmt → List ℕ
 stmt_uses (Declare at n kind value) = value_mentions value
 stmt_uses (Assign at n value) = value_mentions value

@@ -32,7 +32,7 @@ pub fn skip(chunks: &[Chunk], from: usize, at: u32) -> usize
     chunks.len()
 }
 
-/// The bits of the chunk `at`, if it stands at its place.
+/// The bits of the chunk `at`, if it is at its place.
 fn bits_there(chunks: &[Chunk], index: usize, at: u32) -> Option<u64>
     requires place { IsNotBefore chunks.now index at }
     ensures some { IfSome result (λ bits. slice_get chunks.now index

@@ -26,7 +26,7 @@ impl Exits {
         }
     }
 
-    /// Those of the body of a loop that stands here.
+    /// Those of the body of a loop that is here.
     pub fn in_loop(self, test: u32, behind: u32) -> Exits
         ensures value { result ≡ in_loop self test behind }
     {

@@ -1,8 +1,8 @@
 //! The graph of a program: one block for each statement of its core functions, and jumps between them.
 //!
-//! The definitions stand in `specs/`: the blocks of a statement by cases on its form (`Blocks`), the graph of a
+//! The definitions are in `specs/`: the blocks of a statement by cases on its form (`Blocks`), the graph of a
 //! program and the place of each block (`Lowering`), the run of a graph from nothing (`Fresh`), paths (`Paths`) and
-//! live variables (`Live`). `lower` gives the graph, which runs as the program does. The other laws of graphs stand in
+//! live variables (`Live`). `lower` gives the graph, which runs as the program does. The other laws of graphs are in
 //! `laws`.
 #![tactic(auto)]
 

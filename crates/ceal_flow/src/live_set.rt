@@ -9,7 +9,8 @@ use std::alloc::Global;
 use std::marker::Model;
 
 /// A set of variables of one function, which contracts see as the ascending list of their numbers. It has chunks of 64
-/// bits, and none where there is no variable: a small set takes little memory, and joining two sets takes one step a chunk.
+/// bits, and none where there is no variable: a small set takes little memory, and joining two sets takes one step a
+/// chunk.
 #[derive(Drop)]
 pub struct LiveSet {
     alloc: Global,

@@ -105,8 +105,8 @@ pub fn graph(alloc: Global, program: &Typed) -> Result<Graph, NoMemory>
     Ok(Graph::new(structs, functions, blocks))
 }
 
-/// Whether the graph of a program keeps the limit, without making it; or L1 at the first block past the limit, as `lower`
-/// tells it.
+/// Whether the graph of a program keeps the limit, without making it; or L1 at the first block past the limit, as
+/// `lower` tells it.
 pub fn check_limit(program: &Typed) -> Result<(), Fault>
     ensures within { IsOk result → lowered program.now ≡ OkOf (graph_of program.now) }
     ensures few { IsOk result → function_sizes program.now.functions ≤ BLOCKS }

@@ -21,7 +21,7 @@ pub fn next_number(blocks: &Vec<GraphBlock>) -> u32
     blocks.len() as u32
 }
 
-/// The block of a statement that has one; some path goes on after it.
+/// The block of a statement that has one; some path continues after it.
 fn put_act(
     alloc: Global,
     blocks: &mut Vec<GraphBlock>,
@@ -60,7 +60,8 @@ fn leave_out(blocks: &mut Vec<GraphBlock>, count: u32) -> Result<(), NoMemory>
     Ok(())
 }
 
-/// Adds the blocks of a statement, which is followed by a jump to `after`, and says whether some path goes on after it.
+/// Adds the blocks of a statement, which is followed by a jump to `after`, and says whether some path continues after
+/// it.
 #[cycle(put)]
 #[tactic(auto, using(crate::proofs::BlockSteps::put_steps))]
 fn put_stmt(
@@ -106,7 +107,7 @@ fn put_stmt(
     }
 }
 
-/// Adds the blocks of statements, which are followed by a jump to `after`, and says whether some path goes on after
+/// Adds the blocks of statements, which are followed by a jump to `after`, and says whether some path continues after
 /// them. What no path leads to is left out.
 #[cycle(put)]
 #[tactic(auto, using(crate::proofs::BlockSteps::put_steps))]

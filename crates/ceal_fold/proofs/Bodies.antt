@@ -1,4 +1,4 @@
--- What stands at an index of a folded body, and what is known and used there.
+-- What is at an index of a folded body, and what is known and used there.
 use Rattle.std.proofs.Common.{◌≡◌, ℕ, zero, suc, ◌+◌, ◌<◌, ◌≤◌, ◌==◌, Bool, true, false, if◌then◌else◌, Some, List, [], ◌∷◌, ◌++◌, refl, sym, ap, ap₂, ◌∙◌, subst, length, arith, slice_get}
 use Rattle.ceal_base.specs.declared.typed.StructInfo.{StructInfo}
 use Rattle.ceal_code.proofs.Words.SameIsEqual.{nat-same, none-some, some-same}
@@ -176,7 +176,7 @@ ticked-around c after n (d ∷ before) i e =
       long = ap suc q.long;
     }
 
--- what is used from an index on, where it stands after others
+-- what is used from an index on, where it is after others
 used-first : (n : ℕ) (c : Cmd) (cs : List Cmd) (u : ℕ) → used n (c ∷ cs) n u ≡ used_by (used (n + 1) cs) c n u
 unfolding used
 used-first n c cs u = ap (λ b. if b then used_by (used (n + 1) cs) c n u else used (n + 1) cs n u) (is-first n)

@@ -1,4 +1,4 @@
--- Folding leaves it as it is where each `If` goes on, so that a folded body goes forward like its original.
+-- Folding leaves it as it is where each `If` continues, so that a folded body goes forward like its original.
 use Rattle.std.proofs.Common.{◌≡◌, ℕ, zero, suc, ◌+◌, ◌&&◌, Bool, true, false, if◌then◌else◌, Some, List, [], ◌∷◌, refl, ap₂, ◌∙◌, subst, arith, slice_get}
 use Rattle.ceal_base.specs.declared.typed.StructInfo.{StructInfo}
 use Rattle.ceal_code.proofs.Words.SameIsEqual.{both, none-some, some-same}

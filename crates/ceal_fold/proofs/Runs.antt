@@ -96,7 +96,7 @@ module _ (code : Code) (ok : valid code ≡ true) where
   made-is x IntKey = refl
   made-is x (PtrKey s) = refl
 
-  -- the commands at which tied frames stand
+  -- the commands at which tied frames are
   pub command-tied : (u i : ℕ) (env env' : Variables) → FrameTied code ok u i env env' → CmdsTied code ok u i env env' (command_at code u i) (command_at after u i)
   unfolding paths_ok
   command-tied u i env env' (FrameTied.nowhere e) =
@@ -158,7 +158,7 @@ module _ (code : Code) (ok : valid code ≡ true) where
   writes-tied (BlockWord b) value st st' t = ActsTied.quiet t
   writes-tied (At p) value st st' t = ActsTied.writes t
 
-  -- a unit goes on with the same word
+  -- a unit continues with the same word
   pub given-tied : (u v : ℕ) (args : List Word) (w w' : Word) → w' ≡ w → (st st' : Stack) → Tied st st' → Tied (entered code u (given code u v args w) st) (entered after u (given after u v args w') st')
   given-tied u v args w w' e st st' t =
       subst (λ words. Tied (entered code u (given code u v args w) st) (entered after u words st')) (sym (given-is u v args w' ∙ ap (given code u v args) e))

@@ -15,7 +15,7 @@ var n = record { 0 = n }
 abbrev folded_body : List Cmd → List Cmd
 folded_body body = (folded_unit [] (record { function = 0; params = var 0 ∷ []; body = body })).body
 
--- `v1 := 2; v2 := v1 + 3; *v0 := v2`: the sum is a number, which stands in the write, and neither move is used then
+-- `v1 := 2; v2 := v1 + 3; *v0 := v2`: the sum is a number, which is in the write, and neither move is used then
 constants : folded_body (Move (var 1) (NumExpr (pos 2)) ∷ Move (var 2) (Binary Add (Var (var 1)) (NumExpr (pos 3))) ∷ Write (Var (var 0)) (Var (var 2)) ∷ Done ∷ [])
     ≡ Tick ∷ Tick ∷ Write (Var (var 0)) (NumExpr (pos 5)) ∷ Done ∷ []
 unfolding folded_expr folded_exprs no_copies copies_with is_among copies_past folded_commands mentions all_mention used_in used without_unused hidden-the_row-CodeExpr-0 shape-the_row-CodeExpr-0 denote.Hole.Carrier.hidden

@@ -21,7 +21,7 @@ use Rattle.ceal_fold.specs.Folding.{Copies, at_root, copies_after, copy_by, is_a
 abbrev pub final : List StructInfo → List Cmd → List Cmd
 final structs body = without_unused 0 (folded_commands structs at_root 0 body)
 
--- what stands at an index of a folded body, and what is known and used there
+-- what is at an index of a folded body, and what is known and used there
 pub record Spot (structs : List StructInfo) (body : List Cmd) (i : ℕ) (c : Cmd) : Type 0 where
   pub later : ℕ → ℕ → Bool
   pub there : slice_get (final structs body) i ≡ Some (command_or_tick (used_in later (followers c i)) (folded_command structs (facts structs at_root 0 body i) c))

@@ -26,7 +26,7 @@ pub data ActsAlike (T : Stack → Stack → Type 0) : Act → Act → Type 0 whe
   writes : {p : Place} {value : Word} {st st' : Stack} → T st st' → ActsAlike T (Writes p value st) (Writes p value st')
   reads : {p : Place} {u : UnitId} {v : ℕ} {args : List Word} {below below' : Stack} → T below below' → ActsAlike T (Reads p u v args below) (Reads p u v args below')
 
--- codes whose stacks, so related, have like acts, make the same blocks and go on alike after a read
+-- codes whose stacks, so related, have like acts, make the same blocks and continue alike after a read
 pub record StepsAlike (c d : Code) (x : Plain) (T : Stack → Stack → Type 0) : Type 0 where
   pub acts : (st st' : Stack) → T st st' → ActsAlike T (next c x st) (next d x st')
   pub same : (key : Key) → made c x key ≡ made d x key

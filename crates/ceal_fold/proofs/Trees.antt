@@ -1,4 +1,4 @@
--- In a tree each index is reached from one command alone.
+-- In a tree each index is reached from only one command.
 use Rattle.std.proofs.Common.{◌≡◌, ℕ, zero, suc, ◌+◌, ◌==◌, ◌||◌, Bool, true, false, if◌then◌else◌, Option, Some, None, is_some, List, [], ◌∷◌, ◌++◌, refl, ap, ◌∙◌, subst, length, replicate, arith, append_assoc, slice_get, slice_set, unwrap_or}
 use Rattle.ceal_code.proofs.Words.SameIsEqual.{nat-same}
 use Rattle.ceal_code.specs.Valid.{followers, all_followers, reached, all_but_first, is_tree}

@@ -499,7 +499,7 @@ module _ (structs : List StructInfo) (kinds : List Kind) (known : List Bool) whe
   no-struct-place : {A : Type 0} (s : ℕ) → is_place (Ptr s) ≡ true → A
   no-struct-place s h = absurd (grind (arith, h))
 
-  -- what stands left of `->` still points to the struct, where it is not null
+  -- what is to the left of `->` still points to the struct, where it is not null
   points-refined : (s : ℕ) (t : Typing) (a : CodeExpr) → Refined t (type_of structs kinds known a) → is_null a ≡ false → points_to s t ≡ true → points_to s (type_of structs kinds known a) ≡ true
   points-refined s None a h n k = absurd (grind (arith, k))
   points-refined s (Some AnyPointer) a h n k = absurd (grind (arith, k))
@@ -526,7 +526,7 @@ module _ (structs : List StructInfo) (kinds : List Kind) (known : List Bool) whe
   address-refined s f t a h false n =
       rw (type-address structs kinds known a s f) (points-if (points_to s t) (points_to s (type_of structs kinds known a)) (cell_type (field_kind structs (Struct s) f)) (points-refined s t a h n))
 
-  -- what stands left of an index has the type of a place
+  -- what is to the left of an index has the type of a place
   place-if : (b : Bool) (k : Option FieldKind) → PlaceType (if b then cell_type k else None)
   place-if false k = tt
   place-if true None = tt

@@ -108,7 +108,7 @@ module _ (structs : List StructInfo) (kinds : List Kind) (known : List Bool) whe
         go true e = h w (nat-same w.0 v e)
         go false e = other-typed w (copies w.0) e (good w)
 
-    -- what a kind asks of a type that may stand there
+    -- what a kind asks of a type that may be there
     fits-refined : (k : Kind) (t : Typing) → fits k t ≡ true → Refined (Some (Of k)) t
     fits-refined k None h = absurd (grind (arith, h))
     fits-refined k (Some AnyPointer) h = inr (inl (refl, h))
@@ -239,7 +239,7 @@ module _ (code : Code) (ok : valid code ≡ true) where
     abbrev Live : ℕ → List Bool → List Bool → Type 0
     Live i known known' = (v : ℕ) → U i v ≡ true → known_at known v ≡ true → known_at known' v ≡ true
 
-    -- the paths that go on from an index
+    -- the paths that continue from an index
     abbrev On : ℕ → Type 0
     On n = (i : ℕ) (known known' : List Bool) (stepped : Bool) → length known' ≡ length known → paths_ok code f body n i known stepped ≡ true → Good i known → Live i known known'
         → paths_ok folds f (final code.structs body) n i known' stepped ≡ true

@@ -147,7 +147,7 @@ is_among j (k ∷ ks) = j == k || is_among j ks
 unfoldable pub copies_past : (ℕ → Copies) → ℕ → Cmd → (ℕ → Copies)
 copies_past at i c = λ j. if is_among j (followers c i) then copies_after (at i) c else at j
 
--- From the root down: the commands that stand from an index on, each with its expressions folded.
+-- From the root down: the commands that are from an index on, each with its expressions folded.
 unfoldable pub folded_commands : List StructInfo → (ℕ → Copies) → ℕ → List Cmd → List Cmd
 folded_commands structs at i [] = []
 folded_commands structs at i (c ∷ cs) =
@@ -204,17 +204,17 @@ used_in later (j ∷ js) v = later j v || used_in later js v
 abbrev pub used_by : (ℕ → ℕ → Bool) → Cmd → ℕ → ℕ → Bool
 used_by later c i v = uses c v || (not (assigns c v) && used_in later (followers c i) v)
 
--- where the commands stand from index `i` on, the variable is used at or after index `j` before it is assigned again
+-- where the commands are from index `i` on, the variable is used at or after index `j` before it is assigned again
 unfoldable pub used : ℕ → List Cmd → ℕ → ℕ → Bool
 used i [] j v = false
 used i (c ∷ cs) j v = if j == i then used_by (used (i + 1) cs) c i v else used (i + 1) cs j v
 
--- the command; a step alone, where it is a move of a variable that is not used later
+-- the command; only a step, where it is a move of a variable that is not used later
 abbrev pub command_or_tick : (ℕ → Bool) → Cmd → Cmd
 command_or_tick later (Move v e) = if later v.0 then Move v e else Tick
 command_or_tick later c = c
 
--- From the leaves up: the commands that stand from an index on, each move that nothing later uses a tick.
+-- From the leaves up: the commands that are from an index on, each move that nothing later uses a tick.
 unfoldable pub without_unused : ℕ → List Cmd → List Cmd
 without_unused i [] = []
 without_unused i (c ∷ cs) =

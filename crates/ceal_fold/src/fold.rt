@@ -53,9 +53,10 @@ fn fold_code(alloc: Global, code: Code) -> Result<Code, NoMemory>
 
 /// Replaces copies and operators on constants in each unit from the root down, and then makes each move that nothing
 /// later uses a step that does nothing. Initialisers stay, and so do the indices of a body. So a run takes the same
-/// steps, and a trace of the one code is a trace of the other. It takes time in proportion to the size of the code times
-/// the logarithm of the variables, and, at each `If` of which one part assigns while the other is still to come, the time
-/// to copy what is known of the variables that are assigned before it in its unit (the definition is our own).
+/// steps, and a trace of the one code is a trace of the other. It takes time in proportion to the size of the code
+/// times the logarithm of the variables. At each `If` of which one part assigns while the other is still to come, it
+/// also takes the time to copy what is known of the variables that are assigned before it in its unit (the definition
+/// is our own).
 pub fn fold(alloc: Global, code: Code) -> Result<Code, NoMemory>
     requires valid { valid code ≡ true }
     ensures exact { IfOk result (λ c. c ≡ folded code) }

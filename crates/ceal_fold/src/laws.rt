@@ -7,7 +7,8 @@ pub fn valid_law()
     ensures law { ValidLaw }
 {}
 
-/// Every run of it comes to the same memory as that of the code, in as many steps and with as many blocks, or is as long.
+/// Every run of it ends with the same memory as that of the code, in as many steps and with as many blocks, or is as
+/// long.
 pub fn run_law()
     ensures law { RunLaw }
 {}

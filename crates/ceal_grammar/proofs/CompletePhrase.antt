@@ -29,7 +29,7 @@ use Rattle.ceal_grammar.specs.Follows.{Follows}
 abbrev pub piece_of : Phrase → Piece
 piece_of c = record { from = first c; expr = expression c }
 
--- An arrow and an index may stand after a phrase that does not end with an index.
+-- An arrow and an index may be after a phrase that does not end with an index.
 unfoldable pub held : Phrase → Piece → Place
 held (prefix op s a) p = held a p
 held (element s a l b r) p = Element p

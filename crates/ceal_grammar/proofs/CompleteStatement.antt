@@ -124,7 +124,7 @@ path_span (address s a) h = absurd h
 path_span (element s a l b r) h = absurd h
 path_span (binary op a s b) h = absurd h
 
--- where a reading stands after a path
+-- where a reading is after a path
 unfoldable reached : Inside → Phrase → State
 reached i (variable x) = In i (Modes.Named x)
 reached i (own s) = In i (Modes.Owned s)

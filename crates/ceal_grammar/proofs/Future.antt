@@ -1,4 +1,4 @@
--- What may follow where a reading stands.
+-- What may follow where a reading is.
 use Rattle.std.proofs.Common.{◌≡◌, ℕ, ◌≤◌, ◌<◌, pos, Bool, true, false, List, [], ◌∷◌, ◌⊎◌, inl}
 use Rattle.ceal_base.specs.declared.fault.Span.{Span}
 use Rattle.ceal_base.specs.declared.syntax.Ident.{Ident}
@@ -131,7 +131,7 @@ abbrev pub IndexFuture : Inside → Receiver → List Frame → List Token → T
 IndexFuture i r fs u = (l : Span) × (c : Phrase) × (e : Span) × (b : Behind) × (v : List Token) × Grouped c × BehindGrouped b
     × (u ≡ word (Sign Signs.LeftBracket) l ∷ phrase c (word (Sign Signs.RightBracket) e ∷ behind_words b v)) × FramesFuture i r fs v
 
--- after a whole operand: after the operand of an `&` an index may stand
+-- after a whole operand: after the operand of an `&` an index may be
 abbrev pub OperandFuture : Inside → Receiver → List Frame → List Token → Type 0
 OperandFuture i r (AddressOf s ∷ fs) u = FramesFuture i r fs u ⊎ IndexFuture i r fs u
 OperandFuture i r fs u = FramesFuture i r fs u

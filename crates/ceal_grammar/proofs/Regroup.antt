@@ -1,4 +1,4 @@
--- Operators may follow a phrase in any order: the phrases group anew.
+-- Operators may follow a phrase in any order: the phrases are grouped again.
 use Rattle.std.proofs.Common.{◌≡◌, ℕ, ◌≤◌, List, ◌∷◌, refl, arith, inl, inr}
 use Rattle.std.specs.Prelude.{nat_le, if◌then◌else◌}
 use Rattle.std.proofs.lemmas.Bool.Decides.{leb_tells}
@@ -164,7 +164,7 @@ tail_words (ending b) u = behind_words b u
 tail_words (field s x t) u = word (Sign Signs.Arrow) s ∷ named x ∷ tail_words t u
 tail_words (index l c r b) u = word (Sign Signs.LeftBracket) l ∷ phrase c (word (Sign Signs.RightBracket) r ∷ behind_words b u)
 
--- An index may follow the operand of an `&` alone.
+-- An index may follow the operand of an `&` only.
 abbrev pub IsPointed : List Frame → Type 0
 IsPointed (AddressOf s ∷ fs) = Unit {0}
 IsPointed _ = ⊥

@@ -1,4 +1,4 @@
--- Tokens are a program or have a first fault, and neither in two ways: the machine comes to one verdict.
+-- Tokens are a program or have a first fault, and neither in two ways: the machine has one verdict.
 use Rattle.std.proofs.Common.{◌≡◌, ◌⊎◌, inl, inr, refl, Result, Ok, Err, List, []}
 use Rattle.ceal_base.specs.declared.fault.Fault.{Fault}
 use Rattle.ceal_base.specs.declared.syntax.Tree.{Tree}

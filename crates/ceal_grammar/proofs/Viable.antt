@@ -1,4 +1,4 @@
--- Where a reading goes on, some program does.
+-- Where a reading continues, some program does.
 use Rattle.std.proofs.Common.{◌≡◌, ℕ, zero, suc, ◌≤◌, ◌<◌, pos, negsuc, Bool, true, false, Option, Some, None, List, [], ◌∷◌, ◌++◌, refl, sym, ap, ◌∙◌, subst, arith, inl, inr, ◌⊎◌}
 use Rattle.std.specs.Prelude.{if◌then◌else◌}
 use Rattle.ceal_base.specs.declared.fault.Span.{Span}

@@ -40,11 +40,11 @@ pub record Accepts (ts : List Token) (tree : Tree) : Type 0 where
   pub tokens : tokens_of (spelled_program program) ≡ ts
   pub same : program_tree program ≡ tree
 
--- No fault stands at t.
+-- There is no fault at t.
 abbrev pub IsClean : List Token → Token → Type 0
 IsClean before t = (b : Begins before t) × IsWithin b.at
 
--- The fault that stands at t, after the tokens `before`.
+-- The fault at t, after the tokens `before`.
 abbrev pub StandsAt : List Token → Token → FaultCode → Type 0
 StandsAt before t S3 = (t.kind ≢ End) × (t.kind ≢ Cut) × (Begins before t → ⊥)
 StandsAt before t S4 = (b : Begins before t) × (65 ≤ b.at.nesting)
@@ -52,7 +52,7 @@ StandsAt before t S5 = ((t.kind ≡ End) ⊎ (t.kind ≡ Cut)) × (Begins before
 StandsAt before t S6 = (b : Begins before t) × (b.at.nesting ≤ 64) × ((256 ≤ b.at.item) ⊎ (256 ≤ b.at.operators))
 StandsAt before t _ = ⊥
 
--- The first token at which a fault stands.
+-- The first token at which there is a fault.
 pub record IsFirstFault (ts : List Token) (fault : Fault) : Type 0 where
   pub before : List Token
   pub at : Token

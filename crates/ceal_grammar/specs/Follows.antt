@@ -6,7 +6,7 @@ use Rattle.ceal_grammar.specs.declared.state.State.TheVariants.{Finished}
 use Rattle.ceal_grammar.specs.Spelled.{Mark}
 use Rattle.ceal_grammar.specs.Machine.{step, nesting_of, item_of, operators_of}
 
--- A reading that stands at `s` goes over the tokens, comes to the entries, and has the marks at each token.
+-- A reading at the state `s` goes over the tokens, ends with the entries, and has the marks at each token.
 unfoldable pub Follows : State → List Mark → List Entry → Type 0
 Follows s [] es = s ≡ Finished es
 Follows s (m ∷ ms) es = (next : State) × (step s m.token ≡ Some next) × (nesting_of next ≡ m.nesting)

@@ -1,4 +1,4 @@
--- The grammar: a type for each of its symbols, with a constructor for each of its rules. What stands in these types
+-- The grammar: a type for each of its symbols, with a constructor for each of its rules. What is in these types
 -- are derivations: they have the parentheses and the span of every token (Aho, Lam, Sethi and Ullman, *Compilers*,
 -- 2006, section 4.2).
 use Rattle.std.specs.Prelude.{ℕ, ℤ, ◌≤◌, ◌<◌, ◌≡◌, Bool, true, false, List, [], ◌∷◌}
@@ -21,8 +21,8 @@ pub data Phrase : Type 0 where
   element : (at : Span) (a : Phrase) (left : Span) (index : Phrase) (right : Span) → Phrase
   binary : (op : BinaryOp) (a : Phrase) (at : Span) (b : Phrase) → Phrase
 
--- The levels of expressions, each a rule of its own: `or` 1, `and` 2, `eq` 3, `rel` 4, `add` 5, `mul` 6, `unary` 7,
--- `post` 8, `prim` 9. `Pick` stands between no two operands: it is written as `element`, and has no level.
+-- The levels of expressions, each a separate rule: `or` 1, `and` 2, `eq` 3, `rel` 4, `add` 5, `mul` 6, `unary` 7,
+-- `post` 8, `prim` 9. `Pick` is not written between two operands: it is written as `element`, and has no level.
 abbrev pub level : BinaryOp → ℕ
 level Or = 1
 level And = 2
@@ -57,7 +57,7 @@ level_of (address s a) = 7
 level_of (element s a l b r) = 7
 level_of (binary op a s b) = level op
 
--- Each operand stands at the level that its rule asks: `add = add "+" mul`, `unary = "-" unary`, and so on. The
+-- Each operand is at the level that its rule asks: `add = add "+" mul`, `unary = "-" unary`, and so on. The
 -- right operand of a binary operator is of a higher level, so that operators group to the left.
 unfoldable pub Grouped : Phrase → Type 0
 Grouped (number v s) = Unit {0}
@@ -71,7 +71,7 @@ Grouped (address s a) = (8 ≤ level_of a) × Grouped a
 Grouped (element s a l b r) = (8 ≤ level_of a) × Grouped a × Grouped b
 Grouped (binary op a s b) = (level op ≤ level_of a) × (level op < level_of b) × Grouped a × Grouped b × IsInfix op
 
--- A name or `self`, and arrows: what may stand left of the last `->` of a field assignment.
+-- A name or `self`, and arrows: what may be to the left of the last `->` of a field assignment.
 abbrev pub IsPath : Phrase → Type 0
 IsPath (variable x) = Unit {0}
 IsPath (own s) = Unit {0}
@@ -87,7 +87,7 @@ pub data Written : Type 0 where
   cell_int : (at inner : Span) → Written
   cell_pointer : (at inner : Span) (x : Ident) → Written
 
--- Modifiables within a struct are types of fields alone.
+-- Modifiables within a struct are types only of fields.
 abbrev pub Allowed : Bool → Written → Type 0
 Allowed cells (int s) = Unit {0}
 Allowed cells (pointer s x t) = Unit {0}
@@ -180,7 +180,7 @@ pub record Program : Type 0 where
   pub parts : List Part
   pub last : Span
 
--- Every expression is grouped, every type is one that may stand there, and the left side of every field assignment
+-- Every expression is grouped, every type is one that may be used there, and the left side of every field assignment
 -- is a path.
 unfoldable pub AllGrouped : List (Span × Phrase) → Type 0
 AllGrouped [] = Unit {0}
@@ -200,7 +200,7 @@ GivenGrouped (modref_int s k l r) = Unit {0}
 GivenGrouped (modref s y l r) = Unit {0}
 
 unfoldable mutual
-  -- the types of a statement may stand there, and its expressions are grouped by levels
+  -- the types of a statement may be used there, and its expressions are grouped by levels
   pub StatementProper : Statement → Type 0
   StatementProper (declare w x q g semi) = Allowed false w × GivenGrouped g
   StatementProper (assign x q g semi) = GivenGrouped g
@@ -232,7 +232,7 @@ unfoldable mutual
   StatementsProper ended = Unit {0}
   StatementsProper (followed s ss) = StatementProper s × StatementsProper ss
 
--- the type of each parameter may stand there
+-- the type of each parameter may be used there
 unfoldable pub MoreProper : List (Span × Parameter) → Type 0
 MoreProper [] = Unit {0}
 MoreProper (p ∷ more) = Allowed false p.1.type × MoreProper more
@@ -258,7 +258,7 @@ abbrev pub SizeProper : Written → Size → Type 0
 SizeProper w single = Unit {0}
 SizeProper w (row l n s r) = IsCell w × (0 < n)
 
--- the type of each member may stand there
+-- the type of each member may be used there
 unfoldable pub MembersProper : List Member → Type 0
 MembersProper [] = Unit {0}
 MembersProper (m ∷ ms) = SizeProper m.type m.size × MembersProper ms

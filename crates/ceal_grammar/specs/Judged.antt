@@ -12,7 +12,7 @@ use Rattle.ceal_grammar.specs.declared.state.State.{State}
 use Rattle.ceal_grammar.specs.declared.state.State.TheVariants.{Finished}
 use Rattle.ceal_grammar.specs.Machine.{step, nesting_of, item_of, operators_of}
 
--- the code of a fault at a token that cannot stand there
+-- the code of a fault at a token that cannot be there
 abbrev pub code_at : TokenKind → FaultCode
 code_at End = S5
 code_at Cut = S5
@@ -27,7 +27,7 @@ abbrev pub entries_of : State → Option (List Entry)
 entries_of (Finished es) = Some es
 entries_of _ = None
 
--- Where no token is left that finishes the program: no list whose last token is End or Cut comes to this.
+-- Where no token is left that finishes the program: no list whose last token is End or Cut has this result.
 abbrev pub finished : State → Result Tree Fault
 finished (Finished es) = Ok (record { entries = es })
 finished _ = Err (record { code = S5; span = record { from = 0; to = 0 } })

@@ -331,7 +331,7 @@ at_sign_after i w p s c None = let q = reduced 0 p w.frames in closes i w c q.pi
 abbrev pub accesses : Whole → Whole
 accesses w = record { nesting = w.nesting; operators = suc w.operators; frames = w.frames; receiver = w.receiver }
 
--- An index may stand after the operand of an `&` alone.
+-- An index may be after the operand of an `&` only.
 abbrev pub at_index : Inside → Whole → Piece → List Frame → Option State
 at_index i w p (AddressOf s ∷ fs) = Some (within i (indexed w s p fs) Want)
 at_index i w p _ = None
@@ -361,7 +361,7 @@ at_place i w (Have p) s k = at_after i w p s k
 at_place i w (Element p) s k = at_element i w p s k
 at_place i w (Access p) s k = placed i (at_access w p s k)
 
--- Types. `cells` says whether a modifiable within a struct may stand here.
+-- Types. `cells` says whether a modifiable within a struct may be here.
 abbrev pub type_begin : ReservedWord → Option TypePart
 type_begin k =
     if same_word k Words.Int then Some (Types.Done Int)
@@ -457,7 +457,7 @@ at_body i s (Reserved k) = placed i (at_word s k (type_begin k))
 at_body i s (Sign c) = wants (same_sign c Signs.RightBrace) (block_closed i.entries i.head i.done i.opened s)
 at_body i s _ = None
 
--- what is made of a type that goes on, and of one that has ended
+-- what is made of a type that continues, and of one that has ended
 abbrev pub typed : {A : Type 0} → (TypePart → A) → (TypeForm → Ident → A) → Option Typing → Option A
 typed more done None = None
 typed more done (Some (MoreType part)) = Some (more part)
@@ -706,7 +706,7 @@ at_top es End = Some (Finished es)
 at_top es (Reserved k) = at_part es k
 at_top es _ = None
 
--- Where a reading stands after one more token; None where no program goes on so.
+-- The state of a reading after one more token; None where no program continues this way.
 abbrev pub step : State → Token → Option State
 step (Top es) t = at_top es t.kind
 step (Struct es p) t = at_struct es p t.span t.kind

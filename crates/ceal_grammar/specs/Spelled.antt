@@ -27,7 +27,7 @@ pub record Mark : Type 0 where
 abbrev pub mark : ℕ → ℕ → ℕ → TokenKind → Span → Mark
 mark d i n kind at = record { token = record { kind = kind; span = at }; nesting = d; item = i; operators = n }
 
--- a token that begins no item and stands in no expression
+-- a token that begins no item and occurs in no expression
 abbrev pub plain : ℕ → TokenKind → Span → Mark
 plain d kind at = mark d 0 0 kind at
 
@@ -71,8 +71,8 @@ after (address s a) n = after a (suc n)
 after (element s a l b r) n = after b (suc (after a (suc n)))
 after (binary op a s b) n = after b (suc (after a n))
 
--- The tokens of a phrase, and then `rest`: the phrase stands at nesting d, is the item i of a list, and n
--- operators of its whole expression stand before it.
+-- The tokens of a phrase, and then `rest`: the phrase is at nesting d, is the item i of a list, and n
+-- operators of its whole expression are before it.
 unfoldable pub spelled : ℕ → ℕ → ℕ → Phrase → List Mark → List Mark
 spelled d i n (number v s) rest = mark d i n (Number v) s ∷ rest
 spelled d i n (null s) rest = mark d i n (Reserved Words.Null) s ∷ rest
@@ -249,7 +249,7 @@ spelled_parts (p ∷ ps) rest = spelled_part p (spelled_parts ps rest)
 abbrev pub spelled_program : Program → List Mark
 spelled_program p = spelled_parts p.parts (plain 0 End p.last ∷ [])
 
--- the tokens alone
+-- only the tokens
 unfoldable pub tokens_of : List Mark → List Token
 tokens_of [] = []
 tokens_of (m ∷ ms) = m.token ∷ tokens_of ms

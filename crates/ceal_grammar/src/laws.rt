@@ -31,7 +31,7 @@ pub fn either()
         → ((tree : Tree) × Accepts ts tree) ⊎ ((f : Fault) × IsFirstFault ts f) }
 {}
 
-/// A law: the reading comes to the tree of the tokens, where they have one, and else to their first fault.
+/// A law: the result of the reading is the tree of the tokens, where they have one, and else their first fault.
 pub fn judges()
     ensures accepted { (ts : List Token) (tree : Tree) → judged (Top []) ts ≡ Ok tree
         → Accepts ts tree }

@@ -1,4 +1,4 @@
-// Where a reading of a program stands.
+// The state of a reading of a program.
 
 use crate::stack::Stack;
 use ceal_base::fault::Span;
@@ -51,7 +51,7 @@ pub enum Receiver {
     Read(Target, Span),
     /// the arguments before it
     Argument(Callee, Exprs),
-    /// what stands left of the last `->`, and the field's name
+    /// what is to the left of the last `->`, and the field's name
     Set(Expr, Ident),
     /// the first operand of a `write`
     Write(Span),
@@ -133,7 +133,7 @@ pub struct Chained {
     pub first: Stmts,
 }
 
-/// What an open block stands in: the statements before its statement, the ifs that wait for that statement, what the
+/// What an open block is in: the statements before its statement, the ifs that wait for that statement, what the
 /// block belongs to, and the nesting outside, with and without those ifs.
 #[derive(Drop)]
 pub struct Opened {
@@ -182,7 +182,7 @@ pub struct Head {
     pub params: Fields,
 }
 
-/// A function's body: what stands before it, its open blocks, the statements of the innermost one, the ifs that wait
+/// A function's body: what is before it, its open blocks, the statements of the innermost one, the ifs that wait
 /// for the statement that is being read, and the nesting without them and with them.
 #[derive(Drop)]
 pub struct Inside {

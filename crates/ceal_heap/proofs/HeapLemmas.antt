@@ -173,7 +173,7 @@ slots_of c kept = record {
       (Core found.0, is.0, is.1, is.2 ∙ found.3);
 }
 
--- a number whose slot keeps its words stands as it did
+-- a number whose slot keeps its words has the same state
 state_same : (region region' : List SizeClass) (shape : Shape) (s : State) → ((x : Held) → held_in s ≡ Some x → words_of region' x.slot ≡ words_of region x.slot)
     → state_standing region' shape s ≡ state_standing region shape s
 state_same region region' shape (LiveState h) same = ap (λ (o : Option (List ℕ)). Live (record { shape = shape; words = words_read o; slot = h.slot })) (same h refl)
@@ -189,7 +189,7 @@ number_same region region' (Some x) same = state_same region region' x.shape x.s
 other_number : (n m : ℕ) → Core m ≢ Core n → m ≢ n
 other_number n m other e = other (ap Core e)
 
--- a number changes, and the region at its slot alone
+-- a number changes, and the region only at its slot
 others_same : (before after : List Number) (region region' : List SizeClass) (n : ℕ) → ((m : ℕ) → m ≢ n → slice_get after m ≡ slice_get before m)
     → ((m : ℕ) (x : Held) → m ≢ n → held_at before m ≡ Some x → words_of region' x.slot ≡ words_of region x.slot)
     → KeepsBlocks (Core n) (record { numbers = before; region = region }) (record { numbers = after; region = region' })
@@ -349,7 +349,7 @@ number_stays : (region : List SizeClass) (o : Option Number) → ((shape : Shape
 number_stays region None none = refl
 number_stays region (Some x) none = state_stays region x.shape x.state (λ held e. none x.shape held (ap Some (λ i. record { shape = x.shape; state = e i })))
 
--- where no block is revoked, each stands as it will
+-- where no block is revoked, any state is right for each
 pub all_stay : (c : Contents) → NoneRevoked c.numbers → (b : BlockId) → standing c b ≡ released (standing c b)
 all_stay c none (Input n) = refl
 all_stay c none (Core n) = number_stays c.region (slice_get c.numbers n) (none n)

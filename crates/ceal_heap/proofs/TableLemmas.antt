@@ -77,7 +77,8 @@ module _ (t : Ledger) (sound : IsSound t) where
         (tracks_in is_released t.free.items t.numbers n x y sound.free some (ap state_is_released was) (ap state_is_released now)))
         more
 
-    -- there is room for a number among the free ones, if it is not free, and among the revoked ones, if it is not revoked
+    -- there is room for a number among the free ones, if it is not free, and among the revoked ones, if it is not
+    -- revoked
     pub room_in_free : state_is_released x.state ≡ false → length t.free.items < t.free.room
     room_in_free held = let below = tally_below is_released t.numbers n x some held in omega (arith, below, sound.free.all, sound.free_room)
 
@@ -106,7 +107,7 @@ module _ (t : Ledger) (sound : IsSound t) where
   pub few_alive : length t.numbers + 1 < 2 ^ 32 → t.live + 1 < 2 ^ 32
   few_alive few = let most = tally_most is_live t.numbers in omega (arith, most, few, sound.live)
 
-  -- where nothing stands among the free numbers, none is free
+  -- where the list of free numbers is empty, none is free
   pub none_free : t.free.items ≡ [] → NoneFree t.numbers
   none_free none n shape some =
       false≢true (sym (tracks_none is_released t.numbers n (record { shape = shape; state = Released }) (subst (λ (ns : List ℕ). Tracks is_released ns t.numbers) none sound.free) some))

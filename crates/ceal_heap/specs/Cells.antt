@@ -26,7 +26,7 @@ word_of sort cell =
     else if sort == 4 then At (record { block = Input (low cell); field = high cell })
     else At (record { block = Core (low cell); field = high cell })
 
--- the words of cells, two by two; a cell alone has none
+-- the words of cells, two by two; a single cell has none
 abbrev pub words_in : List ℕ → List Word
 words_in [] = []
 words_in (sort ∷ []) = []

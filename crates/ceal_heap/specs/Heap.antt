@@ -1,4 +1,4 @@
--- A heap: how each block stands, and the slots of the region (for blocks that are revoked first and released later:
+-- A heap: the state of each block, and the slots of the region (for blocks that are revoked first and released later:
 -- Hammer and Acar, *Memory management for self-adjusting computation*, ISMM 2008).
 use Rattle.std.specs.Prelude.{◌≡◌, ◌≢◌, ℕ, ◌≤◌, List, length, Option, Some, None, IsSome, option_map, pos, slice_get, slice_index_or}
 use Rattle.ceal_base.specs.Block.{Block}
@@ -28,7 +28,7 @@ pub record Known : Type 0 where
   pub words : List Word
   pub slot : Slot
 
--- how a block stands: its number was never given out, it is live, it was revoked and can still be read, or it was
+-- the state of a block: its number was never given out, it is live, it was revoked and can still be read, or it was
 -- released and its number waits for another block, of any shape
 pub data Standing : Type 0 where
   Unused : Standing
@@ -40,23 +40,23 @@ pub data Standing : Type 0 where
 abbrev pub known_in : List SizeClass → Shape → Held → Known
 known_in region shape held = record { shape = shape; words = read_at region held.slot; slot = held.slot }
 
--- how a number stands, by its state
+-- the public state of a number, by the state in the table
 abbrev pub state_standing : List SizeClass → Shape → State → Standing
 state_standing region shape (LiveState held) = Live (known_in region shape held)
 state_standing region shape (RevokedState held) = Revoked (known_in region shape held)
 state_standing region shape ReleasedState = Released shape
 
--- how a number stands, and that it is unused where it is not there
+-- the state of a number, and that it is unused where it is not there
 abbrev pub number_standing : List SizeClass → Option Number → Standing
 number_standing region None = Unused
 number_standing region (Some number) = state_standing region number.shape number.state
 
--- how a block stands in a heap; an input block never does
+-- the state of a block in a heap; an input block has none
 abbrev pub standing : Contents → BlockId → Standing
 standing heap (Input n) = Unused
 standing heap (Core n) = number_standing heap.region (slice_get heap.numbers n)
 
--- what a standing says of a block: something of a live one and of a revoked one alone
+-- what a state says of a block: something of a live one, and only of a revoked one
 abbrev pub known : Standing → Option Known
 known Unused = None
 known (Live block) = Some block
@@ -124,7 +124,7 @@ abbrev pub IsFree : Contents → BlockId → Option Shape → Type 0
 IsFree heap b (Some shape) = standing heap b ≡ Released shape
 IsFree heap b None = (b ≡ Core (next heap)) × NoneReleased heap
 
--- each block but this one stands as it did
+-- each block but this one has the same state
 abbrev pub KeepsBlocks : BlockId → Contents → Contents → Type 0
 KeepsBlocks b before after = (other : BlockId) → other ≢ b → standing after other ≡ standing before other
 
@@ -136,7 +136,7 @@ ReleasesRevoked before after = (b : BlockId) → standing after b ≡ released (
 abbrev pub ReleasesAlike : Contents → Contents → Type 0
 ReleasesAlike before after = (b : BlockId) → released (standing after b) ≡ released (standing before b)
 
--- nothing changed that a caller sees: the numbers, how each block stands, and the words of each slot
+-- nothing changed that a caller sees: the numbers, the state of each block, and the words of each slot
 pub record IsUnchanged (before after : Contents) : Type 0 where
   pub numbers : after.numbers ≡ before.numbers
   pub blocks : (b : BlockId) → standing after b ≡ standing before b

@@ -1,4 +1,4 @@
--- The table of numbers: how each of them stands, those that were revoked, and those that are free.
+-- The table of numbers: the state of each, those that were revoked, and those that are free.
 use Rattle.std.specs.Prelude.{◌≡◌, ◌≢◌, ◌⊎◌, ℕ, ◌+◌, ◌<◌, ◌≤◌, ◌^◌, ◌==◌, Bool, true, false, List, [], ◌∷◌, ◌++◌, length, Option, Some, None, slice_get, slice_set}
 use Rattle.ceal_base.specs.declared.kind.Shape.{Shape}
 use Rattle.ceal_heap.specs.Stack.{Pile}
@@ -82,7 +82,7 @@ abbrev pub tally : (Number → Bool) → List Number → ℕ
 tally test [] = 0
 tally test (number ∷ numbers) = one_if (test number) + tally test numbers
 
--- how often a number stands in a list
+-- how often a number occurs in a list
 abbrev pub times : ℕ → List ℕ → ℕ
 times n [] = 0
 times n (m ∷ ms) = one_if (m == n) + times n ms

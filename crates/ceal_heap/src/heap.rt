@@ -13,8 +13,8 @@ use ceal_base::word::{BlockId, Word};
 use std::alloc::Global;
 use std::marker::Model;
 
-/// The core blocks, each with its shape and its words. A live block that is revoked can be read until the
-/// revoked blocks are released; its number is given out again only then, to a block of any shape. So there are never more
+/// The core blocks, each with its shape and its words. A live block that is revoked can be read until the revoked
+/// blocks are released; its number is given out again only then, to a block of any shape. So there are never more
 /// numbers than there were live and revoked blocks at a time. All memory is taken by `make`.
 #[derive(Drop)]
 pub struct Heap {

@@ -1,10 +1,10 @@
 //! The store of core blocks over raw words: what is live, what was revoked and can still be read, and which numbers
 //! can be given out again.
 //!
-//! Contracts see how each number stands, with shape, words and slot of the blocks that are live or revoked, and
+//! Contracts see the state of each number, with shape, words and slot of the blocks that are live or revoked, and
 //! the region of raw words, whose slots are exactly those of these blocks.
 //!
-//! `heap` has the calls. `table` keeps how each number stands (`number`), those that were revoked, and those that are
+//! `heap` has the calls. `table` keeps the state of each number (`number`), those that were revoked, and those that are
 //! free (`stack`); `pieces` keeps the words of blocks in slots, two cells a word (`cells`).
 #![tactic(auto)]
 

@@ -23,7 +23,7 @@ impl Held {
     }
 }
 
-/// How a number stands.
+/// The state of a number.
 #[derive(Drop)]
 pub enum State {
     Live(Held),

@@ -10,8 +10,8 @@ use ceal_base::no_memory::NoMemory;
 use std::alloc::Global;
 use std::marker::Model;
 
-/// How each number stands that was given out, which numbers were revoked, which are free, and how many are live. Room
-/// for a number wherever it may stand is made when it is given out for the first time.
+/// The state of each number that was given out, which numbers were revoked, which are free, and how many are live. Room
+/// for a number in every state is made when it is given out for the first time.
 #[derive(Drop)]
 pub struct Table {
     numbers: Vec<Number>,

@@ -18,7 +18,7 @@ pub record MemStream : Type 0 where
 unfoldable pub has_number : List ℕ → ℕ → Bool
 has_number numbers number = list_any (λ n. n == number) numbers
 
--- the number of the call to come, from 1; it stands still at the end of its type
+-- the number of the call to come, from 1; it stays the same at the end of its type
 abbrev pub next_number : Calls → ℕ
 next_number calls = min (calls.made + 1) (2 ^ 32 - 1)
 

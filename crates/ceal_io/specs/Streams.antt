@@ -2,11 +2,11 @@
 use Rattle.std.specs.Prelude.{◌≡◌, ℕ, ◌+◌, ◌-◌, ◌^◌, ◌≤◌, min, List, length, take, Option, Bool, if◌then◌else◌}
 use Rattle.std.specs.Io.KnownBytes.{Appends, Consumes}
 
--- the count of faults one higher; it stands still at the end of its type
+-- the count of faults one higher; it stays the same at the end of its type
 abbrev pub one_more_fault : ℕ → ℕ
 one_more_fault count = min (count + 1) (2 ^ 64 - 1)
 
--- a count of faults has risen, or stands at the end of its type
+-- a count of faults has risen, or is at the end of its type
 abbrev pub Rose : ℕ → ℕ → Type 0
 Rose before now = one_more_fault before ≤ now
 

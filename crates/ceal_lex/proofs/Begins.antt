@@ -1,4 +1,4 @@
--- What stands at the front of bytes, by the class of the first.
+-- What is at the front of bytes, by the class of the first.
 use Rattle.std.proofs.Common.{◌≡◌, ◌≢◌, ℕ, ◌+◌, ◌-◌, ◌≤◌, ◌<◌, Bool, true, false, not, ◌||◌, List, [], ◌∷◌, ◌++◌, length, take, drop, get_or, refl, sym, ap, ◌∙◌, subst, arith, inl, inr}
 use Rattle.std.specs.Prelude.{◌==◌, ℤ, pos}
 use Rattle.std.specs.List.{prefix_len, position_or_len}

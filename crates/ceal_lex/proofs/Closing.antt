@@ -5,7 +5,7 @@ use Rattle.std.proofs.lemmas.List.{length-append, length-take-le, take-append-dr
 use Rattle.ceal_lex.specs.Characters.{SLASH, STAR}
 use Rattle.ceal_lex.specs.Front.{IsNeverClosed, ClosesAt}
 
--- No `*/` stands before byte n.
+-- There is no `*/` before byte n.
 abbrev pub NoneBefore : ℕ → List ℕ → Type 0
 NoneBefore n text = (a b : List ℕ) → text ≡ a ++ STAR ∷ SLASH ∷ b → n ≤ length a
 

@@ -131,7 +131,7 @@ other_front (b ∷ c ∷ rest) h = elim (cases_eq b SLASH) [
   | inr other ↦ sign_front (b ∷ c ∷ rest) h (no_first b c rest other)
 ]
 
--- something stands at the front of bytes that are not empty
+-- something is at the front of bytes that are not empty
 front_of : (bytes : List ℕ) → 0 < length bytes → HasFront bytes
 front_of [] l = absurd (omega (arith, l))
 front_of (b ∷ bs) l = elim (cases_Bool (is_space b)) [

@@ -1,4 +1,4 @@
--- One piece at most stands at the front of bytes, and none where a fault stands.
+-- At most one piece is at the front of bytes, and none where there is a fault.
 use Rattle.std.proofs.Common.{◌≡◌, ◌≢◌, ◌⊎◌, inl, inr, ℕ, true, List, [], ◌∷◌, ◌++◌, length, take, refl, sym, ap, ◌∙◌, arith, subst}
 use Rattle.std.specs.List.{AllByRecursion}
 use Rattle.std.proofs.lemmas.Bool.{true≢false, false≢true}
@@ -96,7 +96,7 @@ module _ (r s : List ℕ) where
       let g : k ≡ j = same_kind t k j a.0 f in
       (cc (g, p.0), p.1)
 
--- No piece stands at the front.
+-- There is no piece at the front.
 abbrev pub Stops : List ℕ → Type 0
 Stops rest = (p : Piece) (s : List ℕ) → Stands p s → followed p s ≡ rest → ⊥
 
@@ -168,7 +168,7 @@ same_fault rest n m S1 _ a b = absurd b
 same_fault rest n m S2 _ a b = absurd b
 same_fault rest n m _ _ a b = absurd a
 
--- a fault stands at a byte
+-- there is a fault at a byte
 pub fault_not_empty : (n : ℕ) (c : FaultCode) → FaultStands c [] n → ⊥
 fault_not_empty n S1 a = elim a.0 [ inl o ↦ absurd (cc o.begins) | inr o ↦ absurd (cc o.begins) ]
 fault_not_empty n S2 a = too_large a

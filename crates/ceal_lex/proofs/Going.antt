@@ -11,7 +11,8 @@ use Rattle.ceal_lex.specs.Faults.{FaultStands, IsFirstFault}
 use Rattle.ceal_lex.specs.Front.{IsBlank, IsFound}
 use Rattle.ceal_lex.specs.Reading.{Reads}
 
--- Pieces that make the bytes `rest`, which begin at byte `at`, complete the source, and their tokens follow the tokens so far.
+-- Pieces that make the bytes `rest`, which begin at byte `at`, complete the source, and their tokens follow the tokens
+-- so far.
 abbrev pub Continues : List ℕ → List ℕ → ℕ → List Token → Type 0
 Continues source rest at tokens = (ps : List Piece) (end : List ℕ) → Stand ps end → spelled ps end ≡ rest → Reads source end (tokens ++ tokens_from at ps)
 

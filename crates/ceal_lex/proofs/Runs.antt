@@ -51,7 +51,7 @@ position_default test bs = elim (cases_Bool (nat_lt (position_or_len test bs) (l
       rw e (omega (arith, p, q))
 ]
 
--- what stands before the end of a line, and what follows it
+-- what is before the end of a line, and what follows it
 pub line_passes : (bs : List ℕ) → AllByRecursion (λ b. b ≢ LINE_FEED) (take (position_or_len (λ b. b == LINE_FEED) bs) bs)
 line_passes [] = tt
 line_passes (b ∷ bs) = elim (eqb_tells b LINE_FEED) [

@@ -1,4 +1,4 @@
--- The first fault of a source: where no piece can stand.
+-- The first fault of a source: where there can be no piece.
 use Rattle.std.specs.Prelude.{ℕ, ◌+◌, ◌<◌, ◌≡◌, ◌≢◌, ◌⊎◌, List, ◌∷◌, ◌++◌, length, IsFalse}
 use Rattle.ceal_base.specs.declared.fault.Fault.{Fault}
 use Rattle.ceal_base.specs.declared.fault.FaultCode.{FaultCode}
@@ -33,13 +33,13 @@ pub record BeginsTooLarge (rest : List ℕ) (count : ℕ) : Type 0 where
   pub large : LARGEST < number_of digits
   pub counted : count ≡ length digits
 
--- The fault that stands where the bytes `rest` begin, and how many bytes it takes.
+-- The fault where the bytes `rest` begin, and how many bytes it takes.
 abbrev pub FaultStands : FaultCode → List ℕ → ℕ → Type 0
 FaultStands S1 rest count = (IsOpen rest ⊎ BeginsNothing rest) × (count ≡ 1)
 FaultStands S2 rest count = BeginsTooLarge rest count
 FaultStands _ rest count = ⊥
 
--- Pieces stand before it, and the fault stands at byte `at`, after them.
+-- Pieces are before it, and the fault is at byte `at`, after them.
 pub record IsFirstFault (source : List ℕ) (fault : Fault) : Type 0 where
   pub pieces : List Piece
   pub at : ℕ

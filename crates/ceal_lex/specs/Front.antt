@@ -24,7 +24,7 @@ is_other b = not (is_space b || is_letter b || is_digit b)
 abbrev pub IsNeverClosed : List ℕ → Type 0
 IsNeverClosed text = (a b : List ℕ) → text ≢ a ++ STAR ∷ SLASH ∷ b
 
--- The first `*/` stands at byte n.
+-- The first `*/` is at byte n.
 pub record ClosesAt (n : ℕ) (text : List ℕ) : Type 0 where
   pub inside : List ℕ
   pub rest : List ℕ

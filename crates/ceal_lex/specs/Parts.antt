@@ -30,7 +30,7 @@ pub record HasFirstMark (input before after : List ℕ) : Type 0 where
   pub mark : HasMark input before after
   pub first : (b a : List ℕ) → HasMark input b a → length before ≤ length b
 
--- The source part is what stands before the first line `%%`, and the script is what stands after it.
+-- The source part is what is before the first line `%%`, and the script is what is after it.
 pub record IsMarked (input : List ℕ) (part : Split) : Type 0 where
   pub before : List ℕ
   pub after : List ℕ

@@ -34,11 +34,11 @@ EndsLine rest = (rest ≡ []) ⊎ (more : List ℕ) × (rest ≡ LINE_FEED ∷ m
 abbrev pub IsLongest : List ℕ → List ℕ → Type 0
 IsLongest text rest = (a b : List ℕ) → text ++ rest ≡ a ++ b → IsLexeme a → length a ≤ length text
 
--- No `*/` stands earlier than the one after the text.
+-- No `*/` is earlier than the one after the text.
 abbrev pub IsClosedFirst : List ℕ → List ℕ → Type 0
 IsClosedFirst text rest = (a b : List ℕ) → text ++ STAR ∷ SLASH ∷ rest ≡ a ++ STAR ∷ SLASH ∷ b → length text ≤ length a
 
--- The piece may stand where the bytes `rest` follow it.
+-- The piece may be where the bytes `rest` follow it.
 abbrev pub Stands : Piece → List ℕ → Type 0
 Stands (space b) rest = IsTrue (is_space b)
 Stands (line_comment text) rest = AllByRecursion (λ b. b ≢ LINE_FEED) text × EndsLine rest
@@ -50,7 +50,7 @@ unfoldable pub spelled : List Piece → List ℕ → List ℕ
 spelled [] rest = rest
 spelled (p ∷ ps) rest = followed p (spelled ps rest)
 
--- Each piece may stand where it does, before the bytes `rest`.
+-- Each piece may be where it is, before the bytes `rest`.
 unfoldable pub Stand : List Piece → List ℕ → Type 0
 Stand [] rest = Unit {0}
 Stand (p ∷ ps) rest = Stands p (spelled ps rest) × Stand ps rest

@@ -21,28 +21,28 @@ pub fn is_letter(byte: u8) -> bool
     matches!(byte, b'A'..=b'Z' | b'a'..=b'z' | b'_')
 }
 
-/// Whether a byte may stand in a word after its first.
+/// Whether a byte may be in a word after its first.
 pub fn is_word_byte(byte: u8) -> bool
     ensures { result ≡ characters.is_word_byte byte }
 {
     is_letter(byte) || is_digit(byte)
 }
 
-/// Where the first byte stands that may not stand in a word.
+/// The place of the first byte that may not be in a word.
 fn word_end(bytes: &[u8]) -> Option<usize>
     ensures { result ≡ position (λ b. not (characters.is_word_byte b)) bytes.now }
 {
     bytes.iter().position(|byte| !is_word_byte(*byte))
 }
 
-/// Where the first byte stands that is no digit.
+/// The place of the first byte that is no digit.
 fn digits_end(bytes: &[u8]) -> Option<usize>
     ensures { result ≡ position (λ b. not (digits.is_digit b)) bytes.now }
 {
     bytes.iter().position(|byte| !is_digit(*byte))
 }
 
-/// How many bytes at the front may stand in a word.
+/// The number of bytes at the front that may be in a word.
 pub fn word_length(bytes: &[u8]) -> usize
     ensures { result ≡ prefix_len characters.is_word_byte bytes.now }
 {

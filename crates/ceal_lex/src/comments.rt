@@ -5,14 +5,14 @@ ghost use Rattle.std.specs.List.{position_or_len};
 ghost use Rattle.ceal_lex.specs.Characters.{LINE_FEED};
 ghost use Rattle.ceal_lex.specs.Front.{IsNeverClosed, ClosesAt};
 
-/// Where the first LF stands.
+/// The place of the first LF.
 fn line_end(text: &[u8]) -> Option<usize>
     ensures { result ≡ position (λ b. b == LINE_FEED) text.now }
 {
     text.iter().position(|byte| *byte == b'\n')
 }
 
-/// How many bytes stand before the end of the line.
+/// The number of bytes before the end of the line.
 pub fn line_length(text: &[u8]) -> usize
     ensures within { result ≤ length text.now }
     ensures first { result ≡ position_or_len (λ b. b == LINE_FEED) text.now }
@@ -20,7 +20,7 @@ pub fn line_length(text: &[u8]) -> usize
     line_end(text).unwrap_or(text.len())
 }
 
-/// How many bytes stand before the first `*/`.
+/// The number of bytes before the first `*/`.
 pub fn comment_length(text: &[u8]) -> Option<usize>
     ensures { MatchOption result (IsNeverClosed text.now) (λ n. ClosesAt n text.now) }
 {

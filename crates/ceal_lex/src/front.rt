@@ -1,4 +1,4 @@
-// What stands at the front of bytes.
+// What is at the front of bytes.
 
 ghost use Rattle.std.specs.Prelude.{◌<◌, length, IfOk};
 ghost use Rattle.ceal_base.specs.Digits as decimal;
@@ -18,7 +18,7 @@ use ceal_base::no_memory::NoMemory;
 use ceal_base::text::Text;
 use std::alloc::Global;
 
-/// What stands at the front, and how many bytes it takes: white space or a comment, a token, or a fault.
+/// What is at the front, and how many bytes it takes: white space or a comment, a token, or a fault.
 #[derive(Drop)]
 pub enum Front {
     Blank(usize),
@@ -26,7 +26,7 @@ pub enum Front {
     Broken(FaultCode, usize),
 }
 
-/// What stands at the front of bytes that are not empty.
+/// What is at the front of bytes that are not empty.
 pub fn read_front(alloc: Global, bytes: &[u8]) -> Result<Front, NoMemory>
     requires { 0 < length bytes.now }
     ensures front { IfOk result (λ front. IsFront front bytes.now) }

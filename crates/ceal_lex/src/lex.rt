@@ -72,8 +72,8 @@ fn read_all(alloc: Global, source: &[u8], marked: bool) -> Result<Tokens, FrontE
     Ok(tokens)
 }
 
-/// The tokens of the source part, or the first of the faults S1 and S2 in it. S1 stands at a byte that begins no
-/// token, or at the `/` of a comment that is not closed in the source part: its span is that byte. S2 stands at a
+/// The tokens of the source part, or the first of the faults S1 and S2 in it. S1 is at a byte that begins no
+/// token, or at the `/` of a comment that is not closed in the source part: its span is that byte. S2 is at a
 /// number above 9223372036854775807: its span is that of the digits.
 pub fn lex(alloc: Global, input: &[u8], part: &Split) -> Result<Tokens, FrontError>
     requires { IsSplit input.now part.now }

@@ -127,7 +127,7 @@ module _ (blocks : List GraphBlock) (w : ℕ) where
   step-live : (at c : ℕ) (block : GraphBlock) → slice_get blocks at ≡ Some block → keeps w block ≡ true → Contains (jumps block) c → Live blocks w c → Live blocks w at
   step-live at c block look keep j h = (h.0, jumps_to (rw look keep) (rw look j) h.1, h.2)
 
-  -- what comes to a block from sets of live variables is live there
+  -- what reaches a block from sets of live variables is live there
   pub comes-live : (sets : Sets) → ((b v : ℕ) → is_in v (set_at sets b) ≡ true → Live blocks v b) → (at : ℕ) (block : GraphBlock) → slice_get blocks at ≡ Some block
       → comes sets block w ≡ true → Live blocks w at
   comes-live sets sound at Done look h = cc
@@ -141,7 +141,7 @@ module _ (blocks : List GraphBlock) (w : ℕ) where
       step-live at next (Act s next) look keep (Contains-push [] next) (sound next w here)
   comes-live sets sound at Unreached look h = cc
 
-  -- what is in the set at the end of a jump comes to the block
+  -- what is in the set at the end of a jump reaches the block
   comes-from : (sets : Sets) (block : GraphBlock) (c : ℕ) → keeps w block ≡ true → Contains (jumps block) c → is_in w (set_at sets c) ≡ true → comes sets block w ≡ true
   comes-from sets Done c keep j h = let l = j.1 in absurd (omega (arith, l))
   comes-from sets (Test test a b) c keep j h = elim (contains-two a b c j) [
@@ -171,7 +171,7 @@ live-sets blocks sets u closed = record {
   exact = λ b v l. (u.sound b v, λ h. path-in blocks v sets closed u.used b h.0 h.1 h.2);
 }
 
--- a set with what comes to its block is put in place of the old one
+-- a set with what reaches its block is put in place of the old one
 module _ (blocks : List GraphBlock) (old : Sets) (at : ℕ) (block : GraphBlock) (set : List ℕ) (u : Underway blocks old) (look : slice_get blocks at ≡ Some block)
     (within : at < length old) (ok : (w : ℕ) → is_in w set ≡ (is_in w (set_at old at) || comes (slice_set old at []) block w)) where
   put-used : (b v : ℕ) → is_in v (uses_at (slice_get blocks b)) ≡ true → is_in v (set_at (slice_set old at set) b) ≡ true

@@ -1,4 +1,4 @@
--- What comes to a block, on small graphs.
+-- What reaches a block, on small graphs.
 use Rattle.std.proofs.Common.{◌≡◌, ℕ, pos, true, false, Some, List, [], ◌∷◌, refl}
 use Rattle.ceal_base.specs.declared.fault.Span.{Span}
 use Rattle.ceal_base.specs.declared.kind.Kind.TheVariants.{Int}
@@ -19,14 +19,14 @@ one = record { span = at; kind = Some Int; form = Num (pos 1) }
 abbrev sets : List (List ℕ)
 sets = (0 ∷ 2 ∷ []) ∷ (1 ∷ []) ∷ []
 
--- a variable of the set after an assignment comes to it, unless it is the one that is assigned
+-- a variable of the set after an assignment reaches it, unless it is the one that is assigned
 kept : comes sets (Act (Assign at 0 (Plain one)) 0) 2 ≡ true
 kept = refl
 
 assigned : comes sets (Act (Assign at 0 (Plain one)) 0) 0 ≡ false
 assigned = refl
 
--- one of either set comes to a test
+-- one of either set reaches a test
 either : comes sets (Test one 0 1) 1 ≡ true
 either = refl
 

@@ -12,7 +12,7 @@ comes sets (Test test first second) w = is_in w (set_at sets first) || is_in w (
 comes sets (Act s next) w = is_in w (set_at sets next) && not (is_that (stmt_assigns s) w)
 comes sets Unreached w = false
 
--- whatever comes to the block is in its set
+-- whatever reaches the block is in its set
 abbrev pub IsClosed : List GraphBlock → List (List ℕ) → ℕ → Type 0
 IsClosed blocks sets b =
     (block : GraphBlock) (w : ℕ) → slice_get blocks b ≡ Some block → comes sets block w ≡ true

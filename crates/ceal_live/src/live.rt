@@ -11,7 +11,7 @@ use ceal_flow::live_sets::LiveSets;
 use std::alloc::Global;
 
 /// For each block the variables that are live there (Kildall, POPL 1973). A round goes from the last block to the
-/// first, so that a graph without loops takes two rounds, and each loop that stands in another at most one more.
+/// first, so that a graph without loops takes two rounds, and each loop inside another at most one more.
 pub fn live(alloc: Global, graph: &Graph) -> Result<LiveSets, NoMemory>
     ensures exact { IfOk result (λ sets. AreLiveSets graph.now.blocks sets) }
 {

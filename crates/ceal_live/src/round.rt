@@ -54,7 +54,7 @@ fn join_at(
     }
 }
 
-/// Adds what comes to a block from those to which it jumps, and says whether any was added.
+/// Adds what reaches a block from those to which it jumps, and says whether any was added.
 fn join_jumps(set: &mut LiveSet, sets: &[LiveSet], block: &GraphBlock) -> Result<bool, NoMemory>
     ensures ok { OnOk result
         ((w : ℕ) → is_in w set.new ≡ (is_in w set.old || comes sets.now block.now w)) }

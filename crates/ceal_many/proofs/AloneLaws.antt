@@ -193,7 +193,7 @@ module _ {S : Type 0} (answers : S → List ℕ → List ℕ → S → Type 0) (
         subst (λ (ts : List (List ℕ)). AllRefused (own_texts name (line ∷ lines) ts)) (sym h.5)
         (refused-step (said line) h.0 ss h.1 (own_texts name lines h.2) h.3 none (refused lines h.1 next h.2 h.4 more))
 
-    -- a session alone has one list of replies
+    -- a session by itself has one list of replies
     pub alone-one : IsDetermined answers → (lines : List (List ℕ)) (s : S) (a b : List (List ℕ))
         → AnswersAlone answers name s lines a → AnswersAlone answers name s lines b → a ≡ b
     unfolding AnswersAlone

@@ -23,7 +23,7 @@ module _ {A S : Type 0} (stands : A → S → Type 0) (name : List ℕ) where
   pub sought : (held seen : List (Entry A)) (r o : Option ℕ) → seen ≡ held → r ≡ position is_its seen → r ≡ o → position is_its held ≡ o
   sought held seen r o e f g = ap (position is_its) (sym e) ∙ sym f ∙ g
 
-  -- the session at its place: its state, and what stands there after it
+  -- the session at its place: its state, and what is there after it
   abbrev pub Found : List (Entry A) → List (Named S) → ℕ → Entry A → Type 0
   Found held ss at e = (s : S) × (state_of name ss ≡ Some s) × stands e.answerer s
       × ((f : Entry A) (n : S) → f.name ≡ e.name → stands f.answerer n → StandFor stands (slice_set held at f) (with_state name n ss))

@@ -1,4 +1,4 @@
--- What the sessions that are kept answer, for the states for which they stand.
+-- What the sessions that are kept answer, for the states that they stand for.
 use Rattle.std.proofs.Common.{◌≡◌, ℕ, Bool, true, false, nat_le, Option, Some, None, List, [], length, get_or, slice_set, Result, Ok, Err, IfOk, OnErr, refl, sym, ap, ◌∙◌, subst}
 use Rattle.std.specs.Prelude.{is_none, unwrap_or, position, ◌&&◌, if◌then◌else◌}
 use Rattle.ceal_many.specs.Kept.{StandFor, Begins}

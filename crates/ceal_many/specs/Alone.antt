@@ -29,7 +29,7 @@ own_texts name [] texts = []
 own_texts name (line ∷ lines) [] = []
 own_texts name (line ∷ lines) (text ∷ texts) = own_text name (said line) text (own_texts name lines texts)
 
--- A session alone, from a state on, answers its lines by these texts, with the prefix of the name.
+-- A session by itself, from a state on, answers its lines by these texts, with the prefix of the name.
 unfoldable pub AnswersAlone : {S : Type 0} → Answering S → List ℕ → S → List (List ℕ) → List (List ℕ) → Type 0
 AnswersAlone answers name s [] texts = texts ≡ []
 AnswersAlone {S} answers name s (line ∷ lines) texts =

@@ -1,4 +1,4 @@
--- What is kept of many sessions, and the states for which they stand.
+-- What is kept of many sessions, and the states that they stand for.
 use Rattle.std.specs.Prelude.{◌≡◌, ℕ, List, [], ◌∷◌, ◌++◌}
 use Rattle.std.specs.List.{AllZip, AllByRecursion}
 use Rattle.ceal_many.specs.Replies.{Writes}
@@ -24,7 +24,7 @@ StandFor stands sessions states = AllZip (StandsAs stands) sessions states
 abbrev pub AllMeet : {S : Type 0} → (S → Type 0) → List (Named S) → Type 0
 AllMeet needs states = AllByRecursion (λ s. needs s.state) states
 
--- A session is made and answers a line, and it stands after the others.
+-- A session is made and answers a line, and it is put after the others.
 pub record Begins
     {A S : Type 0} (stands : A → S → Type 0) (answers : Answering S) (opening : S)
     (name line : List ℕ) (old : List (Entry A)) (text : List ℕ) (new : List (Entry A)) : Type 0 where

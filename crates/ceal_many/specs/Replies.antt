@@ -13,7 +13,7 @@ pub record Writes
   pub answer : answers s line reply n
   pub written : text ≡ prefixed name reply
 
--- The session of the name answers and goes on to its next state; the others stay.
+-- The session of the name answers and gets its next state; the others stay.
 pub record AnswersAs
     {S : Type 0} (answers : Answering S) (opening : S) (name : List ℕ) (ss : List (Named S))
     (line text : List ℕ) (next : List (Named S)) : Type 0 where
@@ -48,7 +48,7 @@ AnswersSaid answers opening ss (For name line) text next = AnswersFor answers op
 abbrev pub Answers : {S : Type 0} → Answering S → S → List (Named S) → List ℕ → List ℕ → List (Named S) → Type 0
 Answers answers opening ss line text next = AnswersSaid answers opening ss (said line) text next
 
--- A session after running out of memory: its own answer stands, which was not written, or it is left without one.
+-- A session after running out of memory: it has given its answer, which was not written, or it is left without one.
 abbrev pub LeavesOne : {S : Type 0} → Answering S → Leaving S → S → List ℕ → S → Type 0
 LeavesOne answers leaves s line n = ((reply : List ℕ) × answers s line reply n) ⊎ leaves s line n
 

@@ -23,7 +23,7 @@ pub trait Answerer: Drop {
     /// What `command` asks of the state.
     ghost needs: { State → Type 0 };
 
-    /// The state answers this line by this text, and goes on to this state.
+    /// The state answers this line by this text, and this is its next state.
     ghost answers: { Answering State };
 
     /// What may be left of the state where there was no memory to answer this line.

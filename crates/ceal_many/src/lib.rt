@@ -1,6 +1,6 @@
 //! Many sessions in one script: each line names the session that answers it.
 //!
-//! What a session is stands open: `Answerer` is what answers the lines of one, and `Maker` what makes one. `Many` is
+//! What a session is, is left open: `Answerer` is what answers the lines of one, and `Maker` what makes one. `Many` is
 //! proved for every maker. `specs/` says what a line says (`Lines`), how replies are written (`Prefixes`), and what
 //! they are (`Replies`); `Alone` and `Laws` say that the replies to one name's lines depend only on these lines.
 #![tactic(auto)]

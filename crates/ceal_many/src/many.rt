@@ -32,7 +32,7 @@ impl<M: Maker> Model for Many<M> {
     ghost view = { λ m. record { maker = m.maker; sessions = m.sessions.items } };
 }
 
-/// Where the session of a name stands.
+/// The place of the session of a name.
 fn place_of<A>(sessions: &[Entry<A>], name: &[u8]) -> Option<usize>
     ensures { result ≡ position (λ entry. bytes_eq name.now entry.name) sessions.now }
 {
@@ -102,10 +102,10 @@ impl<M: Maker> Many<M> {
         })
     }
 
-    /// The reply to a line, which has no line end: that of the session that the line names, with `NAME: ` before each of
-    /// its lines. A session is made when its name first comes; where 64 are there, a line for another is refused as C9.
-    /// After running out of memory the other sessions are as before. One that was not there is not there, and one that was there
-    /// is as its own command leaves it.
+    /// The reply to a line, which has no line end: that of the session that the line names, with `NAME: ` before each
+    /// of its lines. A session is made when its name first comes; where 64 are there, a line for another is refused as
+    /// C9. After running out of memory the other sessions are as before. One that was not there is not there, and one
+    /// that was there is as its own command leaves it.
     pub fn command(&mut self, line: &[u8]) -> Result<Text, NoMemory>
         requires sessions { IsReady (StandFor M.Made.stands) (AllMeet M.Made.needs)
             self.old.sessions }

@@ -69,7 +69,7 @@ given t n rest env below = record {
 }
 
 -- the state after one statement, `rest` being what the frame has to do after it and `below` the frames under it; a
--- field is set by initialisers alone, and a `return`, `break` or `continue` is no step
+-- field is set only by initialisers, and a `return`, `break` or `continue` is no step
 abbrev pub effect : Typed → Blocks → List Word → List Item → List Frame → TypedStmt → TypedStmt-F TypedStmt → State
 effect p m env rest below s (Declare at n kind value) = given (taken p env m value) n rest env below
 effect p m env rest below s (Assign at n value) = given (taken p env m value) n rest env below

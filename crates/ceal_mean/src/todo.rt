@@ -39,7 +39,7 @@ pub fn put_turn<'a>(parts: &mut Vec<Part<'a>>, w: &'a TypedStmt) -> Result<(), N
     Ok(())
 }
 
-/// Leaves out what stands before the first loop, and takes that loop.
+/// Leaves out what is before the first loop, and takes that loop.
 #[tactic(auto, using(crate::proofs::TodoLemmas::joined_steps))]
 fn take_turn<'a>(parts: &mut Vec<Part<'a>>) -> Option<&'a TypedStmt>
     ensures taken { MatchOption result (next_turn (joined parts.old.items) ≡ [])

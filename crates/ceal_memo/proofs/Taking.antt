@@ -26,7 +26,7 @@ nowhere_in n same = cc
 pub untouched : (s : ℕ) (es : List (ℕ × List ℕ)) → ((n : ℕ) → is_in s (list_at es n) ≡ true → ⊥) → IsWithout s es es
 untouched s es impossible = record { hashes = refl; lists = λ n. sym (without_none s (list_at es n) (out (is_in s (list_at es n)) (impossible n))) }
 
--- one that is in one list alone
+-- one that is in only one list
 pub taken : (s n : ℕ) (old new : List (ℕ × List ℕ)) → hashes_in new ≡ hashes_in old → list_at new n ≡ without s (list_at old n)
     → ((m : ℕ) → m ≢ n → list_at new m ≡ list_at old m) → ((m : ℕ) → is_in s (list_at old m) ≡ true → m ≡ n) → IsWithout s old new
 taken s n old new hashes here others one = record {

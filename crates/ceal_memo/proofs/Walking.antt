@@ -18,7 +18,7 @@ module _ (order stamps : List ℕ) (is : ℕ → Type 0) (after : ℕ) where
   passed_none here = record { here = here; behind = omega arith; others = λ t there so later. later }
 
   module _ (last : ℕ) (passed : Passed order stamps is after last) where
-    -- nothing stands after it
+    -- there is nothing after it
     pub passed_all : NoneAfter order stamps last → (until : ℕ) → NoneOf order stamps is after until
     passed_all none until t there so later =
         let more = passed.others t there so later in
@@ -49,7 +49,7 @@ module _ (order stamps : List ℕ) (is : ℕ → Type 0) (after : ℕ) where
             omega (arith, nearest, apart);
       }
 
-      -- fewer stand after the one that is passed next
+      -- fewer are after the one that is passed next
       pub fewer_left : IsRising order stamps → length order - place next order < length order - place last order
       fewer_left rising =
           let later = first.behind in

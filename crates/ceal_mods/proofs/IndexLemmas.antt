@@ -1,4 +1,4 @@
--- The cells of places and the slots at which they stand.
+-- The cells of places and their slots.
 use Rattle.std.proofs.Common.{◌≡◌, ◌≢◌, ◌<◌, ◌≤◌, ◌+◌, ℕ, suc, zero, cond, inl, inr, ◌⊎◌, true, false, List, [], ◌∷◌, ◌++◌, length, get_or, set, Option, Some, None, refl, sym, ap, subst, ◌∙◌, arith, rules, length-append}
 use Rattle.std.specs.Bool.{Decides}
 use Rattle.std.specs.Map.{lookup}
@@ -19,7 +19,7 @@ same_place p q = elim (cases_Bool (ghosts.eq p q)) [
   | inr differ ↦ inr (differ, λ same. false≢true (sym differ ∙ (place-Decides p q).1 same))
 ]
 
--- the first cell of a place stands at a slot
+-- the first cell of a place is at a slot
 abbrev pub Stands : Place → List (Place × Cell) → ℕ → Type 0
 Stands p [] k = ⊥
 Stands p (e ∷ es) zero = ghosts.eq p e.0 ≡ true

@@ -52,7 +52,7 @@ not-behind order s (x ∷ xs) before = elim (eqb_tells x s) [
   | inr p ↦ rw p.0 (not-behind order s xs before.1)
 ]
 
--- of stamps none of which stands twice
+-- of stamps none of which occurs twice
 pub written-without : (t s : ℕ) (ws : List Write) → ((u : ℕ) → is_in u (without s (stamps_of ws)) ≡ (if s == u then false else is_in u (stamps_of ws)))
     → written_at t (without_one s ws) ≡ (if s == t then None else written_at t ws)
 written-without t s ws once = elim (eqb_tells s t) [
@@ -72,7 +72,7 @@ written-without t s ws once = elim (eqb_tells s t) [
       | inr p ↦ elim (eqb_tells w.stamp t) [ inl r ↦ rw (p.0, r.0) refl | inr r ↦ rw (p.0, r.0) (other different ws) ]
     ]
 
--- writes with the same stamps, none of which stands twice, and the same values
+-- writes with the same stamps, none of which occurs twice, and the same values
 pub values-same : (order : List ℕ) (xs ys : List Write) → IsRising order (stamps_of xs) → stamps_of xs ≡ stamps_of ys → ((s : ℕ) → written_at s xs ≡ written_at s ys) → xs ≡ ys
 values-same order [] [] rises stamps same = refl
 values-same order [] (v ∷ vs) rises stamps same = absurd (cc)

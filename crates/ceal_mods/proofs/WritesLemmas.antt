@@ -15,7 +15,7 @@ stamps-written (s ∷ ss) (v ∷ vs) same = ap (λ (l : List ℕ). s ∷ l) (sta
 
 -- ---- values
 
--- the value after that many, the base after none
+-- the value after this number of writes, the base after none
 abbrev pub value_after : Word → List Word → ℕ → Word
 value_after base vs zero = base
 value_after base [] (suc n) = base

@@ -10,7 +10,7 @@ use Rattle.ceal_norm.specs.Expressions.{variable, expr_code}
 use Rattle.ceal_norm.specs.Units.{Source, Placed, unit_of, args_of, closure_args, call_args, entry_set, jump_code, tree}
 use Rattle.ceal_norm.specs.declared.body.Pending.{Pending}
 
--- what stands where a jump leads to a block
+-- what is where a jump leads to a block
 abbrev pub onward : Source → Placed
 onward s = jump_code s (tree s (length s.graph.blocks))
 
@@ -61,7 +61,7 @@ abbrev pub AllBelow : ℕ → List Pending → Type 0
 AllBelow n [] = Unit {0}
 AllBelow n (p ∷ ps) = (p.block < n) × AllBelow n ps
 
--- the block that is put after a statement, where the path goes on
+-- the block that is put after a statement, where the path continues
 abbrev pub next_pending : Bool → ℕ → List Pending
 next_pending true next = record { block = next; test = None } ∷ []
 next_pending false next = []

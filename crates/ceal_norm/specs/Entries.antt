@@ -46,7 +46,7 @@ count b (c ∷ cs) = if c == b then count b cs + 1 else count b cs
 abbrev pub is_entry : Graph → ℕ → Bool
 is_entry g b = is_in b (firsts g.functions) || is_in b (all_behind g.blocks) || nat_le 2 (count b (all_jumps g.blocks))
 
--- how many entries stand before the block
+-- the number of entries before the block
 unfoldable pub entries_before : Graph → ℕ → ℕ
 entries_before g zero = 0
 entries_before g (suc b) = if is_entry g b then entries_before g b + 1 else entries_before g b

@@ -14,7 +14,7 @@ use Rattle.ceal_code.specs.declared.function.InitStmt.TheViews as init
 abbrev pub variable : ℕ → VarId
 variable n = record { 0 = n }
 
--- an expression of this form; `self` stands in no expression that trace code has
+-- an expression of this form; `self` occurs in no expression that trace code has
 unfoldable mutual
   pub form_code : TypedForm → CodeExpr
   form_code (NumForm n) = Num n

@@ -36,7 +36,7 @@ ClosedLaw = (p : Typed) → IsClosed (graph_of p)
 abbrev pub ForwardLaw : Type 0
 ForwardLaw = (p : Typed) → IsForward (graph_of p)
 
--- every run of a core function comes to the same memory as that of the graph, in as many steps and with as
+-- every run of a core function ends with the same memory as that of the graph, in as many steps and with as
 -- many new blocks
 abbrev pub RunsAs : Code → Typed → Type 0
 RunsAs code p = (f : ℕ) (args : List Word) (inputs : List Block) (fuel : ℕ) → IsCore (slice_get p.functions f)

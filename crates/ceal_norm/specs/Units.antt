@@ -73,7 +73,7 @@ entry_set s (Some (Core name first params kinds)) = set_at s.live first
 entry_set s (Some (Init f)) = []
 entry_set s None = []
 
--- what stands in a body from an index on, where a jump leads to a block
+-- what is in a body from an index on, where a jump leads to a block
 abbrev pub Placed : Type 0
 Placed = ℕ → ℕ → List Cmd
 
@@ -129,7 +129,7 @@ ends_before [] (suc b) = 0
 ends_before (Done ∷ blocks) (suc b) = ends_before blocks b + 1
 ends_before (_ ∷ blocks) (suc b) = ends_before blocks b
 
--- the numbers of the core functions, which alone have blocks
+-- the numbers of the core functions, since only they have blocks
 unfoldable pub core_numbers : ℕ → List GraphFunction → List ℕ
 core_numbers n [] = []
 core_numbers n (Core name first params kinds ∷ fs) = n ∷ core_numbers (n + 1) fs

@@ -34,7 +34,7 @@ struct Writing {
     pending: Vec<Pending>,
 }
 
-/// Puts the block that follows, if the path goes on.
+/// Puts the block that follows, if the path continues.
 fn put_following(pending: &mut Vec<Pending>, on: bool, next: u32) -> Result<(), NoMemory>
     ensures { OnOk result
         (reverse pending.new.items ≡ next_pending on next ++ reverse pending.old.items) }
@@ -69,7 +69,7 @@ fn put_act(plan: &Plan<'_>, out: &mut Writing, s: &TypedStmt, next: u32) -> Resu
     Ok(())
 }
 
-/// Puts both parts of an `if` that stands at an index.
+/// Puts both parts of an `if` that is at an index.
 #[tactic(auto, using(crate::proofs::Equations::BodySteps::push_steps))]
 fn put_parts(pending: &mut Vec<Pending>, at: u32, first: u32, second: u32) -> Result<(), NoMemory>
     ensures { OnOk result
@@ -169,7 +169,7 @@ fn put_tree(plan: &Plan<'_>, out: &mut Writing, b: u32) -> Result<(), NoMemory>
     Ok(())
 }
 
-/// Adds the first command of what stands where a jump leads to a block, and puts what follows it.
+/// Adds the first command of what is where a jump leads to a block, and puts what follows it.
 #[tactic(auto, using(crate::proofs::Equations::BodySteps::jump_steps))]
 fn put_jump(plan: &Plan<'_>, out: &mut Writing, b: u32) -> Result<(), NoMemory>
     requires there { b < length plan.now.graph.blocks }

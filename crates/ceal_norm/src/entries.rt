@@ -15,7 +15,7 @@ use ceal_flow::function::GraphFunction;
 use ceal_flow::graph::Graph;
 use std::alloc::Global;
 
-/// What is looked up of a block: whether it is an entry, and how many entries stand before it.
+/// What is looked up of a block: whether it is an entry, and the number of entries before it.
 #[derive(Clone, Copy)]
 pub struct Entry {
     pub is_entry: bool,
@@ -175,7 +175,7 @@ fn mark_again(once: &mut Vec<bool>, marks: &mut Vec<bool>, b: u32)
     }
 }
 
-/// Marks the numbers that stand twice among these.
+/// Marks the numbers that occur twice among these.
 fn mark_repeated(once: &mut Vec<bool>, marks: &mut Vec<bool>, bs: &[u32])
     requires none { once.old.items ≡ replicate (length marks.old.items) false }
     ensures length { length marks.new.items ≡ length marks.old.items }

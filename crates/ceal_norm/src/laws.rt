@@ -12,8 +12,8 @@ pub fn forward_law()
     ensures law { ForwardLaw }
 {}
 
-/// The code of a program that is well typed and keeps the rules of usage is valid: so nothing in it is out of range, and
-/// no run of it is stuck.
+/// The code of a program that is well typed and keeps the rules of usage is valid: so nothing in it is out of range,
+/// and no run of it is stuck.
 pub fn valid_law()
     ensures law { ValidLaw }
 {}

@@ -1,4 +1,5 @@
-// Numbers of blocks, functions and commands. An overflow is told as `NoMemory`: that many cannot be in memory.
+// Numbers of blocks, functions and commands. An overflow is answered by `NoMemory`: there can be no such number of them
+// in memory.
 
 ghost use Rattle.std.specs.Prelude.{◌≡◌, ◌≤◌, ◌^◌, ◌+◌, if◌then◌else◌, IfOk, IfErr};
 

@@ -96,7 +96,7 @@ above_in prev label x b (y ∷ ys) ahead rising found = elim (eqb_tells y b) [
   | inr p ↦ let later : label y < label b = above_in prev label y b ys rising.1 rising.2 (rw p.0 at found) in omega (arith, ahead.1)
 ]
 
--- labels stand in the order of places
+-- labels are in the order of places
 pub label_place : (prev label : ℕ → ℕ) (xs : List ℕ) (a b : ℕ) → Rising prev label xs → is_in a xs ≡ true → is_in b xs ≡ true
     → (label a < label b → place a xs < place b xs) × (place a xs < place b xs → label a < label b)
 label_place prev label [] a b rising found also = absurd (cc)
@@ -148,7 +148,7 @@ successor_inside next at s n xs few below chained found inside = elim (eqb_tells
   | inr p ↦ successor_is next at s n xs few below chained found ∙ rw p.0 refl
 ]
 
--- what stands after a stamp is none or a stamp
+-- what is after a stamp is none or a stamp
 pub next_where : (next : ℕ → ℕ) (at s : ℕ) (xs : List ℕ) → Chained next at xs → is_in s xs ≡ true → (next s ≡ no_link) ⊎ (is_in (next s) xs ≡ true)
 next_where next at s [] h found = absurd (cc)
 next_where next at s (x ∷ []) h found = elim (eqb_tells x s) [
@@ -163,7 +163,7 @@ next_where next at s (x ∷ y ∷ ys) h found = elim (eqb_tells x s) [
   ]
 ]
 
--- what stands before a stamp that is not the first is a stamp
+-- what is before a stamp that is not the first is a stamp
 pub prev_where : (prev label : ℕ → ℕ) (s x : ℕ) (xs : List ℕ) → Rising prev label (x ∷ xs) → is_in s xs ≡ true → is_in (prev s) (x ∷ xs) ≡ true
 prev_where prev label s x [] rising found = absurd (cc)
 prev_where prev label s x (y ∷ ys) rising found = elim (eqb_tells y s) [

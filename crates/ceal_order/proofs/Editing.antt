@@ -87,7 +87,7 @@ module _ (order : List ℕ) where
     | inr p ↦ before_in s t xs before.1 (rw p.0 at found)
   ]
 
-  -- as many stand before a stamp as the stamps in front of it
+  -- as many are before a stamp as there are stamps in front of it
   pub count_of_member : (s : ℕ) (xs : List ℕ) → IsRising order xs → is_in s xs ≡ true → count_before order s xs ≡ place s xs
   count_of_member s [] rising found = absurd (cc)
   count_of_member s (x ∷ xs) rising found = elim (eqb_tells x s) [

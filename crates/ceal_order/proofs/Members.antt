@@ -1,4 +1,5 @@
--- Which stamps there are among rising ones with one more or one less, and that rising stamps go by their members.
+-- Which stamps there are among rising ones with one more or one less, and that rising stamps are determined by their
+-- members.
 use Rattle.std.proofs.Common.{◌≡◌, ◌==◌, ◌<◌, ◌∙◌, ℕ, suc, zero, inl, inr, true, false, if◌then◌else◌, List, [], ◌∷◌, refl, ap, sym, subst, arith}
 use Rattle.std.proofs.lemmas.Bool.Decides.{eqb_tells}
 use Rattle.std.proofs.lemmas.Bool.{eq-eqb}

@@ -189,7 +189,7 @@ module _ (s n : ℕ) where
     ]
   ]
 
-  -- the new one stands directly after s
+  -- the new one is directly after s
   pub place_new : (xs : List ℕ) → is_in s xs ≡ true → is_in n xs ≡ false → place n (with_after s n xs) ≡ place s (with_after s n xs) + 1
   place_new [] found fresh = absurd (cc)
   place_new (x ∷ xs) found fresh = elim (eqb_tells x n) [

@@ -22,7 +22,7 @@ numbers-at [] i d within = absurd (omega arith)
 numbers-at (s ∷ ss) zero d within = refl
 numbers-at (s ∷ ss) (suc i) d within = numbers-at ss i d (omega arith)
 
--- a stamp that stands at no index in question
+-- a stamp that is at no index in question
 pub blank : Stamp
 blank = record { 0 = 0 }
 
@@ -33,7 +33,7 @@ in_at [] i within = absurd (omega arith)
 in_at (x ∷ xs) zero within = in_head x xs
 in_at (x ∷ xs) (suc i) within = in_tail (get_or xs i 0) x xs (in_at xs i (omega arith))
 
--- a member stands at an index
+-- a member is at an index
 pub record IsAt (t : ℕ) (xs : List ℕ) : Type 0 where
   pub index : ℕ
   pub within : index < length xs
@@ -79,7 +79,7 @@ module _ (order : List ℕ) where
   rising_at (x ∷ xs) zero (suc j) rising less within = before_at x xs j rising.1 (omega arith)
   rising_at (x ∷ xs) (suc i) (suc j) rising less within = rising_at xs i j rising.2 (omega arith) (omega arith)
 
-  -- ---- how many stand before a stamp
+  -- ---- the number of stamps before one
 
   pub count_le : (s : ℕ) (xs : List ℕ) → count_before order s xs ≤ length xs
   count_le s [] = omega arith
@@ -137,7 +137,7 @@ module _ (order : List ℕ) where
       let at = index_of_member t xs found in
       subst (λ (k : ℕ). place k order ≤ place s order) at.is (all at.index at.within)
 
-  -- all at indices below the count stand before
+  -- all at indices below the count are before
   pub front_of_count : (s : ℕ) (xs : List ℕ) (i : ℕ) → IsRising order xs → i < length xs → i < count_before order s xs → place (get_or xs i 0) order < place s order
   front_of_count s xs i rising within less = elim (cases_lt (place (get_or xs i 0) order) (place s order)) [
     | inl before ↦ before
@@ -172,7 +172,7 @@ module _ (order : List ℕ) where
   rising_back [] ys rising = rising
   rising_back (x ∷ xs) ys rising = rising_back xs ys rising.2
 
-  -- where one of those after stands before a stamp, all of those in front do
+  -- where one of those after is before a stamp, all of those in front are
   pub count_all : (s : ℕ) (xs ys : List ℕ) → IsRising order (xs ++ ys) → 0 < count_before order s ys → count_before order s xs ≡ length xs
   count_all s [] ys rising some = refl
   count_all s (x ∷ xs) ys rising some = elim (cases_lt (place x order) (place s order)) [
@@ -224,7 +224,7 @@ module _ (order : List ℕ) where
   pub count_within : (s : ℕ) (ss : List Stamp) → count_before order s (numbers ss) ≤ length ss
   count_within s ss = omega (arith, count_le s (numbers ss), length-numbers ss)
 
-  -- where the one at the count does not stand after, it is the stamp itself
+  -- where the one at the count is not after, it is the stamp itself
   pub parted_at_count : (s : ℕ) (xs : List ℕ) → IsRising order xs → (count_before order s xs < length xs → place s order < place (get_or xs (count_before order s xs) 0) order)
       → IsParted order xs s (count_before order s xs)
   parted_at_count s xs rising behind = record {

@@ -53,7 +53,7 @@ module _ (order : List ℕ) where
   rising_once [] rising = tt
   rising_once (x ∷ xs) rising = (NotIn-before x xs rising.1, rising_once xs rising.2)
 
--- ---- where one stands that stands once
+-- ---- the place of one that occurs once
 
 NotIn-at : (x : ℕ) (xs : List ℕ) (i : ℕ) → NotIn x xs → i < length xs → get_or xs i 0 ≢ x
 NotIn-at x [] i none within = absurd (omega arith)

@@ -91,7 +91,7 @@ pub record Spliced (old new : List Link) (at fresh label : ℕ) : Type 0 where
   pub label_fresh : label_of new fresh ≡ label
   pub label_other : (k : ℕ) → k ≢ fresh → label_of new k ≡ label_of old k
 
--- a link was taken out, and stands before a spare one
+-- a link was taken out, and is before a spare one
 pub record Unlinked (old new : List Link) (at free : ℕ) : Type 0 where
   pub long : length new ≡ length old
   pub next_prev : next_of new (prev_of old at) ≡ next_of old at
@@ -101,7 +101,7 @@ pub record Unlinked (old new : List Link) (at free : ℕ) : Type 0 where
   pub prev_other : (k : ℕ) → k ≢ next_of old at → prev_of new k ≡ prev_of old k
   pub label_other : (k : ℕ) → label_of new k ≡ label_of old k
 
--- that many spare links were added, and the first of them leads to those from free on
+-- `more` spare links were added, and the first of them leads to those from free on
 pub record Grown (old new : List Link) (free first more : ℕ) : Type 0 where
   pub long : length new ≡ length old + more
   pub stamps : (spare : ℕ) → Sound old free spare (stamps_of old) (spares_of old free) → stamps_of new ≡ stamps_of old

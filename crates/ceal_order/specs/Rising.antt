@@ -8,17 +8,17 @@ abbrev pub numbers : List Stamp → List ℕ
 numbers [] = []
 numbers (s ∷ ss) = s.0 ∷ numbers ss
 
--- a stamp stands before each of these
+-- a stamp is before each of these
 abbrev pub IsBeforeAll : List ℕ → ℕ → List ℕ → Type 0
 IsBeforeAll order s [] = Unit {0}
 IsBeforeAll order s (t ∷ ts) = (place s order < place t order) × IsBeforeAll order s ts
 
--- each of these is a stamp of the order, and stands before those that follow it
+-- each of these is a stamp of the order, and is before those that follow it
 abbrev pub IsRising : List ℕ → List ℕ → Type 0
 IsRising order [] = Unit {0}
 IsRising order (s ∷ ss) = (is_in s order ≡ true) × IsBeforeAll order s ss × IsRising order ss
 
--- how many of these stand before a stamp
+-- the number of these before a stamp
 abbrev pub count_before : List ℕ → ℕ → List ℕ → ℕ
 count_before order s [] = 0
 count_before order s (t ∷ ts) =
@@ -30,11 +30,11 @@ pub record IsFirstAfter (order stamps : List ℕ) (s next : ℕ) : Type 0 where
   pub behind : place s order < place next order
   pub nearest : (t : ℕ) → is_in t stamps ≡ true → place s order < place t order → place next order ≤ place t order
 
--- none of these stands after a stamp
+-- none of these is after a stamp
 abbrev pub NoneAfter : List ℕ → List ℕ → ℕ → Type 0
 NoneAfter order stamps s = (t : ℕ) → is_in t stamps ≡ true → place t order ≤ place s order
 
--- the first n of these do not stand after a stamp, and the next one does
+-- the first n of these are not after a stamp, and the next one is
 pub record IsParted (order stamps : List ℕ) (s n : ℕ) : Type 0 where
   pub within : n ≤ length stamps
   pub front : (i : ℕ) → i < n → place (slice_index stamps i) order ≤ place s order

@@ -15,7 +15,7 @@ abbrev pub HighAfter : List Link → ℕ → ℕ → Type 0
 HighAfter links last high = (s : ℕ) → is_in s (stamps_of links) ≡ true
     → place last (stamps_of links) < place s (stamps_of links) → high ≤ label_of links s
 
--- that many links one after another, a link among them
+-- `count` links one after another, a link among them
 pub record IsRun (links : List Link) (at first last count : ℕ) : Type 0 where
   pub here : is_in at (stamps_of links) ≡ true
   pub first_in : is_in first (stamps_of links) ≡ true
@@ -39,7 +39,7 @@ pub record Labelled (old new : List Link) (at label : ℕ) : Type 0 where
   pub changed : label_of new at ≡ label
   pub others : (k : ℕ) → k ≢ at → label_of new k ≡ label_of old k
 
--- that many links from first on have labels from low on, this far apart
+-- `count` links from first on have labels from low on, this far apart
 pub record Spread (old new : List Link) (first count low gap : ℕ) : Type 0 where
   pub same : SameLinks old new
   pub inside : (s j : ℕ) → is_in s (stamps_of old) ≡ true → place s (stamps_of old) ≡ place first (stamps_of old) + j

@@ -16,7 +16,7 @@ abbrev pub NotIn : ℕ → List ℕ → Type 0
 NotIn s [] = Unit {0}
 NotIn s (x ∷ xs) = (s ≢ x) × NotIn s xs
 
--- no number stands twice
+-- no number occurs twice
 abbrev pub Distinct : List ℕ → Type 0
 Distinct [] = Unit {0}
 Distinct (x ∷ xs) = NotIn x xs × Distinct xs
@@ -38,7 +38,7 @@ pub record IsOrder (order : Listing) : Type 0 where
   pub below : AllBelow (length order.stamps + order.spare) order.stamps
   pub few : length order.stamps + order.spare < 2 ^ 32
 
--- how many stand before a stamp; one stamp is before another where its place is the lower one
+-- the number of stamps before one; one stamp is before another where its place is the lower one
 abbrev pub place : ℕ → List ℕ → ℕ
 place s [] = 0
 place s (x ∷ xs) = if x == s then 0 else 1 + place s xs

@@ -20,8 +20,8 @@ struct Opened<T> {
     later: Tree<T>,
 }
 
-/// The tree with one more item at an index, for which a spare fork may be used. Where there is no room for it, the items
-/// are as before.
+/// The tree with one more item at an index, for which a spare fork may be used. Where there is no room for it, the
+/// items are as before.
 pub fn with_item<T: Copy>(
     spares: &mut Vec<Box<Fork<T>>>,
     tree: Tree<T>,
@@ -178,7 +178,8 @@ pub fn front_part<T: Copy>(
     Ok(front)
 }
 
-/// The tree without the item at an index. A chunk that has become empty goes, and one of few items takes in the next one.
+/// The tree without the item at an index. A chunk that has become empty goes, and one of few items takes in the next
+/// one.
 pub fn without_item<T: Copy>(tree: Tree<T>, index: usize) -> Tree<T>
     requires counted { IsCounted tree }
     requires few { length (items_of tree) ≤ 18446744073709551615 }

@@ -41,8 +41,8 @@ fn fresh_label_in(links: &mut [Link], at: u32) -> u64
 }
 
 // A label that is free directly after a link, where there is one: between two links a small share of the room after the
-// first one, since what is put in next mostly comes directly after it. After the last link, and between the first and the
-// second, the room is shared among all links, so that many can follow there.
+// first one, since what is put in next mostly comes directly after it. After the last link, and between the first and
+// the second, the room is shared among all links, so that there is room for many there.
 fn free_label(links: &[Link], at: u32) -> Option<u64>
     requires line { IsLine links.now (stamps_of links.now) }
     requires here { IsTrue (is_in at (stamps_of links.now)) }
@@ -76,8 +76,8 @@ fn free_step(room: u64, shares: u64) -> Option<u64>
     Some((room / shares).min(room - 1).max(1))
 }
 
-// Gives labels again round a link, and a label that is then free directly after it. It is called seldom, and is a function of its own, so that
-// the common way is short.
+// Gives labels again round a link, and a label that is then free directly after it. It is called seldom, and is a
+// separate function, so that the usual path is short.
 #[inline(never)]
 fn relabel(links: &mut [Link], at: u32) -> u64
     requires line { IsLine links.old (stamps_of links.old) }
@@ -101,7 +101,7 @@ fn share_of(room: u64) -> u64
     (room / SHARES).max(1)
 }
 
-// How far apart that many labels may lie in a range of 2^bits.
+// How far apart `count` labels may lie in a range of 2^bits.
 fn gap_in(count: u32, bits: u32) -> u64
     requires some { 0 < count }
     requires fewest { 3 ≤ bits }

@@ -8,11 +8,11 @@
 //! whose labels rise along it, `labels` finds a label for a new link and gives labels again where none is free, and
 //! `run` finds the links that get new labels then.
 //!
-//! What is kept by time is kept in lists of stamps that rise along the order: each stands before those that follow it.
-//! `rising` is such a list, searched by halves; it stands in a `short_list`, which takes no memory for up to two stamps, and
-//! for more a `sequence`, which keeps chunks of them in a balanced `tree`; `chunks` puts items into such a tree and takes them
-//! out, and `search` finds a place in it. `laws` says along which other orders stamps still rise. `room` makes room in lists
-//! that grow.
+//! What is kept by time is kept in lists of stamps that rise along the order: each is before those that follow it.
+//! `rising` is such a list, searched by halves; it is in a `short_list`, which takes no memory for up to two stamps,
+//! and for more a `sequence`, which keeps chunks of them in a balanced `tree`. `chunks` puts items into such a tree and
+//! takes them out, and `search` finds a place in it. `laws` says along which other orders stamps still rise. `room`
+//! makes room in lists that grow.
 #![tactic(auto)]
 
 mod chunks;

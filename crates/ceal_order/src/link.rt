@@ -1,4 +1,4 @@
-// The links that stamps stand for: a doubly linked list in a slice, and its spare links in a list of their own.
+// The links that stamps stand for: a doubly linked list in a slice, and its spare links in a separate list.
 
 ghost use Rattle.std.specs.Prelude.{◌≡◌, ◌≢◌, ◌⊎◌, ◌+◌, ◌^◌, ◌<◌, length, IfOk, OnErr};
 ghost use Rattle.ceal_order.specs.Links.{next_of, prev_of, label_of, no_link, Spliced, Unlinked, Grown};
@@ -64,7 +64,7 @@ fn splice_slice(links: &mut [Link], at: u32, new: u32, label: u64)
     };
 }
 
-// Takes a link out that stands after another, and puts it before a spare one.
+// Takes out a link that is after another, and puts it before a spare one.
 fn unlink_slice(links: &mut [Link], at: u32, free: u32)
     requires at { at < length links.old }
     requires prev { prev_of links.old at < length links.old }
@@ -98,7 +98,7 @@ pub fn splice(links: &mut Vec<Link>, at: u32, new: u32, label: u64)
     splice_slice(links, at, new, label);
 }
 
-/// Takes a link out that stands after another, and puts it before a spare one.
+/// Takes out a link that is after another, and puts it before a spare one.
 pub fn unlink(links: &mut Vec<Link>, at: u32, free: u32)
     requires at { at < length links.old.items }
     requires prev { prev_of links.old.items at < length links.old.items }
@@ -111,7 +111,7 @@ pub fn unlink(links: &mut Vec<Link>, at: u32, free: u32)
     unlink_slice(links, at, free);
 }
 
-/// Adds that many spare links, and gives the first of them, which leads to those that were there from `free` on. Where
+/// Adds `more` spare links, and gives the first of them, which leads to those that were there from `free` on. Where
 /// there is no memory for all of them, none is added.
 pub fn add_spares(links: &mut Vec<Link>, free: u32, more: usize) -> Result<u32, NoMemory>
     requires { length links.old.items + more < 2 ^ 32 }

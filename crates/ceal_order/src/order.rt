@@ -76,8 +76,8 @@ impl Order {
     /// Makes room for `n` insertions without taking memory, and for some more. `NoMemory` also comes when there would
     /// be 2^32 - 1 stamps or more, the spare ones counted.
     ///
-    /// How many more is not told, but for a bound. Were it told, the numbers of the next stamps would follow, since each
-    /// lies below the number of stamps and spare places.
+    /// How many more is not told, but for a bound. Were it told, the numbers of the next stamps would follow, since
+    /// each lies below the number of stamps and spare places.
     pub fn reserve(&mut self, n: u32) -> Result<(), NoMemory>
         ensures stamps { self.new.stamps ≡ self.old.stamps }
         ensures room { OnOk result (n ≤ self.new.spare) }
@@ -134,7 +134,7 @@ impl Order {
         self.spare += 1;
     }
 
-    /// Whether one stamp stands before another.
+    /// Whether one stamp is before another.
     pub fn before(&self, a: Stamp, b: Stamp) -> bool
         requires a_in { IsTrue (is_in a.0 self.now.stamps) }
         requires b_in { IsTrue (is_in b.0 self.now.stamps) }

@@ -53,7 +53,7 @@ impl Rising {
         self.stamps.len() == 0
     }
 
-    /// How many stand before a stamp.
+    /// The number of stamps before one.
     pub fn count_before(&self, order: &Order, stamp: Stamp) -> usize
         requires here { IsTrue (is_in stamp.0 order.now.stamps) }
         requires rising { IsRising order.now.stamps self.now }
@@ -63,7 +63,7 @@ impl Rising {
         searched(order, &self.stamps, stamp)
     }
 
-    /// The nearest one after a stamp, None where none stands after it.
+    /// The nearest one after a stamp, None where there is none.
     pub fn first_after(&self, order: &Order, stamp: Stamp) -> Option<Stamp>
         requires here { IsTrue (is_in stamp.0 order.now.stamps) }
         requires rising { IsRising order.now.stamps self.now }
@@ -75,7 +75,7 @@ impl Rising {
         self.stamps.first_after(order, stamp)
     }
 
-    /// Puts a stamp in that is not there, after those that stand before it, and says how many those are.
+    /// Puts in a stamp that is not there, after those before it, and says how many those are.
     pub fn insert(&mut self, order: &Order, stamp: Stamp) -> Result<usize, NoMemory>
         requires here { IsTrue (is_in stamp.0 order.now.stamps) }
         requires rising { IsRising order.now.stamps self.old }
@@ -92,7 +92,7 @@ impl Rising {
         Ok(at)
     }
 
-    /// Takes a stamp out that is there, and says how many stand before it.
+    /// Takes out a stamp that is there, and says how many are before it.
     pub fn remove(&mut self, order: &Order, stamp: Stamp) -> usize
         requires here { IsTrue (is_in stamp.0 order.now.stamps) }
         requires rising { IsRising order.now.stamps self.old }
@@ -132,7 +132,7 @@ impl Rising {
     }
 }
 
-// How many stand before a stamp, found by halves.
+// The number of stamps before one, found by halves.
 fn searched(order: &Order, stamps: &ShortList<Stamp>, stamp: Stamp) -> usize
     requires here { IsTrue (is_in stamp.0 order.now.stamps) }
     requires rising { IsRising order.now.stamps (numbers stamps.now) }
@@ -142,7 +142,7 @@ fn searched(order: &Order, stamps: &ShortList<Stamp>, stamp: Stamp) -> usize
     stamps.count_before(order, stamp)
 }
 
-// Where a stamp first stands.
+// The first place of a stamp.
 fn index_of(stamps: &ShortList<Stamp>, stamp: Stamp) -> Option<usize>
     ensures some { IfSome result
         (λ at. (at < length stamps.now)

@@ -120,7 +120,7 @@ fn range_start(label: u64, bits: u32) -> u64
     (label >> bits) << bits
 }
 
-// Whether that many links are at most (3/2)^bits, and so leave room in a range of 2^bits labels.
+// Whether `count` links are at most (3/2)^bits, and so leave room in a range of 2^bits labels.
 fn is_sparse(count: u32, bits: u32) -> bool
     requires { bits ≤ 62 }
     ensures { IsTrue result ↔ (count * 2 ^ bits ≤ 3 ^ bits) }

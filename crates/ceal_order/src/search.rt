@@ -10,7 +10,7 @@ use crate::order::Order;
 use crate::stamp::Stamp;
 use crate::tree::{Tree, count};
 
-/// How many stamps of a tree stand before one.
+/// The number of stamps of a tree before one.
 pub fn before_in_tree(order: &Order, tree: &Tree<Stamp>, stamp: Stamp) -> usize
     requires here { IsTrue (is_in stamp.0 order.now.stamps) }
     requires rising { IsRising order.now.stamps (numbers (items_of tree.now)) }
@@ -37,7 +37,7 @@ pub fn before_in_tree(order: &Order, tree: &Tree<Stamp>, stamp: Stamp) -> usize
     }
 }
 
-/// How many stamps of a chunk stand before one, found by halves; at once where all do, or none.
+/// The number of stamps of a chunk before one, found by halves; at once where all are, or none.
 pub fn before_in_chunk(order: &Order, stamps: &[Stamp], stamp: Stamp) -> usize
     requires here { IsTrue (is_in stamp.0 order.now.stamps) }
     requires rising { IsRising order.now.stamps (numbers stamps.now) }

@@ -18,7 +18,7 @@ use std::mem;
 // There are no more items than this.
 const MOST_ITEMS: usize = 4294967295;
 
-/// A list of items. The last ones stand in a chunk of their own, and those before them in chunks in a tree, so that each
+/// A list of items. The last ones are in a separate chunk, and those before them in chunks in a tree, so that each
 /// change takes as many steps as the logarithm of the number of items, wherever it is, and one at the end mostly few.
 ///
 /// Memory is taken by `make_room` and `make_ample_room`, which keep spare forks for the insertions that follow.
@@ -118,8 +118,8 @@ impl<T: Copy> Sequence<T> {
         Ok(())
     }
 
-    /// Takes what memory the next insertion may need, and where there are many items, some for those after it: after a few
-    /// such calls each chunk may be halved once without taking memory.
+    /// Takes what memory the next insertion may need, and where there are many items, some for those after it: after a
+    /// few such calls each chunk may be halved once without taking memory.
     pub fn make_ample_room(&mut self) -> Result<(), NoMemory>
         ensures { self.new ≡ self.old }
     {
@@ -176,7 +176,7 @@ impl<T: Copy> Sequence<T> {
 }
 
 impl Sequence<Stamp> {
-    /// How many stand before a stamp.
+    /// The number of stamps before one.
     pub fn count_before(&self, order: &Order, stamp: Stamp) -> usize
         requires here { IsTrue (is_in stamp.0 order.now.stamps) }
         requires rising { IsRising order.now.stamps (numbers self.now) }
@@ -189,7 +189,7 @@ impl Sequence<Stamp> {
         before_in_tree(order, &self.front, stamp)
     }
 
-    /// The nearest one after a stamp, None where none stands after it.
+    /// The nearest one after a stamp, None where there is none.
     pub fn first_after(&self, order: &Order, stamp: Stamp) -> Option<Stamp>
         requires here { IsTrue (is_in stamp.0 order.now.stamps) }
         requires rising { IsRising order.now.stamps (numbers self.now) }

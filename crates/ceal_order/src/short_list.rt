@@ -12,8 +12,8 @@ use ceal_base::no_memory::NoMemory;
 use std::alloc::Global;
 use std::marker::Model;
 
-/// A list of items, of which there are mostly two at most. Those stand in the list itself and take no memory of their own;
-/// from the third on they stand in a sequence, and stay there.
+/// A list of items, of which there are mostly two at most. Those are in the list itself and take no further memory;
+/// from the third on they are in a sequence, and stay there.
 #[derive(Drop)]
 pub struct ShortList<T> {
     form: Form<T>,
@@ -126,7 +126,7 @@ impl<T: Copy> ShortList<T> {
 }
 
 impl ShortList<Stamp> {
-    /// How many stand before a stamp.
+    /// The number of stamps before one.
     pub fn count_before(&self, order: &Order, stamp: Stamp) -> usize
         requires here { IsTrue (is_in stamp.0 order.now.stamps) }
         requires rising { IsRising order.now.stamps (numbers self.now) }
@@ -141,7 +141,7 @@ impl ShortList<Stamp> {
         }
     }
 
-    /// The nearest one after a stamp, None where none stands after it.
+    /// The nearest one after a stamp, None where there is none.
     pub fn first_after(&self, order: &Order, stamp: Stamp) -> Option<Stamp>
         requires here { IsTrue (is_in stamp.0 order.now.stamps) }
         requires rising { IsRising order.now.stamps (numbers self.now) }
@@ -165,7 +165,7 @@ impl ShortList<Stamp> {
     }
 }
 
-// How many of two stamps stand before another.
+// How many of two stamps are before another.
 fn count_of_two(order: &Order, first: Stamp, second: Stamp, stamp: Stamp) -> usize
     requires here { IsTrue (is_in stamp.0 order.now.stamps) }
     requires rising { IsRising order.now.stamps (first.0 ∷ second.0 ∷ []) }
@@ -178,7 +178,7 @@ fn count_of_two(order: &Order, first: Stamp, second: Stamp, stamp: Stamp) -> usi
     usize::from(order.before(first, stamp))
 }
 
-// The first one of two stamps that stands after another.
+// The first of two stamps that is after another.
 fn first_of_two(order: &Order, first: Stamp, second: Stamp, stamp: Stamp) -> Option<Stamp>
     requires here { IsTrue (is_in stamp.0 order.now.stamps) }
     requires rising { IsRising order.now.stamps (first.0 ∷ second.0 ∷ []) }

@@ -1,8 +1,8 @@
-// Items in a tree of chunks, from left to right. Each fork has a chunk of items and counts the items of itself and of its
-// trees, so that an item is found by its index on one way down. The two trees under a fork differ by one in height at
-// most, so that the tree is about as deep as the logarithm of the number of its chunks, wherever items came and went
-// (Adelson-Velsky and Landis, 1962). Trees are joined round a fork (Blelloch, Ferizovic and Sun, *Just join for parallel
-// ordered sets*, 2016). No contract speaks of heights.
+// Items in a tree of chunks, from left to right. Each fork has a chunk of items and counts the items of itself and of
+// its trees, so that an item is found by its index on one way down. The two trees under a fork differ by one in height
+// at most, so that the tree is about as deep as the logarithm of the number of its chunks, wherever items came and went
+// (Adelson-Velsky and Landis, 1962). Trees are joined round a fork (Blelloch, Ferizovic and Sun, *Just join for
+// parallel ordered sets*, 2016). No contract speaks of heights.
 
 ghost use Rattle.std.specs.Prelude.{◌≡◌, ◌<◌, ◌≤◌, ◌+◌, ◌++◌, min, [], length, slice_index_or, IfOk};
 ghost use Rattle.ceal_order.specs.Tree.{items_of, items_under, IsCounted, Counts};
@@ -14,7 +14,7 @@ use std::mem;
 // A chunk has no more items than this in a tree.
 pub const CHUNK_ITEMS: usize = 64;
 
-// A full chunk keeps that many where it is halved.
+// A full chunk keeps this number of items where it is halved.
 pub const HALF_CHUNK: usize = 32;
 
 #[cycle(tree)]
@@ -34,7 +34,7 @@ pub struct Fork<T> {
     pub later: Tree<T>,
 }
 
-// How many forks stand one under another, at most.
+// The largest number of forks one under another.
 fn height<T: Copy>(tree: &Tree<T>) -> u8 {
     match tree {
         Tree::Empty => 0,
@@ -93,7 +93,7 @@ pub fn leaf<T: Copy>(alloc: Global) -> Result<Box<Fork<T>>, NoMemory>
     )?)
 }
 
-/// A fork over these two trees, in place of its own, with its height and its count.
+/// A fork over these two trees, in place of its former ones, with its height and its count.
 pub fn forked<T: Copy>(earlier: Tree<T>, mut fork: Box<Fork<T>>, later: Tree<T>) -> Box<Fork<T>>
     requires earlier { IsCounted earlier }
     requires later { IsCounted later }
@@ -111,7 +111,7 @@ pub fn forked<T: Copy>(earlier: Tree<T>, mut fork: Box<Fork<T>>, later: Tree<T>)
     fork
 }
 
-// Two forks, the second of which was the earlier tree of the first: it comes to stand over the first.
+// Rotates right: the left child becomes the parent.
 fn earlier_on_top<T: Copy>(
     mut fork: Box<Fork<T>>,
     mut top: Box<Fork<T>>,
@@ -128,7 +128,7 @@ fn earlier_on_top<T: Copy>(
     forked(first, top, Tree::Fork(forked(between, fork, last)))
 }
 
-// Two forks, the second of which was the later tree of the first: it comes to stand over the first.
+// Rotates left: the right child becomes the parent.
 fn later_on_top<T: Copy>(
     first: Tree<T>,
     mut fork: Box<Fork<T>>,
@@ -177,7 +177,8 @@ fn leaning_earlier<T: Copy>(mut fork: Box<Fork<T>>) -> Box<Fork<T>>
     }
 }
 
-// A fork over two trees, of which the later one may be higher by two than the earlier one: they are brought to differ by one at most.
+// A fork over two trees, of which the later one may be higher by two than the earlier one: they are brought to differ
+// by one at most.
 fn with_later<T: Copy>(earlier: Tree<T>, fork: Box<Fork<T>>, later: Tree<T>) -> Box<Fork<T>>
     requires earlier { IsCounted earlier }
     requires later { IsCounted later }

@@ -68,7 +68,7 @@ name_fits f s (Sign x) z h g = never z h
 name_fits f s End z h g = never z h
 name_fits f s Cut z h g = never z h
 
--- Bodies: a reading within one goes on within it, or after it.
+-- Bodies: a reading within one continues within it, or after it.
 module _ (i : Inside) (z : State) where
   placed_fits : (o : Option Mode) → placed i o ≡ Some z → Fits z
   placed_fits None h = never z h
@@ -284,7 +284,7 @@ module _ (es : List Entry) (z : State) where
   struct_fits (Structs.Sized l m n) s k h i f = at_wanted _ (Struct es (Structs.Ends l (record { form = row_form m.form n; name = m.name }))) z h f.1
   struct_fits (Structs.Closed d) s k h i f = at_wanted _ _ z h tt
 
-  -- Heads of functions, and what stands between entries.
+  -- Heads of functions, and what is between entries.
   head_begun : (f : TypePart → HeadPlace) (o : Option TypePart) → begun_type (λ p. InHead es (f p)) o ≡ Some z → Fits z
   head_begun f o h = begun_fits (λ p. InHead es (f p)) o z h (λ p e. tt)
 

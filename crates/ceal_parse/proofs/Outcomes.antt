@@ -73,7 +73,7 @@ module _ (s : State) (ts : List Token) (i : ℕ) (t : Token) (lt : i < length ts
   pub loop_on : (next : State) → advanced s (get_or ts i t) (step s (get_or ts i t)) ≡ Ok next → judged next (drop (i + 1) ts) ≡ J
   loop_on next h = sym (judged_on s (get_or ts i t) (drop (i + 1) ts) next h) ∙ front
 
--- A state that a reading comes to keeps the limits.
+-- A state that a reading reaches keeps the limits.
 abbrev Kept : State → Type 0
 Kept s = (nesting_of s ≤ 64) × (operators_of s ≤ 255) × Fits s
 

@@ -33,16 +33,16 @@ abbrev pub is_name : TokenKind → Bool
 is_name (Name x) = true
 is_name _ = false
 
--- A token at this place. The limits look at the place of a token alone.
+-- A token at this place. The limits look only at the place of a token.
 abbrev pub cut_at : Span → Token
 cut_at s = record { kind = Cut; span = s }
 
--- Where the reading stands after the sign c, at which the whole expression w has ended with the operand at p.
+-- The state of the reading after the sign c, at which the whole expression w has ended with the operand at p.
 abbrev pub ended : Inside → Whole → Place → Sign → Option State
 ended i w (Have p) c = received i w.nesting w.receiver p.expr c
 ended i w _ c = None
 
--- Where the reading stands after a token within a whole expression.
+-- The state of the reading after a token within a whole expression.
 abbrev pub part_state : Inside → Whole → Place → Part → Option State
 part_state i w p Parts.Refused = None
 part_state i w p Parts.On = Some (within i w p)
@@ -112,7 +112,7 @@ abbrev pub is_inside : State → Bool
 is_inside (In i m) = true
 is_inside _ = false
 
--- Where the reading stands after a token within a body.
+-- The state of the reading after a token within a body.
 abbrev pub turn_state : Inside → Mode → Turn → Option State
 turn_state i m Turns.Refused = None
 turn_state i m Turns.On = Some (In i m)
@@ -123,8 +123,8 @@ abbrev pub fields_with : ℕ → TypePart → ℕ
 fields_with c (Done form) = widened c form
 fields_with c _ = suc c
 
--- The members of a struct are 255 fields at most, with the one at which the reading stands, and a length stands after
--- a modifiable. A reading within the limits comes to no other state.
+-- The members of a struct are 255 fields at most, with the one at which the reading is, and a length is after
+-- a modifiable. A reading within the limits reaches no other state.
 abbrev pub PlaceFits : StructPlace → Type 0
 PlaceFits (Structs.Typing l p) = fields_with l.count p ≤ 255
 PlaceFits (Structs.Ends l m) = widened l.count m.form ≤ 255
@@ -132,7 +132,7 @@ PlaceFits (Structs.Length l m) = is_cell m.form ≡ true
 PlaceFits (Structs.Sized l m n) = (n ≤ 255) × (widened l.count (row_form m.form n) ≤ 255)
 PlaceFits _ = Unit {0}
 
--- the members of the struct at which the reading stands keep the limit
+-- the members of the struct at which the reading is keep the limit
 abbrev pub Fits : State → Type 0
 Fits (Struct es p) = PlaceFits p
 Fits _ = Unit {0}

@@ -177,7 +177,7 @@ pub fn take_opens(
     }
 }
 
-/// The `if` whose first block was read, taken out of where it stands.
+/// The `if` whose first block was read, taken out of its place.
 pub fn take_branch(alloc: Global, span: Span, test: &mut Expr, first: &mut Stmts) -> Chained
     ensures value { result ≡ record { span = span; test = test.old; first = first.old } }
 {

@@ -1,4 +1,5 @@
-// Bodies of functions. A `take_..` takes one token: it moves the reading, or answers that no program goes on so.
+// Bodies of functions. A `take_..` takes one token: it moves the reading, or answers that no program continues this
+// way.
 
 ghost use Rattle.std.specs.Prelude.{◌≡◌, ◌<◌, ◌≤◌, Some, true, IfOk};
 ghost use Rattle.ceal_grammar.specs.Machine.{placed, begun, moved, mode_nesting, operators_in};
@@ -23,7 +24,7 @@ use ceal_lex::token::Token;
 use std::alloc::Global;
 use std::mem;
 
-/// The reading goes on at this place of the body, if there is one.
+/// The reading continues at this place of the body, if there is one.
 fn go_on(mode: &mut Mode, next: Option<Mode>) -> Turn
     ensures value { (i : Inside) → turn_state i mode.new result ≡ placed i next }
 {
@@ -184,7 +185,7 @@ fn take_begun(
 
 /// A token within a statement of which parts were read, and within no whole expression. What was read is taken out of
 /// the place, each part for itself, and a little function has few places to clear: most tokens end a statement or begin
-/// what stands in parentheses, so they come first.
+/// what is in parentheses, so they come first.
 #[inline(never)]
 fn take_part(
     alloc: Global,

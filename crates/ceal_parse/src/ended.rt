@@ -1,4 +1,4 @@
-// The end of a whole expression: what was read for it goes on after the sign that ends it.
+// The end of a whole expression: what was read for it continues after the sign that ends it.
 
 ghost use Rattle.std.specs.Prelude.{◌≡◌, ◌∷◌, ◌++◌, ◌<◌, [], true, IfOk};
 ghost use Rattle.ceal_grammar.specs.Machine.{same_sign as same_signs, wants, placed, given, begun, ends_at, at_argument, received};
@@ -18,7 +18,7 @@ use ceal_lex::token::Sign;
 use std::alloc::Global;
 use std::mem;
 
-/// The sign is this one, and the reading goes on at the place.
+/// The sign is this one, and the reading continues at the place.
 fn wanted(mode: &mut Mode, found: Sign, sign: Sign, next: Mode) -> Turn
     ensures value { (i : Inside) → turn_state i mode.new result
         ≡ placed i (wants (same_signs found sign) next) }
@@ -221,7 +221,7 @@ fn receive_first(
     }
 }
 
-/// Where the reading stands after a whole expression, at the sign after it.
+/// The state of the reading after a whole expression, at the sign after it.
 fn receive(
     alloc: Global,
     inside: &mut Inside,

@@ -1,5 +1,5 @@
 // Whole expressions. A `take_..` takes one token: it moves the place within the expression, or answers that no program
-// goes on so.
+// continues this way.
 
 ghost use Rattle.std.specs.Prelude.{◌≡◌, ◌∷◌, ◌<◌, ◌^◌, Some, None, false, true, IsTrue, IfOk, IfSome, MatchOption, if◌then◌else◌};
 ghost use Rattle.ceal_grammar.specs.Machine.{element_of, begun, reduced, same_sign as same_signs, wants, within, operator_of, closes, at_operand, at_sign_after, at_index, at_after, at_element, at_place, placed};
@@ -83,7 +83,7 @@ fn close(
     }
 }
 
-/// A sign, and where it stands.
+/// A sign, and its place.
 #[derive(Clone, Copy)]
 struct SignAt {
     at: Span,
@@ -121,7 +121,7 @@ fn take_sign(
     }
 }
 
-/// Where the `&` stands that waits for the operand at once, taken off the stack. Another frame is let go.
+/// The place of the `&` that waits for the operand at once, taken off the stack. Another frame is let go.
 fn take_address(frames: &mut Stack<Frame>) -> Option<Span>
     ensures value { MatchOption result ((p : PieceOf) (i : Inside) (w : Whole)
         → at_index i w p frames.old ≡ None)
@@ -136,7 +136,7 @@ fn take_address(frames: &mut Stack<Frame>) -> Option<Span>
     at
 }
 
-/// The `[` of an index, which stands only after the operand of an `&`.
+/// The `[` of an index, which is only after the operand of an `&`.
 fn take_index(whole: &mut Whole, place: &mut Place, piece: Piece) -> Result<Part, NoMemory>
     requires shallow { whole.old.nesting < 2 ^ 31 }
     requires few { whole.old.operators < 2 ^ 31 }
@@ -220,14 +220,14 @@ fn take_after(
     }
 }
 
-/// The expression goes on, or no program goes on so.
+/// The expression continues, or no program continues this way.
 fn going(on: bool) -> Part
     ensures value { result ≡ (if on then Part.On else Part.Refused) }
 {
     if on { Part::On } else { Part::Refused }
 }
 
-/// Whether the sign is one that no expression goes on with, where nothing waits in it.
+/// Whether the sign is one with which no expression continues, where nothing waits in it.
 #[tactic(auto, unfolding(ceal_grammar::specs::Machine::same_sign))]
 fn is_last(sign: Sign) -> bool
     ensures arrow { IsTrue result → same_signs sign Sign.Arrow ≡ false }

@@ -1,5 +1,5 @@
-// Heads of functions. A `take_..` takes one token: it moves the place within the head, or answers that no program goes on
-// so.
+// Heads of functions. A `take_..` takes one token: it moves the place within the head, or answers that no program
+// continues this way.
 
 ghost use Rattle.std.specs.Prelude.{◌≡◌, List, false, true, IfOk};
 ghost use Rattle.ceal_base.specs.declared.syntax.Entry.{Entry as EntryOf};
@@ -19,7 +19,7 @@ use ceal_lex::token::{Reserved, Sign, Token};
 use std::alloc::Global;
 use std::mem;
 
-/// The head of no function, which stands where one was taken away.
+/// The head of no function, which is left where one was taken away.
 pub(crate) fn no_head(alloc: Global, at: Span) -> Head {
     Head {
         initialiser: None,
@@ -28,7 +28,7 @@ pub(crate) fn no_head(alloc: Global, at: Span) -> Head {
     }
 }
 
-/// The head goes on at this place.
+/// The head continues at this place.
 fn stand(place: &mut HeadPlace, next: HeadPlace) -> bool
     ensures place { place.new ≡ next }
     ensures on { result ≡ true }

@@ -43,10 +43,10 @@ fn read(alloc: Global, tokens: &mut [Token]) -> Result<Tree, FrontError>
     }
 }
 
-/// The tree of a program's tokens, whose last is `End` or `Cut`, or the first of the faults S3 to S6. S3 stands at a
-/// token with which no program goes on, S4 where the nesting becomes 65, S5 at `End` where no program ends there and at
-/// `Cut`, S6 at the item 256 of a list, at the length of a row with which a struct has more than 255 fields, and at the
-/// operator 256 of a whole expression. The span is that of the token.
+/// The tree of a program's tokens, whose last is `End` or `Cut`, or the first of the faults S3 to S6. S3 is at a token
+/// with which no program continues, S4 where the nesting becomes 65, S5 at `End` where no program ends there and at
+/// `Cut`. S6 is at the item 256 of a list, at the length of a row with which a struct has more than 255 fields, and at
+/// the operator 256 of a whole expression. The span is that of the token.
 ///
 /// The time is linear in the tokens. The stack does not grow with their number: an expression's operators take their
 /// operands one in another, so 255 calls deep at most, and a statement ends at most 64 `if`s. A tree is dropped and

@@ -21,7 +21,7 @@ use ceal_lex::token::{Reserved, Token, TokenKind};
 use std::alloc::Global;
 use std::mem;
 
-/// The reading goes on at this state.
+/// The reading continues at this state.
 fn stand(state: &mut State, next: State) -> bool
     ensures state { state.new ≡ next }
     ensures on { result ≡ true }
@@ -59,7 +59,7 @@ fn take_top(state: &mut State, entries: Items<Entry>, token: &Token) -> bool
     }
 }
 
-/// The fault at a token with which no program goes on.
+/// The fault at a token with which no program continues.
 fn code(token: &Token) -> FaultCode
     ensures value { result ≡ code_at token.now.kind }
 {
@@ -76,7 +76,7 @@ fn fault(code: FaultCode, at: Span) -> FrontError
     FrontError::Fault(Fault { code, span: at })
 }
 
-/// The reading stands after these entries.
+/// The reading is after these entries.
 #[inline(never)]
 fn stand_after(state: &mut State, entries: Items<Entry>)
     ensures value { state.new ≡ State.Top entries }
@@ -84,7 +84,7 @@ fn stand_after(state: &mut State, entries: Items<Entry>)
     *state = State::Top(entries);
 }
 
-/// A program that is being read, token by token. After an error nothing is said of where the reading stands.
+/// A program that is being read, token by token. After an error nothing is said of the state of the reading.
 #[derive(Drop)]
 pub struct Parser {
     alloc: Global,
@@ -102,7 +102,7 @@ impl Parser {
         }
     }
 
-    /// A token within no body: whether a program goes on so.
+    /// A token within no body: whether a program continues this way.
     #[inline(never)]
     fn step_outside(&mut self, token: &mut Token) -> Result<bool, NoMemory>
         requires outside { is_inside self.old.state ≡ false }
@@ -148,7 +148,7 @@ impl Parser {
         }
     }
 
-    /// Takes a token: whether a program goes on so.
+    /// Takes a token: whether a program continues this way.
     fn step(&mut self, token: &mut Token) -> Result<bool, NoMemory>
         requires shallow { nesting_of self.old.state ≤ 64 }
         requires few { operators_of self.old.state ≤ 255 }

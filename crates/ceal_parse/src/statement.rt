@@ -1,5 +1,5 @@
-// Statements. A `take_..` takes one token, and answers where the reading stands after it, or None where no program
-// goes on so.
+// Statements. A `take_..` takes one token, and answers where the reading is after it, or None where no program
+// continues this way.
 
 ghost use Rattle.std.specs.Prelude.{◌≡◌, ◌∷◌, ◌<◌, ◌^◌, [], IfOk};
 ghost use Rattle.ceal_base.specs.declared.syntax.Stmt.TheViews.{If};
@@ -247,7 +247,7 @@ pub fn take_path(path: Expr, arrows: u32, token: &mut Token) -> Option<Mode>
     }
 }
 
-/// A field that a path has come to: what stands before its arrow, its name, and the arrows so far.
+/// A field that a path has reached: what is before its arrow, its name, and the arrows so far.
 #[derive(Drop)]
 pub struct Reached {
     pub path: Expr,

@@ -1,4 +1,5 @@
-// Structs. A `take_..` takes one token: it moves the place within the struct, or answers that no program goes on so.
+// Structs. A `take_..` takes one token: it moves the place within the struct, or answers that no program continues this
+// way.
 
 ghost use Rattle.std.specs.Prelude.{◌≡◌, ◌≤◌, List, false, true, IfOk};
 ghost use Rattle.ceal_base.specs.declared.syntax.Entry.{Entry as EntryOf};
@@ -18,7 +19,7 @@ use ceal_lex::token::{Sign, Token};
 use std::alloc::Global;
 use std::mem;
 
-/// The struct goes on at this place.
+/// The struct continues at this place.
 fn stand(place: &mut StructPlace, next: StructPlace) -> bool
     ensures place { place.new ≡ next }
     ensures on { result ≡ true }
@@ -197,7 +198,7 @@ fn take_sized(
     }
 }
 
-/// The struct of no program, which stands where one was taken away.
+/// The struct of no program, which is left where one was taken away.
 fn no_struct(alloc: Global, at: Span) -> StructDecl {
     StructDecl {
         name: no_name(alloc, at),

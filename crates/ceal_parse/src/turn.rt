@@ -15,22 +15,22 @@ use std::mem;
 /// A token within a whole expression.
 #[derive(Clone, Copy)]
 pub enum Part {
-    /// no program goes on so
+    /// no program continues this way
     Refused,
-    /// the expression goes on
+    /// the expression continues
     On,
-    /// the expression has ended with the operand that was read, and this sign stands after it
+    /// the expression has ended with the operand that was read, and this sign is after it
     Ended(Sign),
 }
 
 /// A token within a body.
 #[derive(Clone, Copy)]
 pub enum Turn {
-    /// no program goes on so
+    /// no program continues this way
     Refused,
-    /// the body goes on
+    /// the body continues
     On,
-    /// the function has ended, and stands after the entries before it
+    /// the function has ended, and is after the entries before it
     Closed,
 }
 
@@ -55,7 +55,7 @@ pub fn leave(mode: &mut Mode)
     mem::forget(mem::replace(mode, Mode::Body));
 }
 
-/// Puts the next place where the beginning of a statement stands, which holds nothing. Only the drop of another place
+/// Puts the next place in place of the beginning of a statement, which holds nothing. Only the drop of another place
 /// goes through all that a place can hold.
 pub fn settle(mode: &mut Mode, next: Mode)
     ensures value { mode.new ≡ next }
@@ -69,7 +69,7 @@ pub fn settle(mode: &mut Mode, next: Mode)
     }
 }
 
-/// No name, which stands where one was taken away.
+/// No name, which is left where one was taken away.
 pub fn no_name(alloc: Global, at: Span) -> Ident {
     Ident {
         text: Text::empty(alloc),
@@ -77,7 +77,7 @@ pub fn no_name(alloc: Global, at: Span) -> Ident {
     }
 }
 
-/// An expression that holds nothing, which stands where another was taken away.
+/// An expression that holds nothing, which is left where another was taken away.
 pub(crate) fn no_expr(at: Span) -> Expr {
     Expr {
         span: at,
@@ -85,7 +85,7 @@ pub(crate) fn no_expr(at: Span) -> Expr {
     }
 }
 
-/// The body goes on at this place.
+/// The body continues at this place.
 pub fn stand(mode: &mut Mode, next: Mode) -> Turn
     ensures place { mode.new ≡ next }
     ensures on { result ≡ Turn.On }
@@ -94,7 +94,7 @@ pub fn stand(mode: &mut Mode, next: Mode) -> Turn
     Turn::On
 }
 
-/// The body goes on at the beginning of a statement.
+/// The body continues at the beginning of a statement.
 pub fn begin_statement(mode: &mut Mode) -> Turn
     ensures place { mode.new ≡ Mode.Body }
     ensures on { result ≡ Turn.On }
@@ -103,7 +103,7 @@ pub fn begin_statement(mode: &mut Mode) -> Turn
     Turn::On
 }
 
-/// The body goes on, or no program goes on so.
+/// The body continues, or no program continues this way.
 pub fn going(on: bool) -> Turn
     ensures value { result ≡ (if on then Turn.On else Turn.Refused) }
 {

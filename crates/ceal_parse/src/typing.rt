@@ -114,7 +114,7 @@ fn take_mod_struct(token: &mut Token) -> Option<Typing>
     }
 }
 
-/// What one more token makes of a type. `cells`: a modifiable within a struct may stand here.
+/// What one more token makes of a type. `cells`: a modifiable within a struct may be here.
 pub fn take_type(cells: bool, part: TypePart, token: &mut Token) -> Option<Typing>
     ensures value { result ≡ at_type cells part token.old.span token.old.kind }
 {

@@ -1,4 +1,4 @@
--- The texts of tokens: where none goes on into the white space after it.
+-- The texts of tokens: where none continues into the white space after it.
 use Rattle.std.proofs.Common.{◌≡◌, ◌≢◌, ◌⊎◌, ℕ, zero, suc, ℤ, pos, ◌+◌, ◌-◌, ◌*◌, ◌≤◌, ◌<◌, ◌^◌, true, false, List, [], ◌∷◌, ◌++◌, length, get_or, refl, ap, sym, ◌∙◌, subst, arith, rules, inl, inr}
 use Rattle.std.specs.Prelude.{IsTrue}
 use Rattle.std.specs.Int.{IsInRange}
@@ -213,7 +213,7 @@ slash_alone b bytes (inl h) = false≢true h.0
 slash_alone b bytes (inr (inl h)) = false≢true h.0
 slash_alone b bytes (inr (inr (s, e))) = slash_sign b bytes s e
 
--- A token may stand before white space.
+-- A token may be before white space.
 module _ (b : ℕ) (more : List ℕ) (blank : is_space b ≡ true) where
   longest : (text : List ℕ) → IsLongest text (b ∷ more)
   longest text x y e lexeme = elim (cases_lt (length text) (length x)) [

@@ -1,4 +1,4 @@
--- Each expression is printed as a derivation of its own, with no more parentheses than it had.
+-- Each expression is printed as its own derivation, with no more parentheses than it had.
 use Rattle.std.proofs.Common.{◌≡◌, ℕ, suc, ◌+◌, ◌≤◌, ◌<◌, max, List, [], ◌∷◌, ◌++◌, refl, ap, ap₂, sym, ◌∙◌, arith, inl, inr, append_assoc}
 use Rattle.std.proofs.lemmas.Bool.Decides.{leb_tells}
 use Rattle.ceal_base.specs.declared.fault.Span.{Span}
@@ -25,11 +25,11 @@ unfoldable pub spanned : (List TokenKind → Span) → List TokenKind → List T
 spanned σ [] = []
 spanned σ (k ∷ ks) = word k (σ (k ∷ ks)) ∷ spanned σ ks
 
--- a name that stands before tokens of these kinds
+-- a name that is before tokens of these kinds
 abbrev pub placed : (List TokenKind → Span) → Ident → List TokenKind → Ident
 placed σ x ks = record { text = x.text; span = σ (Name x.text ∷ ks) }
 
--- Wherever it stands, a has no more tokens than b, and no larger counts.
+-- Wherever it is, a has no more tokens than b, and no larger counts.
 abbrev pub Lighter : Phrase → Phrase → Type 0
 Lighter a b =
     (c d e i j n m : ℕ) (ms ns : List Mark) → d ≤ e → i ≤ max j c → n ≤ m → Thinner 0 ms ns

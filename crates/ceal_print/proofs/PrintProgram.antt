@@ -1,4 +1,4 @@
--- Each program is printed as a derivation of its own, with the same tree apart from spans.
+-- Each program is printed as its own derivation, with the same tree apart from spans.
 use Rattle.std.proofs.Common.{◌≡◌, ℕ, suc, pos, false, Some, None, List, [], ◌∷◌, ◌++◌, refl, ap, sym, ◌∙◌, append_assoc}
 use Rattle.ceal_base.specs.declared.fault.Span.{Span}
 use Rattle.ceal_base.specs.declared.syntax.Entry.TheVariants.{Struct, Function}

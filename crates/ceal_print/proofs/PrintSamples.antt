@@ -56,7 +56,7 @@ lengths : texts (member_kinds members) ≡ codes "mod int x [ " ++ (signed_decim
 unfolding texts member_kinds field_kinds
 lengths = refl
 
--- an else part of one `if` alone, and one that is empty
+-- an else part of a single `if`, and one that is empty
 abbrev inner : Stmt
 inner = If t (x s) (Return s ∷ []) []
 

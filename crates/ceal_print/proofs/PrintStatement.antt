@@ -1,4 +1,4 @@
--- Each statement is printed as a derivation of its own, with no more braces than it had.
+-- Each statement is printed as its own derivation, with no more braces than it had.
 use Rattle.std.proofs.Common.{◌≡◌, ℕ, suc, ◌≤◌, Bool, true, false, List, [], ◌∷◌, ◌++◌, refl, ap, sym, ◌∙◌, subst, arith, inl, inr, append_assoc}
 use Rattle.std.proofs.lemmas.Bool.{cases_Bool, false≢true}
 use Rattle.ceal_base.specs.declared.fault.Span.{Span}
@@ -114,7 +114,7 @@ pub record PrintedStatements (σ : List TokenKind → Span) (old : Statements) (
   pub bare : bare_stmts (statement_trees made) ≡ bare_stmts (statement_trees old)
   pub thinner : (d : ℕ) (ms ns : List Mark) → Thinner 0 ms ns → Thinner 0 (spelled_statements d made ms) (spelled_statements d old ns)
 
--- An else part of one `if` alone.
+-- An else part of a single `if`.
 chain_bare : (ss : List Stmt) → is_chain (bare_stmts ss) ≡ is_chain ss
 unfolding bare_stmt bare_stmts
 chain_bare [] = refl

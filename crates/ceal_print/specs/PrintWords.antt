@@ -70,7 +70,7 @@ form_level (Field' _ a x) = 8
 form_level (Address' _ a) = 7
 form_level (Pick' _ a _ b) = 7
 
--- An operand of level m stands in parentheses where level l at least is asked.
+-- An operand of level m is in parentheses where at least level l is asked.
 abbrev pub raised : ℕ → ℕ → List TokenKind → List TokenKind
 raised l m ks = if nat_le l m then ks else Sign Signs.LeftParenthesis ∷ ks ++ Sign Signs.RightParenthesis ∷ []
 
@@ -159,7 +159,7 @@ is_branch (Return s) = false
 is_branch (Break s) = false
 is_branch (Continue s) = false
 
--- whether an `else` part, as a row, is one `if` alone
+-- whether an `else` part, as a row, is a single `if`
 abbrev pub is_alone : {n : _} → Stmt → Row_of-Stmt n → Bool
 is_alone s end_of-Stmt = is_branch s
 is_alone s (more_of-Stmt t rest) = false
@@ -168,7 +168,7 @@ is_alone s (more_of-Stmt t rest) = false
 abbrev pub braced : List TokenKind → List TokenKind
 braced ks = Sign Signs.LeftBrace ∷ ks ++ Sign Signs.RightBrace ∷ []
 
--- An else part of one `if` alone stands without braces.
+-- An else part of a single `if` has no braces.
 abbrev pub after_else : Bool → List TokenKind → List TokenKind
 after_else alone ks = Reserved Words.Else ∷ (if alone then ks else braced ks)
 
@@ -211,7 +211,7 @@ unfoldable pub stmts_kinds : List Stmt → List TokenKind
 stmts_kinds [] = []
 stmts_kinds (s ∷ ss) = stmt_kinds s ++ stmts_kinds ss
 
--- whether an `else` part is one `if` alone
+-- whether an `else` part is a single `if`
 abbrev pub is_chain : List Stmt → Bool
 is_chain [] = false
 is_chain (s ∷ []) = is_branch s
@@ -241,7 +241,7 @@ unfoldable pub member_kinds : List FieldDecl → List TokenKind
 member_kinds [] = []
 member_kinds (f ∷ fs) = field_kinds f ++ size_kinds f.form ++ Sign Signs.Semicolon ∷ member_kinds fs
 
--- the word before the name of a function, and what stands between its parentheses
+-- the word before the name of a function, and what is between its parentheses
 abbrev pub head_kinds : Option Ident → Ident → List FieldDecl → List TokenKind
 head_kinds None x fs = Reserved Words.Ceal ∷ Name x.text ∷ Sign Signs.LeftParenthesis ∷ parameter_kinds fs
 head_kinds (Some y) x fs =

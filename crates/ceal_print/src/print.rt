@@ -18,8 +18,8 @@ fn tree_text(alloc: Global, tree: &Tree) -> Result<Text, NoMemory>
     Ok(out)
 }
 
-/// A text of the tree: the tokens stand one after the other with a space or a line feed after each, a statement, a
-/// field or a brace ends a line, and parentheses stand only where the levels of the operators ask for them. An else
+/// A text of the tree: the tokens follow one another with a space or a line feed after each, a statement, a
+/// field or a brace ends a line, and there are parentheses only where the levels of the operators ask for them. An else
 /// part of one `if` is printed as `else if`. The recursion is as deep as the nesting of the text and the operators of
 /// one expression, so at most 64 statements and 256 expressions deep.
 #[tactic(auto, using(crate::proofs::PrintBack::reads_back))]

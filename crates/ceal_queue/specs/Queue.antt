@@ -24,12 +24,12 @@ pub record IsWithout (s : ℕ) (old new : List ℕ) : Type 0 where
   pub gone : is_in s new ≡ false
   pub others : (t : ℕ) → t ≢ s → is_in t new ≡ is_in t old
 
--- a stamp stands before the limit; each does where there is none
+-- a stamp is before the limit; each is where there is none
 abbrev pub IsBefore : List ℕ → Option Stamp → ℕ → Type 0
 IsBefore order None s = Unit {0}
 IsBefore order (Some limit) s = place s order < place limit.0 order
 
--- one of these stamps, and none of them stands before it
+-- one of these stamps, and none of them is before it
 pub record IsEarliest (order stamps : List ℕ) (s : ℕ) : Type 0 where
   pub there : is_in s stamps ≡ true
   pub first : (t : ℕ) → is_in t stamps ≡ true → place s order ≤ place t order

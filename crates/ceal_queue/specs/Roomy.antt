@@ -7,6 +7,6 @@ pub record Roomy : Type 0 where
   pub items : List Stamp
   pub capacity : ℕ
 
--- all stamps stand in one of two lists
+-- all stamps are in one of two lists
 abbrev pub InOne : List Stamp → List Stamp → Type 0
 InOne sequence plain = (sequence ≡ []) ⊎ (plain ≡ [])

@@ -134,7 +134,7 @@ impl Stale {
     }
 }
 
-// Whether a stamp stands before the limit.
+// Whether a stamp is before the limit.
 fn is_before(order: &Order, stamp: Stamp, limit: Option<Stamp>) -> bool
     requires here { IsTrue (is_in stamp.0 order.now.stamps) }
     requires limit { ForSome limit (λ l. IsTrue (is_in l.0 order.now.stamps)) }

@@ -52,7 +52,7 @@ impl Stamps {
         self.sequence.len() + self.plain.len()
     }
 
-    /// Makes room for a list of that many, and for the next ones in the sequence.
+    /// Makes room for a list of this length, and for the next ones in the sequence.
     pub fn make_room(&mut self, len: usize) -> Result<(), NoMemory>
         ensures items { self.new.items ≡ self.old.items }
         ensures raises { self.old.capacity ≤ self.new.capacity }
@@ -86,7 +86,7 @@ impl Stamps {
         }
     }
 
-    /// Where a stamp is among rising ones; where it is not there, how many stand before it.
+    /// Where a stamp is among rising ones; where it is not there, the number of those before it.
     pub fn search(&self, order: &Order, stamp: Stamp) -> Result<usize, usize>
         requires here { IsTrue (is_in stamp.0 order.now.stamps) }
         requires rising { IsRising order.now.stamps (numbers self.now.items) }
@@ -109,7 +109,7 @@ impl Stamps {
         }
     }
 
-    // How many stand before a stamp.
+    // The number of stamps before one.
     fn count_before(&self, order: &Order, stamp: Stamp) -> usize
         requires here { IsTrue (is_in stamp.0 order.now.stamps) }
         requires rising { IsRising order.now.stamps (numbers self.now.items) }

@@ -44,7 +44,7 @@ numbers-tied {ps} (TraceAlike.was_read {i = i} {j = j} {l = l} {m = m} p v vs in
     subst (λ bs. EachTied ps bs (core_numbers (blocks_of j ++ blocks_of m))) (sym (core-then (blocks_of i) (blocks_of l)))
     (subst (λ cs. EachTied ps (numbers_of i ++ numbers_of l) cs) (sym (core-then (blocks_of j) (blocks_of m))) (tied-then (numbers-tied inside) (numbers-tied k)))
 
--- what is tied stands at one place
+-- what is tied is at one place
 place-tied : (ps : Pairs) → OneToOne ps → {bs cs : List ℕ} → EachTied ps bs cs → (b c : ℕ) → Tied b c ps → index_of bs b ≡ index_of cs c
 place-tied ps one EachTied.none b c t = refl
 place-tied ps one (EachTied.more {b = d} {c = e} {bs = bs} {cs = cs} s k) b c t = go (d == b) refl (e == c) refl (place-tied ps one k b c t)

@@ -62,7 +62,7 @@ inputs-same code inputs f args l r ms n each =
         let is : slice_get (inputs_after code s 0 inputs) i ≡ Some (filled code s (Input (0 + i)) old.0) = get-after code s 0 inputs i ∙ ap (option_map (filled code s (Input (0 + i)))) old.1 in
         each i old.0 (filled code s (Input (0 + i)) old.0) old.1 (sym (inputs-law code inputs f args l r s i) ∙ is) refl ∙ sym is
 
--- two numbers of a list that stand at one place are one
+-- two numbers of a list that are at one place are one
 index-one : (bs : List ℕ) (b c : ℕ) → 1 ≤ count b bs → 1 ≤ count c bs → index_of bs b ≡ index_of bs c → b ≡ c
 index-one [] b c h k e = absurd (omega (arith, h))
 index-one (d ∷ ds) b c h k e = go (d == b) refl (d == c) refl h k e (index-one ds b c)

@@ -1,4 +1,4 @@
--- Where numbers stand first.
+-- The first places of numbers.
 use Rattle.std.proofs.Common.{◌≡◌, ℕ, suc, ◌+◌, ◌==◌, Bool, true, false, cond, if◌then◌else◌, Option, Some, None, is_some, unwrap_or, Bor, List, [], ◌∷◌, ◌++◌, length, length-append, refl, sym, ap, ◌∙◌, subst, arith}
 use Rattle.std.specs.BTreeMap.{get}
 use Rattle.std.specs.Option.{option_map, option_copied}
@@ -16,7 +16,7 @@ use Rattle.ceal_record.specs.Numbers.{place_in, number_of, Counts}
 use Rattle.ceal_record.specs.declared.numbers.Numbers.{Numbers}
 use Rattle.ceal_traceck.specs.Items.{allocated}
 
--- where a number stands with one more after
+-- the place of a number with one more after
 abbrev or_last : Option ℕ → Bool → ℕ → Option ℕ
 or_last (Some k) here n = Some k
 or_last None true n = Some n
@@ -101,7 +101,7 @@ pub record SoFar (t : Numbers) (left all : List Item) : Type 0 where
   pub counts : Counts t seen
   pub whole : seen ++ core_numbers (allocated left) ≡ core_numbers (allocated all)
 
--- what a table tells of a key
+-- the value of a key in a table
 pub found-some : (o : Option (Bor ℕ)) (x : Option ℕ) → option_copied o ≡ x → is_some o ≡ true → (k : ℕ) × (x ≡ Some k)
 found-some None x e h = absurd (cc h)
 found-some (Some r) x e h = (r.now, sym e)

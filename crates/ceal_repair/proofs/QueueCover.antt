@@ -1,5 +1,5 @@
--- Each read that is not queued records what was recorded last of its place, so each stale read is covered by a queued one.
--- what only this crate cites
+-- Each read that is not queued records what was recorded last of its place, so each stale read is covered by a queued
+-- one. what only this crate cites
 pub mod Chain
 pub mod ChainChanges
 pub mod ChainCovers

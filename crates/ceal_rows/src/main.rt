@@ -1,8 +1,8 @@
 //! Runs the rows of a file through the top call, and says which of them differ.
 //!
 //! A row is these lines: `row NAME`, `words WORDS`, `status STATUS`, the input, the output, `end`. A line of the input
-//! stands after `> `, or after `>|` where no line feed follows it; a line of the output after `< ` or `<|`. After
-//! `repeat COUNT ` such a line stands for COUNT lines. With `fill COUNT` line feeds bring the input to COUNT bytes. With
+//! is after `> `, or after `>|` where no line feed follows it; a line of the output after `< ` or `<|`. After `repeat
+//! COUNT ` such a line stands for COUNT lines. With `fill COUNT` line feeds bring the input to COUNT bytes. With
 //! `drips` the bytes come and go one at a time. With `fails` the row is run again with each call of the source and of
 //! the sink failing in turn.
 #![tactic(auto)]

@@ -1,5 +1,5 @@
 //! The tests of the runtime's containers: order maintenance, traces, modifiables, the queue, the memo tables, raw
-//! words and the store of core blocks, only by public calls. No crate stands on this one.
+//! words and the store of core blocks, only by public calls. No crate uses this one.
 #![tactic(auto)]
 
 #[cfg(test)]

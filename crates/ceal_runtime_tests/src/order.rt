@@ -38,7 +38,7 @@ fn is_rising(order: &Order) -> bool {
     true
 }
 
-// The order has the stamps of a list, as they stand there.
+// The order has the stamps of a list, in its order.
 fn is_as<R: Abort>(rt: &R, alloc: Global, order: &Order, list: &Vec<Stamp>) {
     let stamps = walked(rt, alloc, order);
     holds(rt, stamps == *list);
@@ -46,7 +46,7 @@ fn is_as<R: Abort>(rt: &R, alloc: Global, order: &Order, list: &Vec<Stamp>) {
     holds(rt, is_rising(order));
 }
 
-// The stamp that many places after the first, or the last one.
+// The stamp `places` places after the first, or the last one.
 fn stamp_at(order: &Order, places: u64) -> Stamp
     ensures { IsTrue (is_in result.0 order.now.stamps) }
 {
@@ -152,7 +152,7 @@ fn next_random(random: u64) -> u64 {
     next
 }
 
-// Two insertions to one deletion at random, among that many places.
+// Two insertions to one deletion at random, among `places` places.
 fn change_at_random<R: Abort>(rt: &R, order: &mut Order, list: &mut Vec<Stamp>, places: u64)
     requires some { 0 < places }
 {

@@ -6,7 +6,7 @@ use ceal_order::order::Order;
 use std::alloc::Global;
 use std::process::Abort;
 
-/// An order with room for that many stamps after the first one.
+/// An order with room for `spare` stamps after the first one.
 pub fn order_with_room<R: Abort>(rt: &R, alloc: Global, spare: u32) -> Order
     ensures room { spare ≤ result.spare }
 {

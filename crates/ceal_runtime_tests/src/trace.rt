@@ -149,7 +149,7 @@ fn increment(rt: HostRuntime) {
     drop(trace);
 }
 
-// What was removed had that many steps and stands for this line.
+// What was removed had `steps` steps and stands for this line.
 fn was<R: Abort>(rt: &R, gone: Gone, steps: u32, line: Line) {
     holds(rt, gone.steps == steps);
     holds(rt, line_of(seen(&gone.node)) == Some(line));

@@ -12,7 +12,8 @@ use ceal_trace::trace::Trace;
 use std::alloc::Global;
 use std::process::Abort;
 
-// The list that MAP reads: a modifiable with its first cell, and three cells, of which each holds the next one in field 1.
+// The list that MAP reads: a modifiable with its first cell, and three cells, of which each holds the next one in field
+// 1.
 
 const FIRST: BlockId = BlockId::Input(2);
 

@@ -30,7 +30,7 @@ fn writes_and_gives_back(rt: HostRuntime) {
     drop(region);
 }
 
-// Takes that many slots, writes to each, finds what was written, and gives them back.
+// Takes `count` slots, writes to each, finds what was written, and gives them back.
 fn nested<R: Abort>(rt: &R, region: &mut Region, len: u32, count: u32)
     requires length { (1 ≤ len) × (len ≤ 65536) }
     requires some { count ≤ spare region.old len }

@@ -1,5 +1,5 @@
-//! What the crates of tests share: `programs` with what the compiler makes of them, their input blocks (`inputs`), whether a call
-//! may be run (`calls`), and a trace as text (`told`). It has no tests of its own, and nothing but tests stands on it.
+//! What the crates of tests share: `programs` with what the compiler makes of them, their input blocks (`inputs`),
+//! whether a call may be run (`calls`), and a trace as text (`told`). It has no tests, and only tests use it.
 #![tactic(auto)]
 
 pub mod calls;

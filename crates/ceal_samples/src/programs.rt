@@ -73,7 +73,7 @@ ceal mapv(mod struct cell *from, mod struct cell *to) {
 %%
 ";
 
-/// Writes 1, and 2 over it where `p` is not 0, and then what stands there.
+/// Writes 1, and 2 over it where `p` is not 0, and then what is there.
 pub const CONDITIONAL: &[u8] = b"
 ceal cond(mod int *p, mod int *d) {
   int c = read(p);

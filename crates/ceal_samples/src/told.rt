@@ -1,6 +1,6 @@
 // The items of a trace as text. A step is a dot; each other item ends a line, the commands in the form of a listing:
 //
-//     ..#0 = init 0(in2)                    a block by an initialiser with its arguments, or `mod int`, or `mod struct 0`
+// ..#0 = init 0(in2)                    a block by an initialiser with its arguments, or `mod int`, or `mod struct 0`
 //     .in1.0 := #0                          a write of a field
 //     .v2 = read(in0.0) u1(&in1.0): 4       a read: the variable, the place, the unit, the arguments, and the value
 //     end

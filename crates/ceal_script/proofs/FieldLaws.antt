@@ -1,4 +1,4 @@
--- A field's name is an identifier, or an element's: what stands before the first bracket, and after it.
+-- A field's name is an identifier, or an element's: what is before the first bracket, and after it.
 use Rattle.std.proofs.Common.{◌≡◌, ◌⊎◌, inl, inr, ℕ, ◌+◌, true, false, not, List, [], ◌∷◌, ◌++◌, length, take, drop, Option, Some, None, refl, sym, ap, ◌∙◌, subst, arith}
 use Rattle.std.specs.Prelude.{◌==◌, position}
 use Rattle.std.proofs.lemmas.Bool.{cases_Bool, cases_eq, false≢true}
@@ -13,7 +13,7 @@ use Rattle.ceal_script.proofs.PlaceLaws.{identifier_bytes}
 no_bracket : (b : ℕ) → is_name_byte b ≡ true → not (b == OPENING_BRACKET) ≡ true
 no_bracket b h = grind (arith, nat_tests)
 
--- where the bracket of an element stands
+-- the place of the bracket of an element
 pub bracket_behind : (row rest : List ℕ) → IsIdentifier row → position (λ b. b == OPENING_BRACKET) (row ++ OPENING_BRACKET ∷ rest) ≡ Some (length row)
 bracket_behind row rest h = mark_behind OPENING_BRACKET no_bracket row rest (identifier_bytes row h)
 

@@ -1,4 +1,4 @@
--- A sign that no name has, as a dot or a bracket: a name ends where it first stands.
+-- A sign that no name has, as a dot or a bracket: a name ends at its first occurrence.
 use Rattle.std.proofs.Common.{◌≡◌, ℕ, ◌+◌, ◌<◌, true, false, not, List, [], ◌∷◌, ◌++◌, length, take, drop, get_or, add-one, drop-cons, Some, None, suc, refl, sym, ap, ◌∙◌, arith, length-append}
 use Rattle.std.specs.Prelude.{◌==◌, nat_lt, position}
 use Rattle.std.specs.List.{list_all, position_or_len}

@@ -54,7 +54,7 @@ module _ (word : List ℕ) where
           cc
 
   module _ (at : ℕ) (text : List ℕ) (behind : text ≡ drop (at + 1) word) (e : Some at ≡ position (λ b. b == DOT) word) where
-    -- what stands before the first dot of a place, and after it
+    -- what is before the first dot of a place, and after it
     parts : (p : PlaceWord) → SpellsPlace word p → IsName (take at word) × IsField (drop (at + 1) word)
     parts p h = by_field p.field h.0 h.2
       where

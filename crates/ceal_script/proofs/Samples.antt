@@ -68,7 +68,7 @@ set_element_line = record {
   );
 }
 
--- what stands between the brackets
+-- what is between the brackets
 between : (index : List ℕ) → IsField (codes "s[" ++ (index ++ codes "]")) → IsIndex index
 between index (inl h) = absurd (false≢true h)
 between index (inr h) = index_within (codes "s[" ++ (index ++ codes "]")) 1 (sym (bracket_behind (codes "s") (index ++ codes "]") refl)) index refl h

@@ -48,7 +48,7 @@ abbrev pub are_digits : List ℕ → Bool
 are_digits [] = false
 are_digits (b ∷ bs) = is_digit b && list_all is_digit bs
 
--- the word is made of digits alone
+-- the word is made only of digits
 abbrev pub AreDigits : List ℕ → Type 0
 AreDigits digits = IsTrue (are_digits digits)
 
@@ -64,7 +64,7 @@ SpellsNegative digits n = AreDigits digits × (number_of digits ≤ 2 ^ 63) × (
 abbrev pub SpellsNumber : List ℕ → ℤ → Type 0
 SpellsNumber word n = SpellsPositive word n ⊎ (digits : List ℕ) × (word ≡ MINUS ∷ digits) × SpellsNegative digits n
 
--- one to seven digits, of a number of reads from 1 to 1,000,000; zeros may stand in front
+-- one to seven digits, of a number of reads from 1 to 1,000,000; zeros may come first
 abbrev pub SpellsReads : List ℕ → ℕ → Type 0
 SpellsReads digits n = AreDigits digits × (length digits ≤ 7) × (1 ≤ n) × (n ≤ 1000000) × (n ≡ number_of digits)
 

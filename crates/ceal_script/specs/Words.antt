@@ -4,7 +4,7 @@ use Rattle.std.specs.Borrow.{Bor}
 use Rattle.std.specs.List.{AllByRecursion}
 use Rattle.ceal_script.specs.Characters.{is_gap}
 
--- spaces and tabs alone
+-- only spaces and tabs
 abbrev pub AreGaps : List ℕ → Type 0
 AreGaps bytes = AllByRecursion (λ b. IsTrue (is_gap b)) bytes
 
@@ -26,7 +26,7 @@ pub record HasWord (line word rest : List ℕ) : Type 0 where
   pub ends : EndsWord rest
   pub whole : line ≡ gaps ++ (word ++ rest)
 
--- These are the words of the line: spaces and tabs stand between them, and belong to none.
+-- These are the words of the line: spaces and tabs are between them, and belong to none.
 unfoldable pub HasWords : List ℕ → List (List ℕ) → Type 0
 HasWords line [] = AreGaps line
 HasWords line (word ∷ words) = (rest : List ℕ) × HasWord line word rest × HasWords rest words

@@ -19,7 +19,7 @@ pub fn is_letter(byte: u8) -> bool
     matches!(byte, b'A'..=b'Z' | b'a'..=b'z' | b'_')
 }
 
-/// Whether a byte may stand in a name after its first.
+/// Whether a byte may be in a name after its first.
 pub fn is_name_byte(byte: u8) -> bool
     ensures { result ≡ characters.is_name_byte byte }
 {

@@ -67,7 +67,7 @@ pub fn name(alloc: Global, word: &[u8]) -> Result<Text, LineError>
     Ok(text)
 }
 
-/// Where the first `[` stands.
+/// The place of the first `[`.
 fn opening_bracket(word: &[u8]) -> Option<usize>
     ensures { result ≡ position (λ b. b == OPENING_BRACKET) word.now }
 {
@@ -115,7 +115,7 @@ pub fn kind(alloc: Global, word: &[u8]) -> Result<KindWord, LineError>
     Ok(KindWord::Named(name))
 }
 
-/// Where the first dot stands.
+/// The place of the first dot.
 fn dot(word: &[u8]) -> Option<usize>
     ensures { result ≡ position (λ b. b == DOT) word.now }
 {

@@ -10,21 +10,21 @@ use ceal_base::no_memory::NoMemory;
 use smallvec::SmallVec;
 use std::alloc::Global;
 
-/// Where the first byte stands that is no gap.
+/// The place of the first byte that is no gap.
 fn gap_end(bytes: &[u8]) -> Option<usize>
     ensures { result ≡ position (λ b. not (characters.is_gap b)) bytes.now }
 {
     bytes.iter().position(|byte| !is_gap(*byte))
 }
 
-/// Where the first gap stands.
+/// The place of the first gap.
 fn word_end(bytes: &[u8]) -> Option<usize>
     ensures { result ≡ position characters.is_gap bytes.now }
 {
     bytes.iter().position(|byte| is_gap(*byte))
 }
 
-/// How many gaps stand at the front.
+/// The number of gaps at the front.
 pub fn gap_length(bytes: &[u8]) -> usize
     ensures within { result ≤ length bytes.now }
     ensures run { result ≡ prefix_len characters.is_gap bytes.now }
@@ -32,7 +32,7 @@ pub fn gap_length(bytes: &[u8]) -> usize
     gap_end(bytes).unwrap_or(bytes.len())
 }
 
-/// How many bytes stand before the first gap.
+/// The number of bytes before the first gap.
 pub fn word_length(bytes: &[u8]) -> usize
     ensures within { result ≤ length bytes.now }
     ensures run { result ≡ position_or_len characters.is_gap bytes.now }

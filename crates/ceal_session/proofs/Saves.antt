@@ -1,4 +1,4 @@
--- Saves: the one of a session holds, and a session goes on from it.
+-- Saves: the one of a session holds, and a session continues from it.
 pub mod SaveOfSession
 pub mod SaveThatHolds
 pub mod ResumedReplies

@@ -1,4 +1,4 @@
--- What the engine of a session makes of a call that runs, or goes on with a repair, and what that leaves of
+-- What the engine of a session makes of a call that runs, or continues a repair, and what that leaves of
 -- the session.
 use Rattle.std.specs.Prelude.{◌≡◌, ◌⊎◌, ℕ, Bool, true, false, Option, Some, None, is_some, Result, Ok, Err, List, ⊤}
 use Rattle.ceal_base.specs.Block.{Block}
@@ -23,11 +23,11 @@ use Rattle.ceal_session.specs.declared.reply.Reply.{Reply}
 use Rattle.ceal_session.specs.declared.reply.Reply.TheVariants as reply
 use Rattle.ceal_base.specs.declared.no_memory.NoMemory.{NoMemory}
 
--- how a run or a repair came out
+-- the outcome of a run or a repair
 abbrev pub Outcome : Type 0
 Outcome = Result Came RunError
 
--- whether a repair goes on
+-- whether a repair is in progress
 abbrev pub is_more : Outcome → Bool
 is_more (Ok More) = true
 is_more (Ok Done) = false
@@ -60,7 +60,7 @@ part_behind (Ok Anew) = Ok reply.Done
 part_behind (Err OutOfFuel) = Ok reply.OutOfFuel
 part_behind (Err Memory) = Err (record {})
 
--- what the definition's slice is, by how the repair came out
+-- what the definition's slice is, by the outcome of the repair
 abbrev pub IsSliceOf : Outcome → Code → List Block → Option Repair → Type 0
 IsSliceOf (Ok More) code inputs o = (r : Repair) × (o ≡ Some r) × (is_done code inputs r ≡ false)
 IsSliceOf (Ok Done) code inputs o = (r : Repair) × (o ≡ Some r) × (is_done code inputs r ≡ true)
@@ -76,7 +76,7 @@ Completes (Ok Anew) e = IsPresent e
 Completes (Err OutOfFuel) e = fresh_of e ≡ None
 Completes (Err Memory) e = ⊤
 
--- a repair is one of a run of the call, and goes on only where that many reads were to be re-executed
+-- a repair is one of a run of the call, and is in progress afterwards only where a number of reads was given
 abbrev pub Began : Outcome → EngineState → Call → Option ℕ → Type 0
 Began (Ok More) e call reads = (has_run e.phase ≡ true) × (is_some reads ≡ true) × (e.call ≡ Some call)
 Began (Ok Done) e call reads = (has_run e.phase ≡ true) × (e.call ≡ Some call)
@@ -91,7 +91,7 @@ Makes (Ok c) e call reads p e' =
     SamePast e.code e.inputs call.function call.args
     (past_behind e.code e.inputs e.fuel (first_of e.code e.inputs e.fuel call.function call.args) reads p) (past_of e')
 
--- The first engine was brought forward to the second one, and it came out so.
+-- The second engine is the first one after the call, with this outcome.
 pub record Brings
     (e : EngineState) (call : Call) (reads : Option ℕ) (outcome : Outcome) (e' : EngineState) : Type 0 where
   pub code : e'.code ≡ e.code
@@ -112,7 +112,7 @@ pub record Brings
 abbrev pub Brought : EngineState → Option ℕ → Outcome → EngineState → Type 0
 Brought e reads outcome e' = (call : Call) → e.call ≡ Some call → Brings e call reads outcome e'
 
--- how a run came out that ended so, if it ended
+-- the outcome of a run that ended in this way, if it ended
 abbrev pub with_came : {A : Type 0} → Came → Result A RunError → Outcome
 with_came c (Ok x) = Ok c
 with_came c (Err e) = Err e
@@ -124,7 +124,7 @@ pub record Leaves
   pub going : goes n.past ≡ more
   pub retraces : Retraces m call reads n
 
--- what the call leaves, by how it came out; a run that was completed is that from scratch
+-- what the call leaves, by its outcome; a run that was completed is that from scratch
 abbrev pub IsAdvanced : Situation → Call → Option ℕ → Outcome → Situation → Type 0
 IsAdvanced m call reads (Ok More) n = (is_some reads ≡ true) × Leaves m call reads (with_part m.state) true n
 IsAdvanced m call reads (Ok Done) n =

@@ -6,7 +6,7 @@ use Rattle.ceal_session.specs.State.{State}
 use Rattle.ceal_session.specs.Steps.{answered_line}
 use Rattle.ceal_session.specs.declared.reply.Reply.{Reply}
 
--- The line has this reply, where `more` says whether a repair goes on after it; the state after it is `next`.
+-- The line has this reply, where `more` says whether a repair is in progress after it; the state after it is `next`.
 pub record HasReply (s : State) (more : Bool) (line : List ℕ) (reply : Reply) (next : State) : Type 0 where
   pub command : Option Command
   pub reads : Reads line command

@@ -25,8 +25,8 @@ IsEdit _ = ⊥
 abbrev pub HaveNoEdit : List (List ℕ) → Type 0
 HaveNoEdit lines = AllByRecursion (λ line. (command : Option Command) → Reads line command → ¬ IsEdit command) lines
 
--- Where no repair goes on and no line is an edit, the numbers are in this order after a line that completes a run or a
--- repair, be it whole or the last slice of it.
+-- Where no repair is in progress and no line is an edit, the numbers are in this order after a line that completes a
+-- run or a repair, be it whole or the last slice of it.
 abbrev pub BoundedLaw : Type 0
 BoundedLaw =
     (m mid n : Situation) (lines : List (List ℕ)) (line out text : List ℕ) → Stands m → goes m.past ≡ false

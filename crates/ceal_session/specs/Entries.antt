@@ -1,5 +1,5 @@
 -- The replies to a script, by the plain meaning of the source and a list of entries: for each line that runs,
--- its numbers, or that a repair goes on, or that it was out of fuel. Nothing else of the compiler and of
+-- its numbers, or that a repair is in progress, or that it was out of fuel. Nothing else of the compiler and of
 -- trace repair comes into the text.
 use Rattle.std.specs.Prelude.{◌≡◌, ℕ, Bool, true, false, Option, Result, Ok, Err, List, [], ◌∷◌, ◌++◌}
 use Rattle.ceal_base.specs.declared.call.Call.{Call}
@@ -11,7 +11,7 @@ use Rattle.ceal_session.specs.State.{State, Situation, Numbers, numbers_in}
 use Rattle.ceal_session.specs.Works.{call_in, past_in, bound_in}
 use Rattle.ceal_session.specs.declared.refusal.Refusal.{Refusal}
 
--- what is told of a line that runs
+-- what the text of the replies uses of a line that runs
 pub data Entry : Type 0 where
   Counted : (numbers : Numbers) → Entry
   More : Entry
@@ -38,7 +38,7 @@ AreEntries m (line ∷ lines) entries =
     (command : Option Command) × (later : List Entry) × Reads line command
     × AreEntries (behind m command) lines later × (entries ≡ entries_in m command ++ later)
 
--- whether a repair goes on after the line of the first entry
+-- whether a repair is in progress after the line of the first entry
 abbrev pub goes_on : List Entry → Bool
 goes_on (More ∷ later) = true
 goes_on (Counted numbers ∷ later) = false

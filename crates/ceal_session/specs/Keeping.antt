@@ -34,7 +34,7 @@ abbrev pub traced_by : EngineState → Option Trace → Past
 traced_by e None = NoTrace
 traced_by e (Some l) = Traced (record { items = l; work = e.work })
 
--- The repair that goes on: it has the words of the heap.
+-- The repair in progress: it has the words of the heap.
 abbrev pub going_by : EngineState → Option Trace → Past
 going_by e None = NoTrace
 going_by e (Some l) = Going (carried_by e l)

@@ -15,7 +15,7 @@ use Rattle.ceal_session.specs.Steps.{call_of}
 abbrev pub OneCommandLaw : Type 0
 OneCommandLaw = (line : List ℕ) (c d : Option Command) → Reads line c → Reads line d → c ≡ d
 
--- A line has one reply, by the state, the numbers and whether a repair goes on after it.
+-- A line has one reply, by the state, the numbers and whether a repair is in progress after it.
 abbrev pub OneAnswerLaw : Type 0
 OneAnswerLaw =
     (s : State) (numbers : Numbers) (more : Bool) (line a b : List ℕ) (m n : State)
@@ -37,17 +37,17 @@ OneScriptLaw =
     (m : Situation) (lines : List (List ℕ)) (a b : List ℕ) (n o : Situation) → Leads m lines a n
     → Leads m lines b o → (a ≡ b) × (n ≡ o)
 
--- Lines after others go on from the situation after those.
+-- Lines after others continue from the situation after those.
 abbrev pub JoinedLaw : Type 0
 JoinedLaw =
     (m n o : Situation) (front back : List (List ℕ)) (a b : List ℕ) → Leads m front a n → Leads n back b o
     → Leads m (front ++ back) (a ++ b) o
 
--- A session begins so that it stands, and is in the situation in which nothing was run.
+-- The first situation of a session is sound: it is the one in which nothing was run.
 abbrev pub BegunLaw : Type 0
 BegunLaw = (p : Program) (fuel : ℕ) → IsCompiled p → IsIn (opened p fuel) (opened p fuel)
 
--- In a situation that a session comes to each line has a reply, and the one after it is such a one.
+-- In a situation that a session reaches each line has a reply, and the one after it is such a one.
 pub record Replied (m : Situation) (line : List ℕ) : Type 0 where
   pub text : List ℕ
   pub next : Situation

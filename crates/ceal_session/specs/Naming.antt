@@ -12,7 +12,7 @@ use Rattle.ceal_traceck.specs.Verdicts.{has_known_shape}
 abbrev pub AreSpelled : List (List ℕ) → Type 0
 AreSpelled names = AllByRecursion IsName names
 
--- none of them stands twice
+-- none of them occurs twice
 abbrev pub AreDistinct : List (List ℕ) → Type 0
 AreDistinct names = IsDistinct bytes_eq names
 

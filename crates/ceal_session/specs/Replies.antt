@@ -1,8 +1,8 @@
 -- The replies to the lines of a script. The situations between the lines are the definition's: after each
 -- line, the state that the plain meaning of the source gives, run again on the edited inputs, and what
--- change propagation over the program's code has left. A line is answered by the state alone, but for `work`
+-- change propagation over the program's code has left. A line is answered only by the state, but for `work`
 -- and `bound`, which tell the numbers of the situation, and for `propagate READS`, which is answered `more`
--- where a repair goes on after it. Whatever is written of a script speaks of these two relations, `Replies`
+-- where a repair is in progress after it. Whatever is written of a script speaks of these two relations, `Replies`
 -- and `Leads`: its replies, the dump and the save after it, the replies of one of many sessions, and those
 -- of a session that is resumed.
 use Rattle.std.specs.Prelude.{◌≡◌, ℕ, Bool, Option, Some, None, List, [], ◌∷◌, ◌++◌}
@@ -20,8 +20,8 @@ abbrev pub Reads : List ℕ → Option Command → Type 0
 Reads line (Some command) = IsLineOf command line
 Reads line None = (command : Command) → IsLineOf command line → ⊥
 
--- The line is answered by the text, where these are the latest numbers, and `more` says whether a repair goes
--- on after the line; the state after it is `next`.
+-- The line is answered by the text, where these are the latest numbers, and `more` says whether a repair is in
+-- progress after the line; the state after it is `next`.
 pub record Answers (s : State) (numbers : Numbers) (more : Bool) (line text : List ℕ) (next : State) : Type 0 where
   pub command : Option Command
   pub reads : Reads line command

@@ -44,6 +44,6 @@ abbrev pub with_run : State → Call → Bool → State
 with_run s call out_of_fuel =
     record s { settled = s.inputs; call = Some call; out_of_fuel = out_of_fuel; pending = false }
 
--- the state after a part of a repair that goes on
+-- the state after a part of a repair in progress
 abbrev pub with_part : State → State
 with_part s = record s { out_of_fuel = false; pending = true }

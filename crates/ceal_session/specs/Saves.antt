@@ -42,7 +42,7 @@ ResumedLaw = (program : Program) (m : Situation) (s : Save) → Stands m
     → m.code ≡ program.code → m.state.program ≡ program.typed → IsAllowed m.state.fuel → IsSaved m s
     → GoesOn m program s
 
--- A session that goes on from what a session saved has that save again.
+-- A session that continues from what a session saved has that save again.
 abbrev pub ResavedLaw : Type 0
 ResavedLaw = (program : Program) (m session : Situation) (s t : Save) → Stands m
     → m.code ≡ program.code → m.state.program ≡ program.typed → IsAllowed m.state.fuel → IsSaved m s

@@ -1,4 +1,4 @@
--- The save of a session, and a session that goes on from one.
+-- The save of a session, and a session that continues from one.
 use Rattle.std.specs.Prelude.{◌≡◌, ◌≤◌, ℕ, true, false, Option, Some, None, List, [], ◌∷◌, length}
 use Rattle.ceal_base.specs.Trace.{Trace, flat, steps_in}
 use Rattle.ceal_base.specs.declared.typed.Typed.{Typed}
@@ -22,7 +22,7 @@ pub record IsSaved (m : Situation) (s : Save) : Type 0 where
   pub names : s.names ≡ m.state.names
   pub kept : IsRecorded m s.kept
 
--- The save holds: a session may have that fuel, each input has a name, no name stands twice, and the checker
+-- The save holds: a session may have that fuel, each input has a name, no name occurs twice, and the checker
 -- says yes to the record, whose run is in the fuel.
 pub record Holding (code : Code) (s : Save) : Type 0 where
   pub fuel : IsAllowed s.fuel
@@ -54,7 +54,7 @@ resumed program code s items = record {
   bound = s.bound;
 }
 
--- A session that goes on from the save is in its situation.
+-- A session that continues from the save is in its situation.
 pub record IsResumed (program : Program) (s : Save) (session : Situation) : Type 0 where
   pub trace : Trace
   pub items : s.kept.forest ≡ flat trace

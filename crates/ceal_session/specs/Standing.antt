@@ -33,7 +33,7 @@ pub record IsRepairIn (code : Code) (s : State) (call : Call) (r : Repair) : Typ
   pub pending : s.pending ≡ true
   pub sound : Sound code own s.inputs call.function call.args r
 
--- There is a trace, or a repair that goes on, where a call was accepted and was not out of fuel, and it is
+-- There is a trace, or a repair in progress, where a call was accepted and was not out of fuel, and it is
 -- one of that call.
 abbrev pub IsPastIn : Code → State → Option Call → Past → Type 0
 IsPastIn code s None past = past ≡ NoTrace
@@ -57,7 +57,7 @@ pub record HasTraceOf (m : Situation) (call : Call) (l : Repaired) : Type 0 wher
 abbrev pub HasTrace : Situation → Type 0
 HasTrace m = IfSome (last m) (λ l. (call : Call) × (m.state.call ≡ Some call) × HasTraceOf m call l)
 
--- The program has this code; each input has a name of its own and a known shape; the inputs fit, and so does the
+-- The program has this code; each input has a different name and a known shape; the inputs fit, and so does the
 -- accepted call; the past is one of it.
 pub record Stands (m : Situation) : Type 0 where
   pub compiled : IsCompiled (record { typed = m.state.program; code = m.code })

@@ -31,7 +31,7 @@ pub record Step : Type 0 where
   pub reply : Reply
   pub state : State
 
--- a reply that no change stands after
+-- a reply after which nothing has changed
 abbrev pub IsQuiet : Reply → Type 0
 IsQuiet reply.Ok = ⊥
 IsQuiet reply.OutOfFuel = ⊥
@@ -143,7 +143,7 @@ abbrev pub part_reply : Option Finished → Reply
 part_reply None = reply.OutOfFuel
 part_reply (Some f) = reply.Done
 
--- a part of a repair: it goes on, or it is completed by the run from scratch on the inputs of this moment
+-- a part of a repair: it continues, or it is completed by the run from scratch on the inputs of this moment
 abbrev pub runs_part : State → Bool → Result Call Refusal → Step
 runs_part s more (Err r) = refuses s r
 runs_part s true (Ok call) = record { reply = reply.More; state = with_part s }
@@ -178,7 +178,7 @@ abbrev pub reads_of : Command → Option ℕ
 reads_of (Slice reads) = Some reads
 reads_of _ = None
 
--- what a command is answered; `more` says whether a repair goes on after it, which a part of a repair alone looks at
+-- what a command is answered; `more` says whether a repair is in progress after it, which a part of a repair uses
 abbrev pub answered : State → Bool → Command → Step
 answered s more Blank = stays s reply.Nothing
 answered s more (Mod name kind value) = made_of s name (mod_shape s kind) (value_sense s value ∷ [])

@@ -32,7 +32,7 @@ AsksNumbers (Some Work) = Unit {0}
 AsksNumbers (Some Bound) = Unit {0}
 AsksNumbers _ = ⊥
 
--- the line runs the call, and no repair goes on after it
+-- the line runs the call, and no repair is in progress after it
 pub record Completes (m : Situation) (line : List ℕ) (n : Situation) : Type 0 where
   pub command : Option Command
   pub reads : Reads line command

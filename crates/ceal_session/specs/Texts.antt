@@ -49,7 +49,7 @@ TellsOf s numbers q None text = text ≡ refusal_text C7
 TellsOf s numbers q (Some f) text = Tells s numbers q f text
 
 -- The text is that of the reply; a question is answered by the run from scratch on the inputs of this moment, and the
--- lines `work` and `bound` alone by the numbers.
+-- only lines `work` and `bound` by the numbers.
 abbrev pub IsText : State → Numbers → Reply → List ℕ → Type 0
 IsText s numbers Nothing text = text ≡ []
 IsText s numbers Ok text = text ≡ codes "ok\n"

@@ -24,7 +24,7 @@ abbrev pub base_in : List Block → BlockId → ℕ → Word
 base_in inputs (Input n) field = word_of (slice_get inputs n) field
 base_in inputs (Core n) field = Null
 
--- what stands at a place of the inputs
+-- what is at a place of the inputs
 abbrev pub base_at : List Block → Place → Word
 base_at inputs p = base_in inputs p.block p.field
 

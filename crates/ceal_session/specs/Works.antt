@@ -1,5 +1,5 @@
--- What runs and propagates leave, by change propagation over the program's code: traces and their work, repairs that go
--- on, and the bound of a work.
+-- What runs and propagates leave, by change propagation over the program's code: traces and their work, repairs in
+-- progress, and the bound of a work.
 use Rattle.std.specs.Prelude.{ℕ, Option, Some, None, Result, Ok, Err, if◌then◌else◌}
 use Rattle.ceal_base.specs.Trace.{steps_of}
 use Rattle.ceal_base.specs.declared.call.Call.{Call}
@@ -28,10 +28,9 @@ reads_in (Some command) = reads_of command
 abbrev pub first_trace : Code → State → Call → Option Repaired
 first_trace code s call = first_of code s.inputs s.fuel call.function call.args
 
--- What the line leaves: what there was before it, where it runs no call. Else a slice of the repair that is
--- pending, or of a new one of the trace, which goes on or is done; where there is no trace, or the steps that
--- were re-executed are more than the fuel, the first trace; and nothing where the run from scratch is out of
--- fuel.
+-- What the line leaves: what there was before it, where it runs no call. Else a slice of the repair that is pending, or
+-- of a new one of the trace, which is in progress or done. Where there is no trace, or the steps that were re-executed
+-- are more than the fuel, it is the first trace; and it is nothing where the run from scratch is out of fuel.
 abbrev pub past_left : Code → State → Result Call Refusal → Option ℕ → Past → Past
 past_left code s (Err r) reads past = past
 past_left code s (Ok call) reads past = past_behind code s.inputs s.fuel (first_trace code s call) reads past
@@ -43,7 +42,7 @@ steps_in_first (Some a) = steps_of a.items
 
 -- The bound, by the slice: where there is none the trace is a first one, each of whose steps is work. Where
 -- the repair is done it is the cost of the first trace on the present inputs beside the first trace on the
--- settled ones; where it goes on, it stays what it was.
+-- settled ones; where it is in progress, it stays what it was.
 abbrev pub bound_by : Code → State → Call → Option Repaired → Option Repair → ℕ → ℕ
 bound_by code s call first None bound = steps_in_first first
 bound_by code s call None (Some r) bound = if is_done code s.inputs r then 0 else bound

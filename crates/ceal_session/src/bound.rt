@@ -52,7 +52,8 @@ fn cost(alloc: Global, old: &Option<Forest>, new: &Option<Forest>) -> Result<u32
     }
 }
 
-/// The cost of the first trace on the present inputs beside the first trace on the inputs as they were before the edits.
+/// The cost of the first trace on the present inputs beside the first trace on the inputs as they were before the
+/// edits.
 fn cost_since(alloc: Global, engine: &Engine, edits: &[Edit]) -> Result<u32, NoMemory>
     requires measured { IsMeasured engine.now engine.now.inputs (Between edits.now) }
     ensures { IfOk result

@@ -6,8 +6,8 @@ ghost use Rattle.ceal_session.specs.Entries.{EntriesLaw, OneTextLaw};
 ghost use Rattle.ceal_session.specs.Saves.{AlikeLaw, HeldLaw, OneSavedLaw, ResavedLaw, ResumedLaw, SavedLaw};
 ghost use Rattle.ceal_session.specs.Strangers.{StrangerLaw};
 
-/// A law: a line is one command's at most, and has one reply by a state and its numbers; so it has one in a situation, and one
-/// situation after it.
+/// A law: a line is one command's at most, and has one reply by a state and its numbers; so it has one in a situation,
+/// and one situation after it.
 pub fn one_reply()
     ensures command { OneCommandLaw }
     ensures answer { OneAnswerLaw }
@@ -18,7 +18,7 @@ pub fn one_reply()
     ceal_show::laws::one_text();
 }
 
-/// A law: lines have one text of replies in a situation, and one situation after them, from which more lines go on.
+/// A law: lines have one text of replies in a situation, and one situation after them, from which more lines continue.
 pub fn one_script()
     ensures law { OneScriptLaw }
     ensures joined { JoinedLaw }
@@ -26,8 +26,8 @@ pub fn one_script()
     one_reply();
 }
 
-/// A law: in a situation that a session comes to each line has a reply, and so have lines one after another; the situations
-/// after them are such ones. So is a session that was left when memory ran out.
+/// A law: in a situation that a session reaches each line has a reply, and so have lines one after another; the
+/// situations after them are such ones. So is a session that was left when memory ran out.
 pub fn some_reply()
     ensures begun { BegunLaw }
     ensures reply { SomeReplyLaw }
@@ -51,8 +51,8 @@ pub fn kept_line()
     one_reply();
 }
 
-/// A law: the replies of lines are the text that the plain meaning of the source gives to them with a list of entries, which
-/// trace repair gives, one for each line that runs.
+/// A law: the replies of lines are the text that the plain meaning of the source gives to them with a list of entries,
+/// which trace repair gives, one for each line that runs.
 pub fn entries_law()
     ensures law { EntriesLaw }
     ensures one { OneTextLaw }
@@ -77,8 +77,8 @@ pub fn alike_law()
     one_reply();
 }
 
-/// A law: after a completed run or repair, whole or in slices without an edit between them, the work is at most the bound, and
-/// the bound at most the steps.
+/// A law: after a completed run or repair, whole or in slices without an edit between them, the work is at most the
+/// bound, and the bound at most the steps.
 pub fn bounded_law()
     ensures law { BoundedLaw }
 {
@@ -103,8 +103,8 @@ pub fn held_law()
     ensures law { HeldLaw }
 {}
 
-/// A law: what a session saves holds, and resumed it answers each script as the session would have answered it, and has the same
-/// save.
+/// A law: what a session saves holds, and resumed it answers each script as the session would have answered it, and has
+/// the same save.
 pub fn resumed_law()
     ensures law { ResumedLaw }
     ensures again { ResavedLaw }

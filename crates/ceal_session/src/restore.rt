@@ -1,4 +1,4 @@
-// Whether a save holds, and the state that goes on from it.
+// Whether a save holds, and the state that continues from it.
 
 ghost use Rattle.std.specs.Prelude.{◌≡◌, ◌≤◌, ◌<◌, ◌^◌, ◌↔◌, true, false, length, IsTrue, IfOk, OnOk, IsErrOf, MatchOption, Some};
 ghost use Rattle.std.specs.Option.{IsSomeAnd};
@@ -36,14 +36,14 @@ use ceal_types::numbers::Numbered;
 use ceal_types::seed::Seed;
 use std::alloc::Global;
 
-/// Whether a run of a session may be allowed that many steps.
+/// Whether a run of a session may be allowed this number of steps.
 fn is_allowed(fuel: u32) -> bool
     ensures { IsTrue result ↔ IsAllowed fuel }
 {
     1 <= fuel && fuel <= LARGEST_FUEL
 }
 
-/// The names in a table; none where one stands twice.
+/// The names in a table; none where one occurs twice.
 fn table_of(alloc: Global, names: &[Text], seed: Seed) -> Result<Option<Names>, NoMemory>
     ensures { IfOk result
         (λ found. MatchOption found (¬ AreDistinct names.now)
@@ -167,7 +167,7 @@ fn engine_of(alloc: Global, code: Code, saved: &Saved, seed: MemoSeed) -> Result
     )
 }
 
-/// The state that goes on from a save that holds.
+/// The state that continues from a save that holds.
 fn resume(
     alloc: Global,
     program: Program,
@@ -195,7 +195,7 @@ fn resume(
     Ok(State::finished(program, names, engine, journal))
 }
 
-/// The state that goes on from a save, if it holds.
+/// The state that continues from a save, if it holds.
 pub fn restored(
     alloc: Global,
     program: Program,

@@ -159,8 +159,8 @@ fn answer_line(alloc: Global, state: &mut State, line: &[u8]) -> Result<Answer, 
 }
 
 impl Session {
-    /// A session without inputs and without a run. A run may take `fuel` steps. Its hashes begin with a seed that everybody
-    /// knows: it is for names and values that nobody chooses to be slow.
+    /// A session without inputs and without a run. A run may take `fuel` steps. Its hashes begin with a seed that
+    /// everybody knows: it is for names and values that nobody chooses to be slow.
     pub fn new(alloc: Global, program: Program, fuel: u32) -> Result<Session, NoMemory>
         requires compiled { IsCompiled program }
         requires fuel { IsAllowed fuel }
@@ -169,8 +169,8 @@ impl Session {
         Session::seeded(alloc, program, fuel, Seed::of_text(b""))
     }
 
-    /// The same, where the hashes of names and of memo keys begin with a seed, as of the text that they come from. Any seed
-    /// gives the same replies.
+    /// The same, where the hashes of names and of memo keys begin with a seed, as of the text that they come from. Any
+    /// seed gives the same replies.
     pub fn seeded(
         alloc: Global,
         program: Program,
@@ -186,8 +186,8 @@ impl Session {
     }
 
     /// The answer to a line, which has no line end: the reply with its line feed, and nothing for a blank line. After
-    /// running out of memory the session is as before, or, where the line was an accepted `run` or `propagate`, as after out
-    /// of fuel. An answer of more than 12 bytes leaves the session as it was.
+    /// running out of memory the session is as before, or, where the line was an accepted `run` or `propagate`, as
+    /// after out of fuel. An answer of more than 12 bytes leaves the session as it was.
     pub fn answer(&mut self, line: &[u8]) -> Result<Answer, NoMemory>
         ensures reply { IfOk result
             (λ answer. Answers self.old.state
@@ -203,7 +203,7 @@ impl Session {
         answer_line(self.alloc, &mut self.state, line)
     }
 
-    /// The same answer as a text of its own. Its memory is taken before anything changes.
+    /// The same answer as a separate text. Its memory is taken before anything changes.
     pub fn command(&mut self, line: &[u8]) -> Result<Text, NoMemory>
         ensures reply { IfOk result
             (λ text. Answers self.old.state
@@ -220,8 +220,9 @@ impl Session {
         text(self.alloc, &answer, ready)
     }
 
-    /// Whether questions are answered: there is a run that ended within the fuel, and neither an edit nor a repair is pending.
-    /// The contract also says that the state has the fuel, the inputs and the call of the engine, and tells its phase.
+    /// Whether questions are answered: there is a run that ended within the fuel, and neither an edit nor a repair is
+    /// pending. The contract also says that the state has the fuel, the inputs and the call of the engine, and tells
+    /// its phase.
     pub fn is_ready(&self) -> bool
         ensures ready { IsTrue result ↔ IsReady self.now.state }
         ensures tied { IsTied self.now }
@@ -229,9 +230,9 @@ impl Session {
         self.state.is_ready()
     }
 
-    /// The record of the run of the accepted call on the inputs of this moment: its trace, whose blocks have the numbers 0,
-    /// 1 and so on in the order of their allocations, and the memory after it. There is none exactly when a line `steps`
-    /// would be refused.
+    /// The record of the run of the accepted call on the inputs of this moment: its trace, whose blocks have the
+    /// numbers 0, 1 and so on in the order of their allocations, and the memory after it. There is none exactly when a
+    /// line `steps` would be refused.
     pub fn recorded(&self) -> Result<Option<Record>, NoMemory>
         ensures { IfOk result
             (λ found. MatchOption found (¬ IsReady self.now.state)
@@ -251,9 +252,9 @@ impl Session {
         saved(self.alloc, &self.state)
     }
 
-    /// A session that goes on from a save, if it holds. The save may be any, from any maker: the checker goes over its
-    /// record, and the call is run again, so nothing but the numbers of `work` and `bound` is taken from it on trust. Both
-    /// arguments are consumed on every path. Hashes begin with the seed that those of `new` begin with.
+    /// A session that continues from a save, if it holds. The save may be any, from any maker: the checker goes over
+    /// its record, and the call is run again, so nothing but the numbers of `work` and `bound` is taken from it on
+    /// trust. Both arguments are consumed on every path. Hashes begin with the seed that those of `new` begin with.
     pub fn restore(alloc: Global, program: Program, saved: Saved) -> Result<Session, RestoreError>
         requires compiled { IsCompiled program }
         ensures restored { IfOk result
@@ -264,8 +265,8 @@ impl Session {
         Session::restore_seeded(alloc, program, saved, Seed::of_text(b""))
     }
 
-    /// The same, where the hashes of names and of memo keys begin with a seed, as of the text that they come from. Any seed
-    /// gives the same replies.
+    /// The same, where the hashes of names and of memo keys begin with a seed, as of the text that they come from. Any
+    /// seed gives the same replies.
     pub fn restore_seeded(
         alloc: Global,
         program: Program,

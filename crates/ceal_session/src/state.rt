@@ -48,8 +48,8 @@ pub struct State {
     names: Names,
     engine: Engine,
     journal: Journal,
-    /// whether an edit came after the last run or propagate, or a repair goes on; the engine's phase does not tell it of
-    /// an edit where there is no run
+    /// whether an edit came after the last run or propagate, or a repair is in progress; the engine's phase does not
+    /// tell it of an edit where there is no run
     pending: bool,
 }
 
@@ -260,7 +260,7 @@ impl State {
         }
     }
 
-    /// The first run, and how it came out.
+    /// The first run, and its outcome.
     fn start(&mut self, call: &Call) -> Result<Came, RunError>
         requires { IsFirst self.old.state call.now }
         ensures { IsAdvanced (situation self.old) call.now None result (situation self.new) }
@@ -274,8 +274,8 @@ impl State {
         came
     }
 
-    /// The accepted call on the present inputs, whose repair re-executes that many stale reads, or all of them; and how it
-    /// came out.
+    /// The accepted call on the present inputs, whose repair re-executes `reads` stale reads, or all of them; and the
+    /// outcome.
     fn advance(&mut self, reads: Option<u32>) -> Result<Came, RunError>
         requires called { is_some self.old.state.call ≡ true }
         requires some { reads ≢ Some 0 }
@@ -323,7 +323,7 @@ impl State {
         whole_reply(&came)
     }
 
-    /// A part of it: at most that many stale reads are re-executed, each with all that is inside it.
+    /// A part of it: at most `reads` stale reads are re-executed, each with all that is inside it.
     pub fn propagate_part(&mut self, reads: u32) -> Result<Reply, NoMemory>
         requires called { is_some self.old.state.call ≡ true }
         requires some { 1 ≤ reads }

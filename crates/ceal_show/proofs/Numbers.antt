@@ -30,7 +30,7 @@ cores_in-push : (blocks : List BlockId) (b : BlockId) → cores_in (blocks ++ b 
 cores_in-push [] b = omega arith
 cores_in-push (c ∷ cs) b = let p = cores_in-push cs b in omega (arith, p)
 
--- a new block stands after all core blocks
+-- a new block is after all core blocks
 before_new : (blocks : List BlockId) (b : BlockId) → is_in b blocks ≡ false → cores_before b (blocks ++ b ∷ []) ≡ cores_in blocks
 before_new [] b h = rw (same_self b) refl
 before_new (c ∷ cs) b h = elim (same_tells b c) [

@@ -72,7 +72,7 @@ less_total p q = elim (cases_three (length p) (length q)) [
   ]
 ]
 
--- whatever stands after paths of one length more
+-- whatever is after paths of one length more
 pub less_append : (p q r s : List ℕ) → length r ≡ length s → IsLess p q → IsLess (p ++ r) (q ++ s)
 less_append p q r s l (inl h) = let a = length-append p r in let b = length-append q s in inl (omega (arith, a, b, l))
 less_append p q r s l (inr h) =
@@ -86,7 +86,7 @@ less_last p m n h =
     let b = length-append p (n ∷ []) in
     inr (omega (arith, a, b), earlier_last p m n h)
 
--- a path goes on to a larger one
+-- a path is continued to a larger one
 pub less_more : (p : List ℕ) (m : ℕ) → IsLess p (p ++ m ∷ [])
 less_more p m = let a = length-append p (m ∷ []) in inl (omega (arith, a))
 

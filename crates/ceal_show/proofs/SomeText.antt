@@ -15,12 +15,12 @@ use Rattle.ceal_show.proofs.PathOrder.{less_irrefl}
 use Rattle.ceal_show.proofs.Same.{same_self, same_tells}
 use Rattle.ceal_show.proofs.Searching.{Among, Visit, blocks_of, paths_of, rising_behind, visited}
 
--- no block stands twice in the list
+-- no block occurs twice in the list
 abbrev Distinct : List BlockId → Type 0
 Distinct [] = Unit {0}
 Distinct (b ∷ bs) = (is_in b bs ≡ false) × Distinct bs
 
--- the list without the first place where the block stands
+-- the list without the first place of the block
 without : BlockId → List BlockId → List BlockId
 without b [] = []
 without b (c ∷ cs) = if same_block b c then cs else c ∷ without b cs

@@ -48,7 +48,7 @@ abbrev pub core_count : BlockId → ℕ
 core_count (Input n) = 0
 core_count (Core n) = 1
 
--- how many core blocks stand before the block
+-- the number of core blocks before the block
 abbrev pub cores_before : BlockId → List BlockId → ℕ
 cores_before b [] = 0
 cores_before b (c ∷ cs) = if same_block b c then 0 else core_count c + cores_before b cs

@@ -13,8 +13,8 @@ pub fn save_or_none()
     ensures law { SaveOrNoneLaw }
 {}
 
-/// A law: what is written of a save is read as that save. `save_text` writes it (`save`), and of a save `read_save` gives it,
-/// if there is memory.
+/// A law: what is written of a save is read as that save. `save_text` writes it (`save`), and of a save `read_save`
+/// gives it, if there is memory.
 pub fn read_back_law()
     ensures law { ReadBackLaw }
 {}

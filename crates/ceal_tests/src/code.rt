@@ -50,7 +50,7 @@ fn branch(yes: u32, no: u32) -> Cmd {
     }
 }
 
-/// Goes on in a unit with these variables as arguments.
+/// Continues in a unit with these variables as arguments.
 fn tail<R: Abort>(rt: &R, alloc: Global, unit: u32, args: &[u32]) -> Cmd {
     Cmd::Tail {
         unit: UnitId(unit),

@@ -1,6 +1,6 @@
-//! The tests that take only public calls, of all crates but the runtime's containers (ceal_runtime_tests) and what runs and repairs
-//! over them (ceal_engine_tests). A module has the tests of one crate. No crate stands on this one. What is one whole input
-//! with its answer is no test but a row of ceal_rows.
+//! The tests that take only public calls, of all crates but the runtime's containers (ceal_runtime_tests) and what runs
+//! and repairs over them (ceal_engine_tests). A module has the tests of one crate. No crate uses this one. What is one
+//! whole input with its answer is no test but a row of ceal_rows.
 #![tactic(auto)]
 
 #[cfg(test)]

@@ -1,5 +1,5 @@
-// Printed programs: where parentheses stand, how an else part of one `if` is printed, and that what is printed reads
-// back.
+// Printed programs: where there are parentheses, how an else part of one `if` is printed, and that what is printed
+// reads back.
 
 ghost use Rattle.ceal_print.specs.Print.{IsParsed};
 

@@ -80,7 +80,7 @@ fn a_tree_of_one(rt: HostRuntime) {
     drop(text);
 }
 
-// The workload has that many bytes.
+// The workload has `length` bytes.
 fn has_length<R: Abort>(rt: &R, alloc: Global, kind: Workload, length: usize) {
     let text = workload(alloc, kind, 1, 40_000).expect(rt, "memory");
     equal(rt, text.items().len(), length);

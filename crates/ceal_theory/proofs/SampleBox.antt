@@ -38,8 +38,8 @@ number n = record { shape = ModInt; words = Num (pos n) ∷ [] }
 abbrev pub pointer : Word → Block
 pointer word = record { shape = ModPtr 0; words = word ∷ [] }
 
--- BOX: `make` puts a box into the modifiable where the number is its own one, `look` reads the box, and `top` makes for 1
--- and for 2 and then looks.
+-- BOX: `make` puts a box into the modifiable where the number is its own one, `look` reads the box, and `top` makes for
+-- 1 and for 2 and then looks.
 abbrev pub box : Code
 box = record {
   structs = record { name = []; fields = record { name = []; kind = PlainField Int; row = 0 } ∷ [] } ∷ [];

@@ -1,4 +1,4 @@
--- Repairs that go on: slices, turns of one read, and what holds after each.
+-- Repairs in progress: slices, turns of one read, and what holds after each.
 -- what crates above cite
 pub mod SliceLaws
 pub mod CarriedLaws

@@ -17,12 +17,12 @@ use Rattle.ceal_theory.specs.Named.{Named, then_from}
 use Rattle.ceal_theory.specs.Repair.{State, begins}
 use Rattle.ceal_theory.specs.Turns.{Machine, Fixing, Running, Bottom, Ended, turn, Leads}
 
--- the names go on from these numbers
+-- the names continue these numbers
 abbrev pub Continues : List ℕ → (ℕ → ℕ) → Type 0
 Continues bs names = (k b : ℕ) → slice_get bs k ≡ Some b → names k ≡ b
 
--- The machine that began has come to this one and has written these items, and has given its new blocks these numbers:
--- so it is with all names that go on from them.
+-- The machine that began has become this one and has written these items, and has given its new blocks these numbers:
+-- so it is with all names that continue them.
 pub record ComesBy (code : Code) (start m : Machine) (chosen : List ℕ) (out : List Item) : Type 0 where
   pub number : m.state.number ≡ length chosen
   pub leads : (names : ℕ → ℕ) → Continues chosen names → Leads code names start m out

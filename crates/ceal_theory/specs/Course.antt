@@ -1,5 +1,5 @@
 -- The course of a turn over nodes: what an engine does to its nodes is what the machine of repair does in its
--- turns, but for steps that stand between the items of what is left over, which do not matter and may be
+-- turns, but for steps that are between the items of what is left over, which do not matter and may be
 -- dropped.
 use Rattle.std.specs.Prelude.{◌≡◌, ℕ, suc, ◌≤◌, ◌<◌, true, false, Some, None, List, [], ◌∷◌, ◌++◌, length}
 use Rattle.ceal_base.specs.Block.{Block}
@@ -36,7 +36,7 @@ pub data Wait : Type 0 where
   Takes : (below : Stack) → Wait
   Begins : (below : Stack) → Wait
 
--- what waits, where these levels of old items stand around those of now
+-- what waits, where these levels of old items are around those of now
 abbrev pub frames_at : List Wait → List Trace → Frames
 frames_at [] ts = Bottom
 frames_at (Fixes ∷ ws) ts = AfterFix (first ts) (frames_at ws (around ts))
@@ -87,7 +87,7 @@ pub record BareSame (m m' : Machine) : Type 0 where
 abbrev pub BareLaw : Type 0
 BareLaw = (code : Code) (names : ℕ → ℕ) (m m' : Machine) → BareSame m m' → Leads code names m m' []
 
--- What an engine does to its nodes. After the cursor stand the nodes of a grove, which are left over, and
+-- What an engine does to its nodes. After the cursor are the nodes of a grove, which are left over, and
 -- then the end of the read that is repaired, or nothing.
 pub record Moves (code : Code) (names : ℕ → ℕ) : Type 0 where
   -- kept items that agree with the store are passed
@@ -100,7 +100,7 @@ pub record Moves (code : Code) (names : ℕ → ℕ) : Type 0 where
       (stamp n : ℕ) (back : List Knot) → same_word (s.store p) value ≡ false
       → Leads code names (fixing_at s ws (items_in (knot stamp (Read p value u v args) n ∷ back)))
       (running_at s (resumed code u v args (s.store p)) (Fixes ∷ ws) (items_in back)) (Read p (s.store p) u v args ∷ [])
-  -- its unit is over: what is left over is revoked, and what is kept goes on after its end
+  -- its unit is over: what is left over is revoked, and what is kept continues after its end
   pub repaired : (s : State) (st : Stack) (ws : List Wait) (g : Grove) (e m : ℕ) (rest : List Knot)
       → next code s.plain st ≡ Over
       → Leads code names (running_at s st (Fixes ∷ ws) (items_in (knots g ++ knot e End m ∷ rest)))
@@ -181,7 +181,7 @@ WorkLaw = (code : Code) (names : ℕ → ℕ) (start m : Machine) (out : List It
     → (t : State) (items : List Item) → Finishes code names start t items
     → (m.state.work ≤ t.work) × (steps_in out ≤ steps_in items)
 
--- A turn that has come to an end is a slice of one read; one whose work is more than n by now has no slice of
+-- A turn that has ended is a slice of one read; one whose work is more than n by now has no slice of
 -- n steps spent.
 pub record TurnCourse
     (code : Code) (names : ℕ → ℕ) (inputs : List Block) (r : Repair) (front : List Item)

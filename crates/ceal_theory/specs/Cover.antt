@@ -1,4 +1,4 @@
--- What the queue of a repair that goes on has to hold, over the items in the order of time, each with its stamp.
+-- What the queue of a repair in progress has to hold, over the items in the order of time, each with its stamp.
 use Rattle.std.specs.Prelude.{◌≡◌, ℕ, ◌==◌, ◌||◌, Bool, true, false, if◌then◌else◌, Option, Some, None, List, [], ◌∷◌, ◌++◌, ◌⊎◌, ⊤}
 use Rattle.ceal_base.specs.Operators.{same_place}
 use Rattle.ceal_base.specs.Trace.{Trace, Stepped, Allocated, Wrote, WasRead, flat}
@@ -49,7 +49,7 @@ closed w p = λ q. if same_place q p then false else w q
 unfoldable pub opened : Waiting → Place → Bool → Waiting
 opened w p b = λ q. if same_place q p then w q || b else w q
 
--- Each read that is not honest is queued, or a queued read of its place stands before it with no write of the
+-- Each read that is not honest is queued, or a queued read of its place is before it with no write of the
 -- place between.
 abbrev pub Covered : Code → Queue → Store → Waiting → Nodes → Type 0
 Covered code q s w Nil = ⊤
@@ -83,7 +83,7 @@ abbrev pub NoneQueued : Queue → Nodes → Type 0
 NoneQueued q Nil = ⊤
 NoneQueued q (Node n i rest) = (q n ≡ false) × NoneQueued q rest
 
--- the stamp stands at none of these
+-- the stamp is at none of these
 abbrev pub Absent : ℕ → Nodes → Type 0
 Absent m Nil = ⊤
 Absent m (Node n i rest) = ((n == m) ≡ false) × Absent m rest

@@ -84,7 +84,7 @@ pub record FlatLaws (code : Code) (names : ℕ → ℕ) : Type 0 where
       → Leads code names (flat_machine s GoesThrough (Mends below n ∷ fs) (End ∷ is))
       (flat_machine s (Runs below n) fs is) (End ∷ [])
   pub last : (s : State) → turn code names (flat_machine s GoesThrough [] []) ≡ Ended
-  -- a stack that is over: what it leaves over is revoked, or goes on to what follows
+  -- a stack that is over: what it leaves over is revoked, or continues to what follows
   pub over_fixes : (s : State) (fs : List FlatFrame) (st : Stack) (n : ℕ) (is : List Item) → next code s.plain st ≡ Over
       → Leads code names (flat_machine s (Runs st n) (Fixes ∷ fs) is)
       (flat_machine s GoesThrough fs (skipped n is)) (End ∷ [])

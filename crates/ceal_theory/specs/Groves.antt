@@ -64,7 +64,7 @@ cut (Made s b key n rest) = rest
 cut (Put s p v n rest) = rest
 cut (Got s p v u x args n inside e m rest) = joined inside rest
 
--- without the steps that stand between its own items; those inside a read stay
+-- without the steps that are between its own items; those inside a read stay
 abbrev pub bare : Trace → Trace
 bare Nothing = Nothing
 bare (Stepped rest) = bare rest
@@ -162,7 +162,7 @@ LacksRead p u x args [] = ⊤
 LacksRead p u x args (k ∷ ks) = LacksReadItem p u x args k.item × LacksRead p u x args ks
 
 -- Taking is kept by revoking: to revoke the first node of what is left over, with its end, where it is not
--- the one that is asked for, changes nothing of what is taken but for steps; so the first node that is the
+-- the one that is asked for, changes nothing of what is taken but for steps. So the first node that is the
 -- one is what is taken, and where none is, nothing is.
 pub record Takings : Type 0 where
   pub alloc_kept : (key : Key) (g : Grove) → first_has key g ≡ false

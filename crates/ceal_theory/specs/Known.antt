@@ -91,7 +91,7 @@ pub data KnownItems (n : ℕ) : List ℕ → List Item → List ℕ → Type 0 w
       → KnownBlock n bs p.block → KnownWord n bs value → KnownWords n bs args → KnownItems n bs is cs
       → KnownItems n bs (Read p value u v args ∷ is) cs
 
--- the machine goes on knowing, and what it writes mentions only known blocks
+-- the machine still knows, and what it writes mentions only known blocks
 pub record GoesKnowing (code : Code) (n : ℕ) (ds bs : List ℕ) (written : List Item) (m : Machine) : Type 0 where
   pub known : List ℕ
   pub items : KnownItems n bs written known

@@ -1,5 +1,5 @@
 -- A part of flat items as traces: what is left over of old items is a part of their flat list. An `End` whose `Read`
--- stands before the part closes a level of it.
+-- is before the part closes a level of it.
 use Rattle.std.specs.Prelude.{◌≡◌, ℕ, zero, suc, pred, ◌==◌, ◌&&◌, Bool, if◌then◌else◌, Option, Some, None, List, [], ◌∷◌, ◌++◌}
 use Rattle.ceal_base.specs.Operators.{same_place}
 use Rattle.ceal_base.specs.Trace.{Trace, Nothing, Stepped, Allocated, Wrote, WasRead, followed, flat}

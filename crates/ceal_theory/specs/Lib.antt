@@ -5,7 +5,7 @@ pub mod Repair
 pub mod Adjust
 pub mod Computed
 pub mod Laws
--- the same turn by turn, over trees and over flat items
+-- the same, one move at a time, over trees and over flat items
 pub mod Turns
 pub mod Levels
 pub mod FlatMachine
@@ -20,7 +20,7 @@ pub mod KeptSteps
 pub mod Known
 pub mod KnownContent
 pub mod MoreInputs
--- repairs that go on in slices, and their queue
+-- repairs in slices, and their queue
 pub mod Slices
 pub mod SliceLaws
 pub mod Carried

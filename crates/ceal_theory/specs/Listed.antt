@@ -1,4 +1,4 @@
--- The front of a repair that goes on, as lists of writes by place see it.
+-- The front of a repair in progress, as lists of writes by place see it.
 use Rattle.std.specs.Prelude.{◌≡◌, ℕ, List, [], ◌++◌, length}
 use Rattle.ceal_base.specs.Block.{Block}
 use Rattle.ceal_base.specs.Trace.{flat}

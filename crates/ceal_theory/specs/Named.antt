@@ -115,8 +115,8 @@ then_from [] bound k = bound + k
 then_from (b ∷ bs) bound zero = b
 then_from (b ∷ bs) bound (suc k) = then_from bs bound k
 
--- Numbers that were handed out go on as names: they are those numbers, one to one, and apart from the trace, where each
--- of them is, and all are below the bound.
+-- Numbers that were handed out are continued as names: they are those numbers, one to one, and apart from the trace,
+-- where each of them is, and all are below the bound.
 abbrev pub HandedLaw : Type 0
 HandedLaw = (bs : List ℕ) (bound : ℕ) → Distinct bs → ((b : ℕ) → In b bs → b < bound)
     → Single (then_from bs bound) × ((k b : ℕ) → slice_get bs k ≡ Some b → then_from bs bound k ≡ b)

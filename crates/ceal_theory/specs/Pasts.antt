@@ -12,7 +12,7 @@ use Rattle.ceal_theory.specs.Laws.{RenamedRepair}
 use Rattle.ceal_theory.specs.Repair.{own}
 use Rattle.ceal_theory.specs.Slices.{Repair, beginning, sliced, is_done, Sound}
 
--- no trace, a trace with its work, or a repair that goes on
+-- no trace, a trace with its work, or a repair in progress
 pub data Past : Type 0 where
   NoTrace : Past
   Traced : (run : Repaired) → Past
@@ -28,7 +28,7 @@ abbrev pub number_above : List ℕ → ℕ
 number_above [] = 0
 number_above (b ∷ bs) = max (suc b) (number_above bs)
 
--- the repair from which a slice goes on: the one that is pending, or a new one of the trace
+-- the repair from which a slice continues: the one that is pending, or a new one of the trace
 abbrev pub next_repair : Code → List Block → Past → Option Repair
 next_repair code inputs NoTrace = None
 next_repair code inputs (Traced l) =
@@ -40,7 +40,7 @@ abbrev pub done_past : Option Repaired → Repair → Past
 done_past None r = NoTrace
 done_past (Some first) r = Traced (record { items = r.items; work = r.spent })
 
--- what a slice leaves: a repair that goes on or is done; where there is none the call is run again
+-- what a slice leaves: a repair that is in progress or done; where there is none the call is run again
 abbrev pub left_by : Code → List Block → Option Repaired → Option Repair → Past
 left_by code inputs first None = first_past first
 left_by code inputs first (Some r) = if is_done code inputs r then done_past first r else Going r
@@ -56,7 +56,7 @@ abbrev pub past_behind : Code → List Block → ℕ → Option Repaired → Opt
 past_behind code inputs fuel first k past =
     left_by code inputs first (slice_of code inputs fuel k (next_repair code inputs past))
 
--- whether a repair goes on
+-- whether a repair is in progress
 abbrev pub goes : Past → Bool
 goes NoTrace = false
 goes (Traced l) = false

@@ -90,7 +90,7 @@ mutual
         → Anew code names s (resumed code u v args (s.store p)) inside t inside' left
         → Mend code names s p u v args value inside t inside'
 
-  -- the stack is re-executed with a leftover; it comes to a state, makes items, and leaves a rest of the leftover
+  -- the stack is re-executed with a leftover; it ends in a state, makes items, and leaves a rest of the leftover
   pub data Anew (code : Code) (names : ℕ → ℕ) : State → Stack → Trace → State → Trace → Trace → Type 0 where
     over : {s : State} {st : Stack} {old : Trace} → next code s.plain st ≡ Over → Anew code names s st old s Nothing old
     quiet : {s s' : State} {st after : Stack} {old new left : Trace}

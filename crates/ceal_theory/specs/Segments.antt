@@ -40,9 +40,9 @@ abbrev pub NoRead : Place → UnitId → ℕ → List Word → List Item → Typ
 NoRead p u v args [] = ⊤
 NoRead p u v args (i ∷ is) = (value_of_read i p u v args ≡ None) × NoRead p u v args is
 
--- After n levels stand the items after the End that closes them.
+-- After n levels are the items after the End that closes them.
 -- The first item with the key before the End that closes n levels is found, with the levels that are open there;
--- where none stands before that End nothing is found.
+-- where there is none before that End nothing is found.
 abbrev pub SegmentLaw : Type 0
 SegmentLaw = (n k : ℕ) (front : List Item) → opens_all front n ≡ Some k
     → ((back : List Item) → k ≡ 0 → skipped (suc n) (front ++ End ∷ back) ≡ back)

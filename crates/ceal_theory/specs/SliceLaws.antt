@@ -27,7 +27,7 @@ use Rattle.ceal_theory.specs.Cover.{known_after, Nodes, Nil, Node, items_of, bef
 use Rattle.ceal_theory.specs.Walk.{store_after, AgreesAll}
 use Rattle.ceal_theory.specs.Slices.{NamesApart, Repair, with_inputs, starting, Runs, repair_at, goes_on, Slices, sliced, Sound, beginning, AlikeRepairs, RenamedSlices, is_done}
 
--- how often a core block stands among the items
+-- how often a core block occurs among the items
 abbrev pub held : ℕ → Trace → ℕ
 held b l = count b (core_numbers (blocks_of l))
 
@@ -93,7 +93,7 @@ DoneLaw =
     → (r : Repair) → Sound code names inputs f args r
     → (h : IsHonest code inputs r.items) → Ended code inputs f args r.items h
 
--- the store in which a slice begins says of the items whether they are honest, as the bases alone do
+-- the store in which a slice begins says of the items whether they are honest, as only the bases do
 abbrev pub StartLaw : Type 0
 StartLaw =
     (code : Code) (names : ℕ → ℕ) (inputs : List Block) (f : ℕ) (args : List Word) → Fits code inputs f args
@@ -120,7 +120,7 @@ pub data SameRepair : Option Repaired → Option Repair → Type 0 where
   none : SameRepair None None
   some : {a : Repaired} {r : Repair} → r.items ≡ a.items → r.spent ≡ a.work → SameRepair (Some a) (Some r)
 
--- the repair that goes on has these items and this number of steps spent
+-- the repair in progress has these items and this number of steps spent
 pub record ComesTo
     (code : Code) (names : ℕ → ℕ) (inputs : List Block) (r : Repair) (m : Trace) (work : ℕ) : Type 0 where
   pub repair : Repair
@@ -166,7 +166,7 @@ pub record NamedBeginning
   pub same : (b c : ℕ) → Tied b c pairs → (b ≡ c) × (1 ≤ held b l)
 
 -- so, with the law above, slices with the numbers that a heap gives are the slices with numbers in their
--- order, renamed at new blocks alone
+-- order, renamed only at new blocks
 abbrev pub NamedBeginningLaw : Type 0
 NamedBeginningLaw =
     (code : Code) (names names' : ℕ → ℕ) (old new : List Block) (f : ℕ) (args : List Word) (l : Trace)
@@ -200,7 +200,7 @@ IsDoneLaw =
     → (is_done code inputs r ≡ true → IsHonest code inputs r.items)
     × (IsHonest code inputs r.items → is_done code inputs r ≡ true)
 
--- what a slice comes to from the bases alone, core blocks having 0 before their allocation
+-- the result of a slice from only the bases, core blocks having 0 before their allocation
 pub record FromBases (code : Code) (names : ℕ → ℕ) (inputs : List Block) (k : Option ℕ) (r r' : Repair) : Type 0 where
   pub after : State
   pub items : Trace
@@ -376,7 +376,7 @@ SplitLaw =
     → (k : ℕ) (r' : Repair) → Slices code names inputs (Some k) r r' → (o : Option ℕ) → ¬ (o ≡ Some zero)
     → Split code names inputs k r r' o
 
--- what turns come to has no slice within n steps spent: then no more has what they began with
+-- the result of turns has no slice within n steps spent: then no more has what they began with
 pub record TurnedOver (code : Code) (names : ℕ → ℕ) (inputs : List Block) (turns : ℕ) (r z : Repair) : Type 0 where
   pub whole : (n : ℕ) → sliced code names inputs None n z ≡ None → sliced code names inputs None n r ≡ None
   pub part : (n j : ℕ) → sliced code names inputs (Some (suc j)) n z ≡ None
@@ -390,7 +390,7 @@ TurnsOverLaw =
 
 -- A turn keeps the cover, from the start of the old repair to that of the new one, whose known blocks are
 -- more: the nodes of the stale read and of what is inside it give place to those of its new items. The first
--- read after its end is to be queued of each place whose content differs there, or of which somebody waited.
+-- read after its end must be queued of each place whose content differs there, or of which somebody waited.
 abbrev pub KeepLaw : Type 0
 KeepLaw =
     (code : Code) (names : ℕ → ℕ) (inputs : List Block) (f : ℕ) (ws : List Word) → Fits code inputs f ws

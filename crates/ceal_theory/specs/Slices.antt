@@ -1,4 +1,4 @@
--- The repair of a trace in slices: a repair that goes on, what a slice of it does, and what holds of it.
+-- The repair of a trace in slices: a repair in progress, what a slice of it does, and what holds of it.
 use Rattle.std.specs.Prelude.{◌≡◌, ℕ, zero, suc, ◌+◌, ◌≤◌, pos, nat_le, Bool, true, false, Option, Some, None, List, length, slice_get, if◌then◌else◌, ⊤, is_some}
 use Rattle.ceal_base.specs.Block.{Block}
 use Rattle.ceal_base.specs.Operators.{same_word}
@@ -20,7 +20,7 @@ use Rattle.ceal_code.specs.Value.{Plain, field_kind}
 use Rattle.ceal_theory.specs.Computed.{Runner, Ran, Fixed, fix_by, anew}
 use Rattle.ceal_theory.specs.Repair.{Single, State, clears, puts, resumed, Fix, Anew}
 
--- A repair that goes on: the items as they are, the plain words of the core blocks that were known since it began, the
+-- A repair in progress: the items as they are, the plain words of the core blocks that were known since it began, the
 -- number of the next new block, and the steps that were re-executed.
 pub record Repair : Type 0 where
   pub items : Trace
@@ -157,7 +157,7 @@ sliced code names inputs None n r =
 sliced code names inputs (Some k) n r =
     part_within n (part_by code (anew code names (n + 1)) k (goes_on code inputs r) r.items)
 
--- each item mentions inputs and core blocks of the list alone, in any order
+-- each item mentions only inputs and core blocks of the list, in any order
 abbrev pub Uses : ℕ → List ℕ → Trace → Type 0
 Uses n bs Nothing = ⊤
 Uses n bs (Stepped rest) = Uses n bs rest
@@ -212,7 +212,7 @@ pub data RenamedSlices (code : Code) (names names' : ℕ → ℕ) (inputs : List
       → ((b c : ℕ) → Tied b c qs → ComesBehind names names' ps r q b c)
       → RenamedSlices code names names' inputs ps r q (Some r') (Some q')
 
--- after a slice of k reads a further one comes to what one slice of this repair comes to
+-- after a slice of k reads a further one has the result of one slice of this repair
 pub data Follows (code : Code) (names : ℕ → ℕ) (inputs : List Block) (k : ℕ) (r : Repair) : Option ℕ → Repair
     → Type 0 where
   whole : {z : Repair} → Slices code names inputs None r z → Follows code names inputs k r None z

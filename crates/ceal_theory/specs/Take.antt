@@ -1,5 +1,5 @@
 -- What is taken from old items while a unit is re-executed: the earliest item with the same key.
--- What stands before it is revoked, and what stands after it is left over
+-- What is before it is revoked, and what is after it is left over
 -- (our own; the 2009 design matches by keys too).
 use Rattle.std.specs.Prelude.{ℕ, ◌==◌, ◌&&◌, Bool, true, false, if◌then◌else◌, Option, Some, None, List, [], ◌∷◌}
 use Rattle.ceal_base.specs.Operators.{same_place, same_word}

@@ -34,7 +34,7 @@ pub record Machine : Type 0 where
   pub mode : Mode
   pub frames : Frames
 
--- the machine has ended, or it writes items and goes on
+-- the machine has ended, or it writes items and continues
 pub data Turn : Type 0 where
   Ended : Turn
   Went : (written : List Item) (machine : Machine) → Turn
@@ -131,7 +131,7 @@ pub record Goes (code : Code) (names : ℕ → ℕ) (m : Machine) (s' : State) (
   pub same : out ≡ written ++ rest
   pub finishes : Finishes code names m s' rest
 
--- the one machine comes to the other, and has written these items: each finishes where the other does
+-- the one machine becomes the other, and has written these items: each finishes where the other does
 pub record Leads (code : Code) (names : ℕ → ℕ) (m m' : Machine) (written : List Item) : Type 0 where
   pub back : (s' : State) (rest : List Item) → Finishes code names m' s' rest
       → Finishes code names m s' (written ++ rest)

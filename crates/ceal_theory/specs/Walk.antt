@@ -88,7 +88,7 @@ HonestFixLaw =
     (code : Code) (names : ℕ → ℕ) (s : State) (l : Trace) (t : Store) → Honest code s.store l t
     → Fix code names s l (with_store s t) l
 
--- what stands before the first read that is stale stays as it is
+-- what is before the first read that is stale stays as it is
 abbrev pub PrefixLaw : Type 0
 PrefixLaw = (code : Code) (names : ℕ → ℕ) (s s' : State) (l m : Trace) → Fix code names s l s' m
     → (h : Stale code s.store (flat l)) → (rest : List Item) × (flat m ≡ h.front ++ rest)

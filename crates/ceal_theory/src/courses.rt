@@ -13,7 +13,7 @@ pub fn moves_law()
     ensures law { MovesLaw }
 {}
 
-/// Taking is kept by revoking what stands before.
+/// Taking is kept by revoking what is before.
 pub fn taking_law()
     ensures law { TakingLaw }
 {}

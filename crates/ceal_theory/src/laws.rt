@@ -3,8 +3,8 @@
 ghost use Rattle.ceal_theory.specs.Laws.{EndLaw, FirstLaw, FunctionLaw, RenamedLaw, RenamedRepairLaw, RepairLaw, UnchangedLaw, UniqueLaw};
 
 /// What a repair gives is a trace of the call on the new inputs: it replays and is honest, its blocks are distinct, and
-/// those that the old trace has not have numbers from the next one on (change propagation is consistent, as Acar and
-/// others proved of it for other languages).
+/// those that the old trace has not have numbers from the next one on. (Change propagation is consistent, as Acar and
+/// others proved of it for other languages.)
 pub fn repair_law()
     ensures law { RepairLaw }
 {}

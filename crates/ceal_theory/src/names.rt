@@ -4,12 +4,12 @@ ghost use Rattle.ceal_theory.specs.Chosen.{ChosenLaw};
 ghost use Rattle.ceal_theory.specs.Named.{HandedLaw, NamedFirstLaw, NamedLaw, RenamingLaw};
 ghost use Rattle.ceal_theory.specs.Segments.{RenamedItemsLaw};
 
-/// The repair where the new blocks have given numbers is the repair with these in place of its own.
+/// The repair where the new blocks have given numbers is the repair with these in place of its numbers.
 pub fn named_law()
     ensures law { NamedLaw }
 {}
 
-/// The first trace where the blocks have given numbers is the first trace with these in place of its own.
+/// The first trace where the blocks have given numbers is the first trace with these in place of its numbers.
 pub fn named_first_law()
     ensures law { NamedFirstLaw }
 {}

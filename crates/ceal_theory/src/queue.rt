@@ -13,7 +13,7 @@ pub fn pop_law()
     ensures law { PopLaw }
 {}
 
-/// Honest nodes may stand in front of covered ones.
+/// Honest nodes may be in front of covered ones.
 pub fn front_law()
     ensures law { FrontLaw }
 {}

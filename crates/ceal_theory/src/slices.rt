@@ -1,4 +1,4 @@
-// Laws of repairs that go on in slices, each the contract of a function that does nothing.
+// Laws of repairs in slices, each the contract of a function that does nothing.
 
 ghost use Rattle.ceal_theory.specs.Listed.{ListedLaw};
 ghost use Rattle.ceal_theory.specs.SliceLaws.{StartLaw, OtherNamesLaw, NamedBeginningLaw, BeginLaw, MoreLaw, SliceLaw, DoneLaw, IsDoneLaw, WholeLaw, StaysLaw, BegunLaw, BegunAdjustedLaw, SlicesLaw, FollowLaw, SplitLaw, BasesLaw, TurnLaw, ReadyLaw, TurnsLaw, TurnsOverLaw, RenamedSliceLaw, RenamedSoundLaw, HistoryLaw};
@@ -13,7 +13,7 @@ pub fn more_law()
     ensures law { MoreLaw }
 {}
 
-/// What a slice comes to holds again, with new blocks of new names, and what was revoked stays so.
+/// The result of a slice holds again, with new blocks of new names, and what was revoked stays so.
 pub fn slice_law()
     ensures law { SliceLaw }
 {}

@@ -28,7 +28,7 @@ pub fn honest_fix_law()
     ensures law { HonestFixLaw }
 {}
 
-/// What stands before the first stale read stays.
+/// What is before the first stale read stays.
 pub fn prefix_law()
     ensures law { PrefixLaw }
 {}

@@ -14,7 +14,7 @@ use Rattle.ceal_trace.specs.declared.node.Node.TheVariants.{Root, Alloc, Write, 
 use Rattle.ceal_trace.specs.Nodes.{Entry, steps_sum}
 use Rattle.ceal_trace.specs.Items.{ticks, forest_of, unclosed, unclosed_after, Nests}
 
--- that many steps, and then a trace
+-- this number of steps, and then a trace
 abbrev ticked : ℕ → Trace → Trace
 ticked zero t = t
 ticked (suc n) t = Stepped (ticked n t)
@@ -44,7 +44,7 @@ sum-ticked : (n : ℕ) (t : Trace) (ts : List Trace) → sum_of (ticked n t) ts 
 sum-ticked n t [] = steps-ticked n t
 sum-ticked n t (u ∷ us) = let own = steps-ticked n t in omega arith
 
--- the traces that nodes stand for where that many reads before them are not closed
+-- the traces that nodes stand for where this number of reads before them are not closed
 record Levels (open_reads : ℕ) (es : List Entry) : Type 0 where
   inner : Trace
   outer : List Trace
@@ -87,7 +87,7 @@ module _ (k n : ℕ) (es : List Entry) where
   front_steps : (l : Levels k es) → sum_of (ticked n l.inner) l.outer ≡ n + steps_sum es
   front_steps l = let own = sum-ticked n l.inner l.outer in let rest = l.steps in omega arith
 
--- a read takes the innermost trace inside, and goes on with the one around it
+-- a read takes the innermost trace inside, and continues with the one around it
 read_level : (s n k : ℕ) (place : Place) (value : Word) (unit : UnitId) (var : ℕ) (args : List Word) (es : List Entry) (inner : Trace) (outer : List Trace)
     → length outer ≡ suc k → joined inner outer ≡ forest_of es → sum_of inner outer ≡ steps_sum es
     → Levels k (record { stamp = s; node = Read place value unit var args; steps = n } ∷ es)

@@ -26,7 +26,7 @@ unclosed-append (e ∷ es) back (Some reads) = unclosed-append es back (unclosed
 none-left : (es : List Entry) (reads : List ℕ) → unclosed None es ≡ Some reads → ⊥
 none-left es reads h = absurd (cc)
 
--- reads that were not closed before stay so through what closes all of its own
+-- reads that were not closed before stay so through what closes all that it opens
 around-node : (s : ℕ) (node : Node) (above below reads : List ℕ) → unclosed_after s node above ≡ Some reads → unclosed_after s node (above ++ below) ≡ Some (reads ++ below)
 around-node s Root above below reads h = let e : above ≡ reads = cc in ap (λ rs. Some (rs ++ below)) e
 around-node s (Alloc block key) above below reads h = let e : above ≡ reads = cc in ap (λ rs. Some (rs ++ below)) e

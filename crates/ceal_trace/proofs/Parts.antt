@@ -22,7 +22,7 @@ forest-append (e ∷ es) back =
     ∙ (ap (λ (l : List Item). item_of e.node ++ l) (sym (append_assoc (ticks e.steps) (forest_of es) (forest_of back)))
     ∙ sym (append_assoc (item_of e.node) (ticks e.steps ++ forest_of es) (forest_of back)))
 
--- where a node stands
+-- the place of a node
 pub split_at : (s : ℕ) (nodes : List Entry) → has_node s nodes ≡ true
     → (front : List Entry) × (e : Entry) × (back : List Entry) × (nodes ≡ front ++ e ∷ back) × (e.stamp ≡ s) × (has_node s front ≡ false)
 split_at s [] found = absurd (cc)

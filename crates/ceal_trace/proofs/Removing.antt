@@ -19,7 +19,7 @@ held_is order t s found = ap held_by (entry_found order t s found)
 pub steps_are : (order : Listing) (t : Table) (s : ℕ) → is_in s order.stamps ≡ true → steps_at s (timeline order t).nodes ≡ steps_of t s
 steps_are order t s found = ap steps_on (entry_found order t s found)
 
--- what stands at a stamp is one node
+-- at a stamp there is one node
 pub some_same : (a b : Node) (o : Option Node) → o ≡ Some a → o ≡ Some b → a ≡ b
 some_same a b o first second = cc
 

@@ -48,7 +48,7 @@ place_tells a b (x ∷ xs) found also same = elim (eqb_tells x a) [
   ]
 ]
 
--- what stands up to another one still does among more of them
+-- what is up to another one still is among more of them
 pub up_to : (more a b : ℕ) (fewer all : List ℕ) → OneMore more fewer all → is_in a fewer ≡ true → is_in b fewer ≡ true
     → place a fewer ≤ place b fewer → place a all ≤ place b all
 up_to more a b fewer all one a_in b_in low = elim (eqb_tells a b) [

@@ -34,7 +34,7 @@ index-count [] i h = absurd (omega (arith, h))
 index-count (b ∷ bs) zero h = omega (arith, one-at b b refl)
 index-count (b ∷ bs) (suc i) h = omega (arith, index-count bs i (omega (arith, h)))
 
--- where a number of a list stands
+-- where a number of a list is
 pub index-slice : (bs : List ℕ) → Distinct bs → (i : ℕ) → i < length bs → index_of bs (slice_index bs i) ≡ i
 index-slice [] d i h = absurd (omega (arith, h))
 index-slice (b ∷ bs) d zero h = rw (nat-refl b) refl

@@ -1,5 +1,5 @@
--- What each stage of the check has found: `m` is the memory before the items, `learnt` the one that has their blocks, and
--- `after` the one that has their contents too.
+-- What each stage of the check has found: `m` is the memory before the items, `learnt` the one that has their blocks,
+-- and `after` the one that has their contents too.
 use Rattle.std.proofs.Common.{◌≡◌, ℕ, ◌<◌, true, false, List, [], length, slice_get, sym, ap, ◌∙◌}
 use Rattle.std.specs.Prelude.{◌↔◌}
 use Rattle.ceal_base.specs.Block.{Block}

@@ -11,7 +11,7 @@ use Rattle.ceal_traceck.specs.Verdicts.{Means}
 use Rattle.ceal_traceck.specs.declared.verdict.Verdict.{Verdict}
 use Rattle.ceal_traceck.specs.declared.verdict.Verdict.TheVariants.{Yes}
 
--- the core block of this number, where the blocks stand in the order of these numbers
+-- the core block of this number, where the blocks are in the order of these numbers
 abbrev pub block_of : List ℕ → List Block → ℕ → Option Block
 block_of numbers made b = slice_get made (index_of numbers b)
 

@@ -18,7 +18,7 @@ use Rattle.ceal_code.specs.declared.stack.Stack.{Stack as CodeStack}
 use Rattle.ceal_traceck.specs.declared.replay.Walk.{Walk}
 
 -- The items are those of a stack whose next step is this one, and then of the stacks that wait, the innermost first.
--- Each read goes on with its recorded value, and each allocation gives its recorded block.
+-- Each read continues with its recorded value, and each allocation gives its recorded block.
 pub data Accepts (code : Code) (x : Plain) : Act → List Stack → List Item → Type 0 where
   ends : Accepts code x Over [] []
   closes : {st : Stack} {below : List Stack} {is : List Item} → Accepts code x (next code x st) below is

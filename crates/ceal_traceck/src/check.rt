@@ -39,10 +39,10 @@ fn check_items(alloc: Global, code: &Code, kept: &Record) -> Result<Verdict, NoM
     }
 }
 
-/// Checks a record against valid code. It goes through the items a fixed number of times, and keeps a table of the blocks that
-/// they allocate; the record may be any, from any maker. A yes says what the run from scratch of the recorded call comes to
-/// (`laws::sound_law`). The check of a trace by its replay is that of self-adjusting computation's consistency (Acar,
-/// *Self-Adjusting Computation*, 2005); a checker of records apart from their maker is our own.
+/// Checks a record against valid code. It goes through the items a fixed number of times, and keeps a table of the
+/// blocks that they allocate; the record may be any, from any maker. A yes says how the run from scratch of the
+/// recorded call ends (`laws::sound_law`). The check of a trace by its replay is that of self-adjusting computation's
+/// consistency (Acar, *Self-Adjusting Computation*, 2005); a checker of records apart from their maker is our own.
 pub fn check_trace(alloc: Global, code: &Code, kept: &Record) -> Result<Verdict, NoMemory>
     requires valid { valid code.now ≡ true }
     ensures verdict { IfOk result (λ v. Means code.now kept.now v) }

@@ -151,8 +151,8 @@ fn are_made(
     Ok(blocks.is_empty())
 }
 
-/// Whether the recorded memory is the one after the items: it has as many inputs, each is that of the memory, and its core
-/// blocks are those that the items allocate, in their order.
+/// Whether the recorded memory is the one after the items: it has as many inputs, each is that of the memory, and its
+/// core blocks are those that the items allocate, in their order.
 pub fn is_remembered(
     memory: &TraceMemory<'_>,
     inputs: usize,

@@ -85,8 +85,8 @@ fn names_known(memory: &TraceMemory<'_>, item: &Item) -> bool
     }
 }
 
-/// Learns the blocks that the items allocate, unless one mentions a block before it is allocated, or allocates one that is
-/// known already.
+/// Learns the blocks that the items allocate, unless one mentions a block before it is allocated, or allocates one that
+/// is known already.
 #[tactic(auto, using(crate::proofs::ItemSteps::named_steps))]
 pub fn learn_named(memory: &mut TraceMemory<'_>, items: &[Item]) -> Result<bool, NoMemory>
     ensures answer { IfOk result

@@ -293,8 +293,8 @@ impl<'a> Walk<'a> {
     }
 }
 
-/// Whether the items are those of the call, over the plain words of the memory: every step, block, write and read of the
-/// run is recorded, and nothing else. Each read is answered by its recorded content.
+/// Whether the items are those of the call, over the plain words of the memory: every step, block, write and read of
+/// the run is recorded, and nothing else. Each read is answered by its recorded content.
 pub fn are_replayed(
     alloc: Global,
     memory: &TraceMemory<'_>,

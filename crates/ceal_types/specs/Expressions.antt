@@ -45,7 +45,7 @@ abbrev pub variable_at : Span → Ident → Option Variable → Result TypedExpr
 variable_at at name None = fault N1 name.span
 variable_at at name (Some v) = Ok (expression at (Some v.kind) (VarForm v.number))
 
--- `self`, in an initialiser alone
+-- `self`, only in an initialiser
 abbrev pub own_at : Span → Option ℕ → Result TypedExpr Fault
 own_at at None = fault N1 at
 own_at at (Some s) = Ok (expression at (Some (Ptr s)) OwnForm)
@@ -110,7 +110,7 @@ abbrev pub field_of_struct : Ident → ℕ → Option Fields → Result Member F
 field_of_struct name s None = fault T5 name.span
 field_of_struct name s (Some fields) = field_named name s (field_or_row fields name.text)
 
--- the member with the name, by the kind of what stands before the arrow
+-- the member with the name, by the kind of what is before the arrow
 abbrev pub member_of : List (Name × Fields) → Span → Ident → Option Kind → Result Member Fault
 member_of structs at name (Some (Ptr s)) = field_of_struct name s (value_at structs s)
 member_of structs at name _ = fault T4 at

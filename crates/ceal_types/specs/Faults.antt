@@ -107,7 +107,7 @@ abbrev pub parameter_faults : List Name → List FieldDecl → FieldDecl → Lis
 parameter_faults structs before d =
     type_faults structs d.form ++ one_if (list_any (bytes_eq d.name.text) (map parameter_name before)) N2 d.name.span
 
--- the struct of `self`, of an initialiser alone
+-- the struct of `self`, only of an initialiser
 abbrev pub own_faults : List Name → Option Ident → List Fault
 own_faults names None = []
 own_faults names (Some name) = struct_faults names name
@@ -123,7 +123,7 @@ head_faults names before (Function f) =
 
 -- ---- types
 
--- T1 where a value of one type stands and another is asked
+-- T1 where a value of one type is given and another is asked
 abbrev pub misfit : Option Kind → Known → Span → List Fault
 misfit (Some asked) (Some given) at = one_unless (suits asked given) T1 at
 misfit _ _ at = []
@@ -140,7 +140,7 @@ operation_faults Differ sign left at right to = mismatch left right sign
 operation_faults (Pick row) sign left at right to = one T3 at
 operation_faults op sign left at right to = misfit (Some Int) left at ++ misfit (Some Int) right to
 
--- T4 where what stands before `->` is no pointer to a struct, and T5 where the struct has no such member
+-- T4 where what is before `->` is no pointer to a struct, and T5 where the struct has no such member
 abbrev pub arrow_faults : Declared → Known → Span → Ident → List Fault
 arrow_faults d None at name = []
 arrow_faults d (Some (Some (Ptr s))) at name =

@@ -30,7 +30,7 @@ number_or_fault name (Some n) = Ok n
 abbrev pub struct_number : List Name → Ident → Result ℕ Fault
 struct_number names name = number_or_fault name (position (bytes_eq name.text) names)
 
--- the type of a variable or parameter; a source text gives embedded modifiables to fields alone, and in a tree with
+-- the type of a variable or parameter; a source text gives embedded modifiables only to fields, and in a tree with
 -- one elsewhere it is a pointer to that modifiable
 abbrev pub kind_of : List Name → TypeForm → Result Kind Fault
 kind_of names forms.Int = Ok kinds.Int

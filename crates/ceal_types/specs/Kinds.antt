@@ -3,7 +3,7 @@ use Rattle.std.specs.Prelude.{Bool, true, Option, Some, None}
 use Rattle.ceal_base.specs.declared.kind.Kind.{Kind}
 use Rattle.ceal_base.specs.Kinds.{same_kind, is_pointer}
 
--- a value of this type, or `null` where it has none, may stand where that type is asked
+-- a value of this type, or `null` where it has none, may be used where that type is asked
 abbrev pub suits : Kind → Option Kind → Bool
 suits asked None = is_pointer asked
 suits asked (Some given) = same_kind asked given

@@ -26,7 +26,7 @@ use Rattle.ceal_types.specs.Heads.{kind_of, field_kind_of, struct_names}
 use Rattle.ceal_types.specs.Resolves.{member_fields, member_number}
 use Rattle.ceal_types.specs.Tables.{Name, value_at}
 
--- What is known of a type: a kind, or none of its own, as of `null`; nothing where a fault hides it.
+-- What is known of a type: a kind, or no kind, as of `null`; nothing where a fault hides it.
 abbrev pub Known : Type 0
 Known = Option (Option Kind)
 
@@ -73,7 +73,7 @@ declared_in entries = let names = struct_names entries [] in record {
   functions = functions_in entries;
 }
 
--- What an expression is typed in: what the program declares, the struct of `self`, named by an initialiser alone, and
+-- What an expression is typed in: what the program declares, the struct of `self`, named only by an initialiser, and
 -- the variables in scope.
 pub record TypingContext : Type 0 where
   pub declared : Declared
@@ -88,7 +88,7 @@ pointer_type make names name = option_map (λ s. Some (make s)) (position (bytes
 abbrev pub member_named : Name → List FieldInfo → Option FieldInfo
 member_named name fields = option_and_then (slice_get fields) (member_number (map name_of_field fields) name)
 
--- the member of this name where an expression of this type stands before `->`
+-- the member of this name where an expression of this type is before `->`
 abbrev pub member_of_kind : Declared → Option Kind → Name → Option FieldInfo
 member_of_kind d (Some (Ptr s)) name = option_and_then (member_named name) (value_at d.structs s)
 member_of_kind d _ name = None

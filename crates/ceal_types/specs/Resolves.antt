@@ -1,4 +1,4 @@
--- A source tree and a program agree: node by node they have one form and stand at one place, and where the
+-- A source tree and a program agree: node by node they have one form and one place. Where the
 -- tree has a name, the program has the number of what the name stands for: the struct or the function of this
 -- name, the field of this name in its struct, or the variable of this name that is in scope there. Which
 -- kinds are asked is said by `WellTyped`.
@@ -50,7 +50,7 @@ use Rattle.ceal_types.specs.Tables.{Name, element_name}
 abbrev pub Environment : Type 0
 Environment = List (Name × ℕ)
 
--- the name stands at this number among names
+-- the name is at this number among names
 abbrev pub StandsAt : List Name → Ident → ℕ → Type 0
 StandsAt names name n = position (bytes_eq name.text) names ≡ Some n
 
@@ -84,7 +84,7 @@ abbrev pub IsMember : Typed → ℕ → Ident → ℕ → ℕ → Type 0
 IsMember p s name f row =
     (member_number (field_names (slice_get p.structs s)) name.text ≡ Some f) × (row_at p.structs s f ≡ Some row)
 
--- the type is this kind; a source text gives embedded modifiables to fields alone
+-- the type is this kind; a source text gives embedded modifiables only to fields
 abbrev pub IsKind : Typed → TypeForm → Kind → Type 0
 IsKind p forms.Int kind = kind ≡ Int
 IsKind p (forms.Ptr name) kind = (s : ℕ) × IsStruct p name s × (kind ≡ Ptr s)
@@ -110,7 +110,7 @@ IsFieldKind p (forms.CellPtrRow name row) kind = (s : ℕ) × IsStruct p name s 
 abbrev pub IsForm : Span → TypedForm → TypedExpr → Type 0
 IsForm at form x = (x.span ≡ at) × (x.form ≡ form)
 
--- an operator with a sign of its own; an index is none
+-- an operator with its own sign; an index is none
 abbrev pub IsSign : Binary → Type 0
 IsSign (Pick row) = ⊥
 IsSign op = Unit {0}

@@ -175,7 +175,7 @@ plain_kind name (PlainField kind) = Ok kind
 plain_kind name CellInt = fault T1 name.span
 plain_kind name (CellPtr t) = fault T1 name.span
 
--- a field assignment: what stands left of the last `->`, the field, and the value
+-- a field assignment: what is to the left of the last `->`, the field, and the value
 abbrev pub set_suited : Span → TypedExpr → Member → Kind → TypedExpr → Result TypedStmt Fault
 set_suited at left m kind e = if suits kind e.kind then Ok (SetTyped at left m.shape m.field e) else fault T1 e.span
 

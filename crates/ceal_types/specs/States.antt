@@ -4,7 +4,7 @@ use Rattle.ceal_base.specs.Answers.{Fails}
 use Rattle.ceal_base.specs.declared.fault.Fault.{Fault}
 use Rattle.ceal_base.specs.declared.fault.FrontError.{FrontError}
 
--- The state that it leaves is this result, or it answers the fault, or want of memory.
+-- The state that it leaves is this result, or it answers the fault, or memory ran out.
 abbrev pub Leaves : {S : Type 0} → Result (Unit {0}) FrontError → S → Result S Fault → Type 0
 Leaves (Ok u) left r = r ≡ Ok left
 Leaves (Err e) left r = Fails e r

@@ -1,4 +1,4 @@
--- Names, and what stands under a name.
+-- Names, and the value of each name.
 use Rattle.std.specs.Prelude.{ℕ, Bool, Option, Some, None, List, ◌∷◌, [], ◌++◌, is_some, position, slice_get, codes, if◌then◌else◌}
 use Rattle.std.specs.Fmt.{decimal}
 use Rattle.std.specs.List.{list_any}
@@ -15,15 +15,15 @@ abbrev pub both_some : {A B : Type 0} → Option A → Option B → Option (A ×
 both_some (Some a) (Some b) = Some (a, b)
 both_some _ _ = None
 
--- whether the name stands in the table
+-- whether the name is in the table
 abbrev pub has : {A : Type 0} → List (Name × A) → Name → Bool
 has table name = is_some (lookup (bytes_eq name) table)
 
--- the name's number, which is its place in the table from 0, and what stands there
+-- the name's number, which is its place in the table from 0, and what is there
 unfoldable pub find : {A : Type 0} → List (Name × A) → Name → Option (ℕ × A)
 find table name = both_some (position (bytes_eq name) (keys_of table)) (lookup (bytes_eq name) table)
 
--- what stands at this number
+-- what is at this number
 abbrev pub second : {A : Type 0} → Name × A → A
 second e = e.1
 

@@ -24,7 +24,7 @@ both next (Ok x) (Ok y) = next x y
 both next (Ok x) (Err f) = Err f
 both next (Err f) y = Err f
 
--- the items one after another, each changing what stands so far
+-- the items one after another, each changing what there is so far
 unfoldable pub in_turn : {A S : Type 0} → (A → S → Result S Fault) → List A → S → Result S Fault
 in_turn step [] s = Ok s
 in_turn step (x ∷ xs) s = after (in_turn step xs) (step x s)

@@ -106,7 +106,7 @@ fn type_computed(
     Ok(expression(at, Some(Kind::Int), TypedForm::Binary(op, sign, a, b)))
 }
 
-/// A binary operator: where its expression begins, and where its sign stands.
+/// A binary operator: where its expression begins, and the place of its sign.
 #[derive(Clone, Copy)]
 struct Operator {
     at: Span,
@@ -114,7 +114,7 @@ struct Operator {
     sign: Span,
 }
 
-/// A binary operator after its operands, which stand on the heap already, so that they are not moved from call to call.
+/// A binary operator after its operands, which are on the heap already, so that they are not moved from call to call.
 fn type_operands(
     at: Span,
     op: Binary,
@@ -185,7 +185,7 @@ fn access<'a>(site: &Site<'_, '_>, at: Span, name: &'a Ident) -> Access<'a>
     }
 }
 
-/// The type of an expression, where it stands. It recurses as deep as the expression.
+/// The type of an expression, in its place. It recurses as deep as the expression.
 #[tactic(auto, using(crate::proofs::ExpressionSteps::expression_steps))]
 pub fn type_expr(site: &Site<'_, '_>, e: &Expr) -> Result<TypedExpr, FrontError>
     ensures value { Gives result

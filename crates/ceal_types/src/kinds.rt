@@ -30,7 +30,7 @@ fn is_pointer(kind: Kind) -> bool
     }
 }
 
-/// Whether a value of this type, `null` where it has none, may stand where that type is asked.
+/// Whether a value of this type, `null` where it has none, may be used where that type is asked.
 pub fn suits(asked: Kind, given: Option<Kind>) -> bool
     ensures value { result ≡ spec.suits asked given }
 {

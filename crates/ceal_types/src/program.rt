@@ -1,4 +1,4 @@
-// What the walk knows of a program, and of the place in it where it stands.
+// What the walk knows of a program, and of its place in it.
 
 ghost use Rattle.std.specs.Prelude.{◌≡◌};
 
@@ -63,7 +63,7 @@ pub struct Body<'p> {
     pub own: Option<u32>,
 }
 
-/// Where an expression stands: in a body, where these variables are in scope.
+/// Where an expression is: in a body, where these variables are in scope.
 #[derive(Clone, Copy)]
 pub struct Site<'p, 's> {
     pub alloc: Global,

@@ -5,8 +5,8 @@ use ceal_base::text::Text;
 use sha2::{Digest, Sha256};
 use std::hash::{BuildHasher, DefaultHasher, Hasher};
 
-/// What each hash of a table begins with. Made of all that is hashed there, it keeps names of one hash from being prepared:
-/// whoever changes one of them changes the hashes of all. Any seed is right: no clause depends on it.
+/// What each hash of a table begins with. Made of all that is hashed there, it keeps names of one hash from being
+/// prepared: whoever changes one of them changes the hashes of all. Any seed is right: no clause depends on it.
 #[derive(Clone, Copy)]
 pub struct Seed {
     start: DefaultHasher,
@@ -62,7 +62,7 @@ impl Fed {
         }
     }
 
-    /// A whole word, so that each hash goes on after a word.
+    /// A whole word, so that each hash continues after a word.
     pub fn seed(&self) -> Seed {
         let mut more = self.all;
         more.write_u8(1);

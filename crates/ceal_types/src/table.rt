@@ -1,4 +1,4 @@
-// What stands under a name.
+// The values of names.
 
 ghost use Rattle.std.specs.Prelude.{◌≡◌, ◌<◌, ◌^◌, ◌++◌, Some, ◌∷◌, [], length, take, slice_get, OnOk, OnErr, false, position, option_to_list, IfNone};
 ghost use Rattle.std.specs.Map.{keys_of, lookup};
@@ -61,7 +61,7 @@ impl<V> Table<V> {
         self.map.contains_key(name)
     }
 
-    /// The name's number, and what stands under it.
+    /// The name's number, and its value.
     #[tactic(auto, unfolding(crate::specs::Tables::find))]
     pub fn find(&self, name: &Text) -> Option<(u32, &V)>
         ensures found { option_map (λ p. (p.0, p.1.now)) result ≡ find self.now name.now }
@@ -70,14 +70,14 @@ impl<V> Table<V> {
         Some((number as u32, value))
     }
 
-    /// What stands under the name.
+    /// The value of the name.
     pub fn get(&self, name: &Text) -> Option<&V>
         ensures value { option_map (λ v. v.now) result ≡ lookup (bytes_eq name.now) self.now }
     {
         self.map.get(name)
     }
 
-    /// The name of this number, and what stands under it.
+    /// The name of this number, and its value.
     pub fn entry(&self, number: usize) -> (&Text, &V)
         requires { number < length self.now }
         ensures entry { slice_get self.now number ≡ Some (result.0.now, result.1.now) }
@@ -85,7 +85,7 @@ impl<V> Table<V> {
         self.map.get_index(number).unwrap()
     }
 
-    /// What stands at a number.
+    /// The value at a number.
     pub fn at(&self, number: u32) -> Option<&V>
         ensures value { option_map (λ v. v.now) result ≡ value_at self.now number }
     {
@@ -108,7 +108,7 @@ impl<V: Drop> Table<V> {
         Ok(())
     }
 
-    /// Takes the last name off, with what stands under it.
+    /// Takes the last name off, with its value.
     pub fn pop(&mut self) -> Option<(Text, V)>
         ensures taken { self.old ≡ self.new ++ option_to_list result }
         ensures none { IfNone result (self.old ≡ []) }

@@ -33,7 +33,7 @@ core_function : verdict (faults_of_each (core_faults [] false) (Return (at 1) �
 unfolding faults_of_each core_faults
 core_function = refl
 
--- `while (..) { if (..) { break; } }` and then `if (..) { continue; }`, which stands in no loop
+-- `while (..) { if (..) { break; } }` and then `if (..) { continue; }`, which is in no loop
 in_no_loop : faults_of_each (core_faults [] false)
     (While (at 1) (own 1) (If (at 2) (own 2) (Break (at 3) ∷ []) [] ∷ []) ∷ If (at 4) (own 4) (Continue (at 5) ∷ []) [] ∷ [])
     ≡ record { code = U6; span = at 5 } ∷ []

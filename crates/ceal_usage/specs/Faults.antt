@@ -67,12 +67,12 @@ value_faults fs (Alloc at shape f name args) = if is_initialiser (slice_get fs f
 value_faults fs (ModrefInt at) = []
 value_faults fs (Modref at s) = []
 
--- U6 at a `break` or `continue` that stands in no loop
+-- U6 at a `break` or `continue` that is in no loop
 abbrev pub loop_faults : Bool → Span → List Fault
 loop_faults looped at = if looped then [] else one U6 at
 
--- a statement of a core function: it writes no field, calls core functions alone, and is a `break` or `continue` in a
--- loop alone; the truth value says whether the statement stands in one
+-- a statement of a core function: it writes no field, calls only core functions, and is a `break` or `continue` only in
+-- a loop; the truth value says whether the statement is in one
 unfoldable mutual
   pub core_faults : List TypedFunction → Bool → TypedStmt → List Fault
   core_faults fs looped (Declare at n kind value) = value_faults fs value
@@ -97,7 +97,7 @@ abbrev pub faults_unless_own : List Fault → TypedForm → List Fault
 faults_unless_own faults Own = []
 faults_unless_own faults _ = faults
 
--- what stands left of the last `->` of a field assignment: `self` alone
+-- what is to the left of the last `->` of a field assignment: only `self`
 abbrev pub target_faults : Span → TypedExpr → List Fault
 target_faults at left = faults_unless_own (one U1 at ++ mentions left) left.form
 

@@ -73,7 +73,7 @@ fn check_loop(looped: bool, at: Span) -> Result<(), Fault>
 }
 
 /// U1, U4, U5 or U6 at the first statement of a core function that breaks a rule, `looped` saying whether the
-/// statements stand in a loop.
+/// statements are in a loop.
 #[cycle(core)]
 #[tactic(auto, using(crate::proofs::UsageSteps::core_steps))]
 pub fn check_core_body(

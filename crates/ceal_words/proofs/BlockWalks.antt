@@ -1,4 +1,5 @@
--- What the making of a block and its way back share: the machine values of the two structs, and parts of a walk. Assumes `Logic`.
+-- What the making of a block and its way back share: the machine values of the two structs, and parts of a walk.
+-- Assumes `Logic`.
 use Rattle.std.proofs.Common.{◌≡◌, ℕ, zero, suc, List, [], ◌∷◌, ◌++◌, refl, ◌∙◌}
 use seplogic.Ra.Ura.{Ura}
 use mir.Syntax.{Body}
@@ -18,7 +19,7 @@ use denote.Struct.Struct.{Struct, within}
 use denote.Struct.Declared as Declared
 use denote.Struct.Tuple.{Tuple, tuple_type}
 
--- a struct by its fields alone
+-- a struct only by its fields
 abbrev pub plainly : List RattleType → RattleType
 plainly Rs = Struct (record { name = []; args = []; types = []; fields = Rs })
 

@@ -46,7 +46,7 @@ piece_same : (size mark : ℕ) (before after : List ℕ) → mark ≤ size → (
 piece_same size zero before after fits same = refl
 piece_same size (suc n) before after fits same = ap Some (same (suc n) fits)
 
--- another mark of piece i, and other words in it, change piece i alone
+-- another mark of piece i, and other words in it, change only piece i
 pub pieces_set : (size i mark : ℕ) (marks before after : List ℕ) → i < length marks → ((j : ℕ) → get_or marks j 0 ≤ size) → Agree size (length marks) i before after
     → pieces_from size 0 (set marks i mark) after ≡ set (pieces_from size 0 marks before) i (piece mark (drop (i * size) after))
 pieces_set size i mark marks before after within fits agree =

@@ -15,7 +15,7 @@ use Rattle.ceal_words.proofs.FreeLemmas.{free_same, list_same, outside, marks_se
 abbrev pub view : ℕ → List ℕ → List ℕ → ℕ → SizeClass
 view size words marks spare = record { size = size; pieces = pieces_from size 0 marks words; spare = spare }
 
--- a number that is not the default stands in the list
+-- a number that is not the default is in the list
 pub stands : (xs : List ℕ) (i : ℕ) → 0 < get_or xs i 0 → i < length xs
 stands xs i some = ⊎_elim (λ inside. inside) (λ past. let e = get_or_past xs i 0 past in absurd (omega (arith, e, some))) (cases_lt i (length xs))
 

@@ -1,4 +1,4 @@
--- A change of one size class is a change of its slots alone.
+-- A change of one size class is a change only of its slots.
 use Rattle.std.proofs.Common.{◌≡◌, ◌≢◌, ℕ, zero, suc, ◌+◌, ◌-◌, ◌^◌, ◌<◌, List, [], ◌∷◌, ◌++◌, length, get_or, set, replicate, Bool, cond, Option, Some, None, IsSome, IfSome, refl, sym, ap, ◌∙◌, subst, inl, inr, ◌⊎◌, ⊎_elim, arith, slice_get}
 use Rattle.std.proofs.lemmas.List.{get_or-set_same, get_or-set_other, get_or_past, length-set, get_or_append_left, get_or-append_right, get_or-replicate, length-replicate, length_push}
 use Rattle.std.proofs.lemmas.Option.{slice_get-get_or, slice_get_past, slice_get_within, slice_get_read}
@@ -43,7 +43,7 @@ of_found len (Some words) some = ⊎_elim
     (λ apart. absurd (false≢true (subst IsSome (of_other len words apart) some)))
     (cases_eq (length words) len)
 
--- another piece at a place is another piece for the slots of its length alone
+-- another piece at a place is another piece only for the slots of its length
 piece_kept : (pieces : List (Option (List ℕ))) (at len : ℕ) (q : Option (List ℕ)) → OnlyOf len (words_at pieces at) → OnlyOf len q → at < length pieces
     → (at' len' : ℕ) → ((at' ≡ at) × (len' ≡ len) → ⊥) → of_length len' (words_at (set pieces at q) at') ≡ of_length len' (words_at pieces at')
 piece_kept pieces at len q before after inside at' len' apart = ⊎_elim

@@ -14,7 +14,7 @@ use ceal_base::word::Word;
 use ceal_code::stack::Closure;
 
 impl<'a> Repair<'a> {
-    /// An old read is read again; the cursor stands inside it.
+    /// An old read is read again; the cursor is inside it.
     fn propagate_read(&mut self, closure: Closure, value: Word) -> Result<Turn, NoMemory>
         ensures code { OnOk result (code_of self.new ≡ code_of self.old) }
         ensures turn { IfOk result (λ t. turn_in t (machine_in self.new) ≡ fixing (code_of self.old)
@@ -30,7 +30,7 @@ impl<'a> Repair<'a> {
         Ok(wrote(false, read_item(closure, now)))
     }
 
-    /// An old item is walked; the cursor stands after it.
+    /// An old item is walked; the cursor is after it.
     #[tactic(auto, using(crate::proofs::MachineSteps::frame_steps), unfolding(crate::specs::Machines::machine_of))]
     fn propagate_item(&mut self, item: &Item) -> Result<Turn, NoMemory>
         requires fixing { self.old.mode ≡ Mode.Fixing }

@@ -33,7 +33,7 @@ impl<'a> Repair<'a> {
         Ok(())
     }
 
-    /// The unit goes on with the block of the key for a variable; the block's modifiables are at their defaults.
+    /// The unit continues with the block of the key for a variable; the block's modifiables are at their defaults.
     fn go_on_with(
         &mut self,
         key: &Key,
@@ -57,7 +57,7 @@ impl<'a> Repair<'a> {
         Ok(())
     }
 
-    /// The unit goes on with a block of the key: one that is left over, or a new one. It answers which.
+    /// The unit continues with a block of the key: one that is left over, or a new one. It answers which.
     #[tactic(auto, using(crate::proofs::MachineSteps::frame_steps), unfolding(crate::specs::Machines::machine_of))]
     fn make_block(&mut self, key: &Key, var: u32, unit: Activation) -> Result<BlockId, NoMemory>
         requires running { self.old.mode ≡ Mode.Running }
@@ -144,7 +144,8 @@ impl<'a> Repair<'a> {
         }
     }
 
-    /// The unit reads: a read that is left over is taken with the items inside it, or the unit of the read is re-executed.
+    /// The unit reads: a read that is left over is taken with the items inside it, or the unit of the read is
+    /// re-executed.
     fn read(&mut self, closure: Closure) -> Result<Turn, NoMemory>
         requires running { self.old.mode ≡ Mode.Running }
         ensures code { OnOk result (code_of self.new ≡ code_of self.old) }

@@ -1,4 +1,4 @@
--- The first line `%%` stands after a source that has no two `%` after each other and ends with its line.
+-- The first line `%%` is after a source that has no two `%` in a row and ends with its line.
 use Rattle.std.proofs.Common.{◌≡◌, ℕ, ◌+◌, ◌≤◌, ◌<◌, ◌^◌, Bool, true, ◌&&◌, not, List, [], ◌∷◌, ◌++◌, length, refl, sym, ap, ◌∙◌, arith, inl, inr}
 use Rattle.std.specs.Prelude.{codes, nat_eq}
 use Rattle.std.proofs.lemmas.Bool.{and_parts, false≢true, not-true}
@@ -12,7 +12,7 @@ abbrev begins_percent : List ℕ → Bool
 begins_percent [] = true
 begins_percent (b ∷ bs) = nat_eq b PERCENT
 
--- no `%` stands before another, and none at the end
+-- no `%` is before another, and none at the end
 unfoldable pub is_clear : List ℕ → Bool
 is_clear [] = true
 is_clear (b ∷ bs) = not (nat_eq b PERCENT && begins_percent bs) && is_clear bs
@@ -21,7 +21,7 @@ begins : (bs rest more : List ℕ) → bs ++ rest ≡ PERCENT ∷ more → begin
 begins [] rest more h = refl
 begins (b ∷ bs) rest more h = let e : b ≡ PERCENT = cc h in rw e refl
 
--- two `%` stand after bytes that are clear
+-- two `%` are after bytes that are clear
 behind : (bytes rest b more : List ℕ) → is_clear bytes ≡ true → bytes ++ rest ≡ b ++ PERCENT ∷ PERCENT ∷ more → length bytes ≤ length b
 unfolding is_clear
 behind [] rest b more clear h = omega arith

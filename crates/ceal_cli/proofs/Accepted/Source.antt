@@ -33,7 +33,7 @@ abbrev pub comes : Result Tree Fault → Result Typed Fault
 comes (Ok tree) = settled tree
 comes (Err f) = Err f
 
--- The reading was right, no two `%` stand after each other, the last line has its end, and all comes to a program.
+-- The reading was right, no two `%` follow each other, the last line has its end, and the whole is a program.
 -- Each is one evaluation.
 pub record IsFine (source : List ℕ) : Type 0 where
   pub spelled : spelled (pieces source) [] ≡ source

@@ -1,4 +1,4 @@
--- Pieces that pass the test stand.
+-- Pieces that pass the test may be where they are.
 use Rattle.std.proofs.Common.{◌≡◌, ◌≢◌, ℕ, pos, ◌≤◌, ◌<◌, Bool, true, false, ◌&&◌, not, List, [], ◌∷◌, ◌++◌, length, refl, sym, ap, ◌∙◌, subst, arith, inl, inr}
 use Rattle.std.specs.Prelude.{IsTrue, is_none, nat_le}
 use Rattle.std.specs.Ordering.{int_eq}
@@ -55,7 +55,7 @@ spells (kinds.Sign s) text h = (bytes_eq-Decides text (sign_text s)).0 h
 spells kinds.End text h = false≢true h
 spells kinds.Cut text h = false≢true h
 
--- What a lexeme has: bytes of words alone, or one or two bytes of a sign.
+-- What a lexeme has: only bytes of words, or one or two bytes of a sign.
 abbrev InWord : ℕ → Type 0
 InWord b = is_word_byte b ≡ true
 

@@ -37,7 +37,7 @@ module _ (p : ℕ → Bool) (xs : List ℕ) where
 is_line_feed : (b : ℕ) → eqb b 10 ≡ true → b ≡ 10
 is_line_feed b e = grind arith
 
--- a text is what stands before its first line feed, that, and what stands after it
+-- a text is what is before its first line feed, that, and what is after it
 pub whole_text : (xs : List ℕ) (at : ℕ) → position (λ b. eqb b 10) xs ≡ Some at → at < length xs → xs ≡ take at xs ++ 10 ∷ drop (at + 1) xs
 whole_text xs at found within =
     let feed = is_line_feed _ (passes_where (λ b. eqb b 10) xs at found) in

@@ -23,7 +23,7 @@ unfolding Begins
 line-begins text line after b (inl e) = (b.0 ++ (10 ∷ []), e ∙ ap (λ t. t ++ (10 ∷ [])) b.1)
 line-begins text line after b (inr e) = (b.0, e.0 ∙ b.1)
 
--- where the sign stands that a text has after others
+-- the place of the sign that a text has after others
 percent-at : (before : List ℕ) (line after : List ℕ) → Begins line → slice_get (before ++ (line ++ after)) (length before) ≡ Some 37
 unfolding Begins
 percent-at [] line after b = ap (λ l. slice_get (l ++ after) 0) b.1
@@ -92,7 +92,7 @@ unfolding Ends
 ends-later x xs other ([], e) = absurd (other (head-of x 10 xs [] e))
 ends-later x xs other (y ∷ ys, e) = (ys, tail-of x y xs (ys ++ (10 ∷ [])) e)
 
--- a line that stands in front is whole where the bytes in front end in a line feed
+-- a line that is in front is whole where the bytes in front end in a line feed
 line-fits : (t d X a : List ℕ) → d ++ X ≡ (t ++ (10 ∷ [])) ++ a → Ends d → NoFeed t → (rest : List ℕ) × (d ≡ (t ++ (10 ∷ [])) ++ rest)
 unfolding NoFeed
 line-fits t [] X a e f n = absurd (ends-none f)
@@ -102,7 +102,7 @@ line-fits (y ∷ ts) (x ∷ ds) X a e f n =
     let more = line-fits ts ds X a (tail-of x y (ds ++ X) ((ts ++ (10 ∷ [])) ++ a) e) (ends-later x ds (λ i. n.0 (sym same ∙ i)) f) n.1 in
     (more.0, ap (λ (z : ℕ). z ∷ ds) same ∙ ap (λ (l : List ℕ). y ∷ l) more.1)
 
--- and one without a line feed stands there nowhere
+-- and one without a line feed is nowhere there
 no-last : (t d X : List ℕ) → d ++ X ≡ t → Ends d → NoFeed t → ⊥
 unfolding NoFeed
 no-last t [] X e f n = ends-none f

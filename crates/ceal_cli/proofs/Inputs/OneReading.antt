@@ -10,7 +10,7 @@ use Rattle.ceal_lex.specs.Parts.{IsSplit}
 use Rattle.ceal_lex.specs.declared.parts.Split.{Split}
 use Rattle.ceal_cli.specs.Output.{Programmed}
 
--- the laws that an input has one split, and that it comes to one program or first fault at most
+-- the laws that an input has one split, and that it has at most one program or first fault
 abbrev pub SplitLaw : Type 0
 SplitLaw = (input : List ℕ) (p q : Split) → IsSplit input p → IsSplit input q → p ≡ q
 

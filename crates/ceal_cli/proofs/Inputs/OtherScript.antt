@@ -15,7 +15,7 @@ use Rattle.ceal_cli.specs.Saves.{mark_line}
 use Rattle.ceal_cli.proofs.Inputs.FirstMark.{other-behind, put-parts, put-script, put-source, put-split}
 use Rattle.ceal_cli.proofs.Inputs.OneReading.{SplitLaw}
 
--- The bytes come to the same after another input.
+-- The bytes have the same result after another input.
 module _ (input other : List ℕ) (part there : Split) (source : source_of input part ≡ source_of other there) (marked : part.marked ≡ there.marked) where
   pub comes-again : (r : Result Typed Fault) → PartComes input part r → PartComes other there r
   comes-again r (inl h) = inl (record { fault = h.fault; stands = subst (λ b. IsFirstFault b h.fault) source h.stands; same = h.same })

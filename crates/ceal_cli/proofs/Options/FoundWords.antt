@@ -62,7 +62,7 @@ used_words values plain more rows h =
           ∙ ap (λ (l : List Text). l ++ more) h.words;
     })
 
--- ---- where the parser stands
+-- ---- where the parser is
 
 -- words are pending
 record Gathers (values plain : List Text) (p : Pending) (r : List Row) : Type 0 where

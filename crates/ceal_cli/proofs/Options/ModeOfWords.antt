@@ -30,7 +30,7 @@ marked (x ∷ t ∷ words) plain values none (inr (inr (inr (is, (rest, same, re
 abbrev IsWith : Text → List Text → Type 0
 IsWith text option = (option ≡ codes "--fuel" ∷ text ∷ []) ⊎ (option ≡ (codes "--fuel=" ++ text) ∷ [])
 
--- the option stands first
+-- the option comes first
 abbrev Leads : Text → List Text → List Text → Type 0
 Leads text plain words = (option : List Text) × (rest : List Text) × IsWith text option × (words ≡ option ++ rest) × AreMarked plain rest
 
@@ -58,7 +58,7 @@ leads_apart x t text words plain rest apart is reads = (
   marked words plain rest (sym (tail_is text t [] rest is)) reads,
 )
 
--- with no plain word, the option stands first
+-- with no plain word, the option comes first
 option_alone : (words plain values : List Text) (text : Text) → plain ≡ [] → text ∷ [] ≡ values → Reads false words plain values → Leads text plain words
 option_alone [] plain values text none one (is, empty) = absurd (cc (one ∙ empty))
 option_alone (x ∷ words) plain values text none one (inl (dashes, is, empty)) = absurd (cc (one ∙ empty))
@@ -67,7 +67,7 @@ option_alone (x ∷ words) plain values text none one (inr (inr (inl (t, rest, j
 option_alone (x ∷ []) plain values text none one (inr (inr (inr (is, reads)))) = absurd reads
 option_alone (x ∷ t ∷ words) plain values text none one (inr (inr (inr (is, (rest, same, reads))))) = leads_apart x t text words plain rest is (one ∙ same) reads
 
--- with one, the option stands before it or after it
+-- with one, the option is before it or after it
 abbrev Has : Text → Text → List Text → Type 0
 Has text word words =
     Leads text (word ∷ []) words

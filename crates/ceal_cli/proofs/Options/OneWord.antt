@@ -44,7 +44,7 @@ JOINED = codes "--fuel="
 abbrev pub Pending : Type 0
 Pending = Option (Text × List Text)
 
--- where the parser stands between two words
+-- where the parser is between two words
 abbrev pub held : List Row → Pending → Held
 held r p = record { rows = r; pending = p; skip = 0 }
 

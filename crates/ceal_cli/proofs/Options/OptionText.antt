@@ -34,7 +34,7 @@ without_sign (x ∷ xs) h = go (eqb x 61) refl (λ e. without_sign xs e) h
     go true e next h = absurd (true≢false h)
     go false e next h = rw e (ap (λ (ys : List ℕ). x ∷ ys) (next h) ∙ sym (take_more _ x xs))
 
--- what stands after the hyphens of an option
+-- what is after the hyphens of an option
 abbrev pub option_text : List ℕ → Option (List ℕ) → List ℕ
 option_text name None = name
 option_text name (Some value) = name ++ 61 ∷ value

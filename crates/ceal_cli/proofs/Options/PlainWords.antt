@@ -32,7 +32,7 @@ in_front : (front back : List Text) → AreNoOptions (front ++ back) → AreNoOp
 in_front [] back h = tt
 in_front (x ∷ front) back h = (h.0, in_front front back h.1)
 
--- where the parser stands that has gathered these words, after `--` or not
+-- where the parser is after it has gathered these words, after `--` or not
 abbrev gathered : List Text → Bool → Walk
 gathered words is_trailing = at [] (Some (WORDS, words)) positional is_trailing
 

@@ -44,7 +44,7 @@ pub record Known : Type 0 where
   pub once : OneScriptLaw
   pub resumes : ResumedLaw
 
--- a line `steps` is told exactly where there is a finished run
+-- a line `steps` is answered exactly when there is a finished run
 ready-of : (s : State) → asked s Steps ≡ Told Steps → IsReady s
 ready-of s told = go (has_no_run s) refl s.pending refl told
   where

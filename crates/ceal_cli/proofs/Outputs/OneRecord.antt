@@ -61,7 +61,7 @@ module _ (records : OneRecordLaw) (script : OneScriptLaw) where
       let same : h.end ≡ k.end = (script (opening code s) lines h.replies k.replies h.end k.end h.leads k.leads).1 in
       text-by records (λ kept. with_source source (save_of k.end kept)) (asked k.end.state Steps) k.end a b (subst (λ m. IsSaveOf m source a) same h.save) k.save
 
--- a session has one reply, and goes on to one situation
+-- a session has one reply, and leaves one situation
 pub determined : OneReplyLaw → IsDetermined Replies
 determined replies = record {
   reply = λ s line a b m n h k. (replies s line a b m n h k).0;

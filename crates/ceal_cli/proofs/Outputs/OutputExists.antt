@@ -41,7 +41,7 @@ use Rattle.ceal_cli.specs.Lines.{script_of, script_lines}
 use Rattle.ceal_cli.specs.Output.{IsRefusal, IsOutput, Programmed, accepted_text}
 use Rattle.ceal_cli.specs.declared.words.Mode.TheVariants.{Check, List as Listing}
 
--- the law that an input comes to something
+-- the law that an input has a result
 abbrev pub ComingLaw : Type 0
 ComingLaw = (input : List ℕ) → length input < 2 ^ 32 → (r : Result Typed Fault) × Comes input r
 

@@ -1,4 +1,4 @@
--- A session that is saved and resumed writes what one would have written that went on.
+-- A session that is saved and resumed writes what one that never stopped would have written.
 use Rattle.std.proofs.Common.{◌≡◌, inr, ℕ, List, [], ◌∷◌, ◌++◌, Some, codes, sym, ap, ◌∙◌, subst, append_assoc}
 use Rattle.ceal_dump.specs.DumpText.{dump_text, inputs_text, call_text, trace_text, memory_text}
 use Rattle.ceal_lex.specs.Parts.{IsBeforeLine}

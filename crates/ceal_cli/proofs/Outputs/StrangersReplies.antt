@@ -1,4 +1,5 @@
--- For a save that holds, `resume` writes the replies of a session that has the first trace of the call, but for some numbers.
+-- For a save that holds, `resume` writes the replies of a session that has the first trace of the call, but for some
+-- numbers.
 use Rattle.std.proofs.Common.{◌≡◌, ℕ, List, [], ◌∷◌, ◌++◌, ap, ◌∙◌, subst}
 use Rattle.ceal_base.specs.declared.typed.Typed.{Typed}
 use Rattle.ceal_code.specs.Program.{Code}

@@ -61,7 +61,7 @@ pub writes_as : {A : Type 0} (r : Result A Stopped) (a b : Option (List ℕ)) (m
 writes_as r a b m n P Q f w =
     puts_as r a b m n P (Begins P) Q (Begins Q) f (λ out begun. elim begun [ inl e ↦ inl e | inr w ↦ inr (w.0, f w.0 w.1, w.2) ]) w
 
--- So far some text was written after which the replies to what is left, or their beginning, are to be put.
+-- So far some text was written after which the replies to what is left, or their beginning, should follow.
 pub record SoFar (old now : Option (List ℕ)) (start here : Situation) (all left : List (List ℕ)) : Type 0 where
   pub part : List ℕ
   pub appends : Appends old now part

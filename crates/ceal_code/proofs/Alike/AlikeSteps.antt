@@ -207,7 +207,7 @@ module _ (ps : Pairs) where
   pub entered-alike : (code : Code) (u : ℕ) {vs ws : List Word} {st st' : Stack} → WordsAlike ps vs ws → StackAlike ps st st' → StackAlike ps (entered code u vs st) (entered code u ws st')
   entered-alike code u h k = StackAlike.run (bound-alike (unit_at code u).params h) k
 
-  -- a unit that goes on after a read
+  -- a unit that continues after a read
   pub given-alike : (code : Code) (u n : ℕ) {vs ws : List Word} {v w : Word} {st st' : Stack} → WordsAlike ps vs ws → WordAlike ps v w → StackAlike ps st st'
       → StackAlike ps (entered code u (given code u n vs v) st) (entered code u (given code u n ws w) st')
   given-alike code u n h k l = entered-alike code u (woven-alike (unit_at code u).params n k h) l

@@ -67,7 +67,7 @@ numbered-at n (b ∷ bs) zero h = let e : n + 0 ≡ n = omega arith in rw e Tied
 numbered-at n (b ∷ bs) (suc i) h =
     let e : n + suc i ≡ (n + 1) + i = omega arith in rw e (Tied.there (numbered-at (n + 1) bs i (omega (arith, h))))
 
--- where a number of the list stands
+-- the place of a number of the list
 index-at : (n : ℕ) (bs : List ℕ) → Distinct bs → (b c : ℕ) → Tied b c (numbered n bs) → n + index_of bs b ≡ c
 index-at n [] h b c t = elim t [ ]
 index-at n (d ∷ bs) h b c t = go (tied-case b c (record { left = d; right = n }) (numbered (n + 1) bs) t) (d == b) refl (index-at (n + 1) bs (λ k. omega (arith, h k)) b c)

@@ -120,7 +120,7 @@ started-alike code n ps f args h =
     (words-alike ps (chosen (unit_at code (entry_of code f)).params args)
     (chosen-of (λ w. WordAlike ps w w) (λ n. WordAlike.num) WordAlike.null (unit_at code (entry_of code f)).params args (selves n ps args h))) StackAlike.empty
 
--- the contents stand in for what the plain words have
+-- the contents replace what the plain words have
 with_contents-plain : (s : Store) (b : BlockId) (n : ℕ) (kinds : List FieldKind) (ws : List Word) → with_contents s b n kinds (plain_words kinds ws) ≡ with_contents s b n kinds ws
 with_contents-plain s b n [] ws = refl
 with_contents-plain s b n (kind ∷ kinds) [] = refl

@@ -1,4 +1,4 @@
--- Where a run from scratch ends: at a state that it came to, and with the inputs in number that it began with.
+-- Where a run from scratch ends: at a state that it has reached, and with the inputs in number that it began with.
 use Rattle.std.proofs.Common.{◌≡◌, ℕ, zero, suc, ◌+◌, ◌≤◌, arith, sym, Option, Some, None, List, [], ◌∷◌, length, refl, ap, ◌∙◌, subst, slice_get, slice_set}
 use Rattle.ceal_base.specs.Block.{Block, Blocks, block_at, changed, written_at}
 use Rattle.ceal_base.specs.Finished.{Finished}
@@ -21,7 +21,7 @@ module _ (code : Code) (m0 : Blocks) (st0 : Stack) where
   abbrev AtEnd : Finished → Type 0
   AtEnd r = (stack : Stack) × Takes code m0 st0 r.steps r.memory stack × (next code (block_at r.memory) stack ≡ Over)
 
-  -- after that many steps, and not at the end
+  -- after k steps, and not at the end
   abbrev Before : ℕ → Type 0
   Before k = (m : Blocks) × (stack : Stack) × Takes code m0 st0 k m stack × (next code (block_at m) stack ≡ Over → ⊥)
 

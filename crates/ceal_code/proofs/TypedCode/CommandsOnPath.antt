@@ -128,7 +128,7 @@ behind (Read v p w args) i j f h = absurd (contains-none j h)
 behind (Call g args w rest) i j f h = absurd (contains-none j h)
 
 module _ (code : Code) (unit : CodeUnit) where
-  -- some path comes to each index of a tree that goes forward
+  -- some path reaches each index of a tree that goes forward
   on-path : all_forward unit.body 0 ≡ true → is_tree unit.body ≡ true → (n j : ℕ) → j < n → j < length unit.body → IsReached code unit j
   on-path f t zero j l m = absurd (omega (arith, l))
   on-path f t (suc n) zero l m = record { known = params_known code unit; stepped = false; path = IsOnPath.first }
@@ -142,7 +142,7 @@ module _ (code : Code) (unit : CodeUnit) where
       record { known = known_after to.known r.c; stepped = true; path = IsOnPath.next to.path r.there leads }
 
 module _ (code : Code) (f : ℕ) (body : List Cmd) where
-  -- a path that comes to the index goes on rightly
+  -- a path that reaches the index continues rightly
   record PathAt (i : ℕ) (known : List Bool) (stepped : Bool) : Type 0 where
     fuel : ℕ
     ok : paths_ok code f body fuel i known stepped ≡ true
@@ -191,7 +191,7 @@ module _ (code : Code) (unit : CodeUnit) (right : unit_ok code unit ≡ true) wh
       let at = command-of code unit.function unit.body i k s c e (path-at i k s h) in
       goes-on code unit.function unit.body c i j at.fuel k at.on leads
 
--- some path comes to each command of valid code, which is right for what is known on each path to it
+-- some path reaches each command of valid code, which is right for what is known on each path to it
 pub on-right-path : (code : Code) → valid code ≡ true → (u : ℕ) (unit : CodeUnit) → slice_get code.units u ≡ Some unit → (i : ℕ) (c : Cmd) → slice_get unit.body i ≡ Some c
     → IsReached code unit i × ((known : List Bool) (stepped : Bool) → IsOnPath code unit i known stepped → command_ok code unit.function known stepped c ≡ true)
 on-right-path code ok u unit there i c e =

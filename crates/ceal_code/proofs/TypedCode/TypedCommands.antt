@@ -40,7 +40,7 @@ place-some kinds v t h = go (slice_get kinds v) refl h
 
 module _ (code : Code) (ok : valid code ≡ true) (m : Blocks) (typed : MemoryTyped code.structs m) where
   module _ (u i : ℕ) (env : Variables) where
-    -- the unit goes on at an index, with another word of one variable
+    -- the unit continues at an index, with another word of one variable
     set-frame : (v : VarId) (w : Word) (unit : CodeUnit) (known : List Bool) (fuel j : ℕ) → slice_get code.units u ≡ Some unit → EnvTyped code.structs m (kinds_of code unit.function) known env
         → paths_ok code unit.function unit.body fuel j (slice_set known v.0 true) true ≡ true → ((kind : Kind) → slice_get (kinds_of code unit.function) v.0 ≡ Some kind → fits_kind code.structs m kind w ≡ true)
         → FrameTyped code m u j (set env v.0 w)
@@ -54,11 +54,11 @@ module _ (code : Code) (ok : valid code ≡ true) (m : Blocks) (typed : MemoryTy
       envs = set-typed code m (kinds_of code unit.function) known env v.0 w envs k;
     }
 
-    -- the unit goes on at an index
+    -- the unit continues at an index
     on-frame : (c : Cmd) (at : AtCommand code m u i env c) (j : ℕ) → paths_ok code at.unit.function at.unit.body at.fuel j at.known true ≡ true → FrameTyped code m u j env
     on-frame c at j path = record { unit = at.unit; there = at.there; known = at.known; stepped = true; fuel = at.fuel; path = path; envs = at.envs }
 
-  -- the unit goes on with a new block
+  -- the unit continues with a new block
   goes-on : (u i : ℕ) (env : Variables) (v : VarId) (shape : Shape) (below : Stack) (unit : CodeUnit) (known : List Bool) (fuel : ℕ) → slice_get code.units u ≡ Some unit → EnvTyped code.structs m (kinds_of code unit.function) known env
       → paths_ok code unit.function unit.body fuel (i + 1) (slice_set known v.0 true) true ≡ true → fits_maybe (slice_get (kinds_of code unit.function) v.0) (Some (Of (pointer_kind shape))) ≡ true → StackTyped code m below
       → (m' : Blocks) (w : Word) → ShapesKept m m' → fits_kind code.structs m' (pointer_kind shape) w ≡ true → StackTyped code m' (Run u (i + 1) (set env v.0 w) below)
@@ -242,7 +242,7 @@ module _ (code : Code) (ok : valid code ≡ true) (m : Blocks) (typed : MemoryTy
     pub tail-typed : (w : UnitId) (args : List CodeExpr) → AtCommand code m u i env (Tail w args) → StackTyped code m (entered code w.0 (values code.structs (block_at m) env args) below)
     tail-typed w args at = (tail-goes w args at).enters below under
 
-  -- each unit of the stack stands at a command
+  -- each unit of the stack is at a command
   pub stack-there : (st : Stack) → StackTyped code m st → StackThere code m st
   stack-there Empty h = tt
   stack-there (Run u i env below) h = (

@@ -136,7 +136,7 @@ module _ (structs : List StructInfo) (m : Blocks) where
   null-place ModInt h = refl
   null-place (ModPtr s) h = refl
 
-  -- a word of a type that may stand where a kind is asked fits it
+  -- a word of a type that may be used where a kind is asked fits it
   pub fits-word : (kind : Kind) (t : Typing) (w : Word) → fits kind t ≡ true → HasType structs m t w → fits_kind structs m kind w ≡ true
   fits-word kind None w h k = absurd (grind (arith, h))
   fits-word kind (Some AnyPointer) w h k = rw k (null-fits kind h)

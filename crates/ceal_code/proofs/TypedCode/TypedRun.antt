@@ -1,4 +1,4 @@
--- Valid code is never stuck: each state of a run is typed, and a typed state goes on or is the end.
+-- Valid code is never stuck: each state of a run is typed, and a typed state continues or is the end.
 use Rattle.std.proofs.Common.{◌≡◌, ℕ, zero, suc, ◌+◌, ◌<◌, ◌==◌, ◌&&◌, nat_lt, Bool, true, false, Option, Some, None, List, [], ◌∷◌, ◌++◌, length, refl, sym, ap, ◌∙◌, subst, slice_get, slice_set, arith}
 use Rattle.std.specs.List.{list_all}
 use Rattle.std.specs.Prelude.{⊤}
@@ -46,7 +46,7 @@ use Rattle.ceal_code.specs.declared.expr.VarId.{VarId}
 use Rattle.ceal_code.specs.declared.function.FunctionCode.{FunctionCode}
 use Rattle.ceal_code.specs.declared.function.FunctionCode.TheVariants.{Core as CoreFunction, Init as InitFunction}
 
--- the stack stands at a command that takes a step, or nothing is left
+-- the stack is at a command that takes a step, or nothing is left
 abbrev Ready : Code → Stack → Type 0
 Ready code Empty = ⊤
 Ready code (Run u i env below) = StepCommand (command_at code u i)

@@ -1,5 +1,5 @@
--- In valid code each state of a run is typed: the words of its variables fit their kinds, and what its next step gives is
--- typed again.
+-- In valid code each state of a run is typed: the words of its variables fit their kinds, and what its next step gives
+-- is typed again.
 use Rattle.std.proofs.Common.{◌≡◌, ℕ, zero, suc, ◌<◌, ◌==◌, ◌&&◌, Bool, true, false, if◌then◌else◌, Option, Some, None, List, [], ◌∷◌, length, replicate, ◌⊎◌, inl, inr, refl, sym, ap, ◌∙◌, subst, slice_get, slice_set, unwrap_or, arith}
 use Rattle.std.specs.Prelude.{⊤}
 use Rattle.ceal_base.specs.Block.{Blocks}

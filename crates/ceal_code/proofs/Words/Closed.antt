@@ -139,7 +139,7 @@ module _ (W : Word → Type 0) (num : (n : ℤ) → W (Num n)) (null : W Null) w
   pub entered-of : (code : Code) (u : ℕ) (ws : List Word) (below : Stack) → Each W ws → OfStack W below → OfStack W (entered code u ws below)
   entered-of code u ws below h k = (bound-of (unit_at code u).params ws h, k)
 
-  -- a unit that goes on after a read
+  -- a unit that continues after a read
   pub given-of : (code : Code) (u v : ℕ) (args : List Word) (w : Word) (below : Stack) → Each W args → W w → OfStack W below → OfStack W (entered code u (given code u v args w) below)
   given-of code u v args w below h k l = entered-of code u (given code u v args w) below (woven-of (unit_at code u).params v w args k h) l
 

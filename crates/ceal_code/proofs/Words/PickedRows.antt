@@ -1,4 +1,5 @@
--- The rows of modifiables that code picks from: a property of each, by its length and the expression that stands for it.
+-- The rows of modifiables that code picks from: a property of each, by its length and the expression that stands for
+-- it.
 use Rattle.std.proofs.Common.{ℕ, Option, Some, None, List, [], ◌∷◌, slice_get}
 use Rattle.std.specs.Prelude.{⊤}
 use Rattle.ceal_base.specs.declared.operators.Binary.{Binary}

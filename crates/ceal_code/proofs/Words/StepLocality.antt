@@ -1,4 +1,4 @@
--- A step depends on the plain words of known blocks alone, and leads to known blocks.
+-- A step depends only on the plain words of known blocks, and leads to known blocks.
 use Rattle.std.proofs.Common.{◌≡◌, ℕ, ◌+◌, ◌^◌, nat_lt, pos, negsuc, ◌&&◌, Bool, true, false, List, [], ◌∷◌, if◌then◌else◌, ap, is_some}
 use Rattle.ceal_base.specs.Access.{of_struct, is_struct, place_in}
 use Rattle.ceal_base.specs.declared.forest.Key.{Key}

@@ -1,4 +1,4 @@
--- Valid code picks from whole rows alone.
+-- Valid code picks only from whole rows.
 use Rattle.std.proofs.Common.{◌≡◌, ℕ, ◌&&◌, ◌==◌, nat_lt, Bool, true, Option, Some, None, List, [], ◌∷◌, length, replicate, refl, slice_get, unwrap_or, arith}
 use Rattle.ceal_base.specs.declared.kind.Kind.{Kind}
 use Rattle.ceal_base.specs.declared.kind.Kind.TheVariants.{Int, Ptr}

@@ -34,7 +34,7 @@ module _ (s : Source) where
   unfolding whole_body
   finished-cons body p ps = refl
 
-  -- the command of a statement stands first in its code
+  -- the command of a statement comes first in its code
   value-first : (F : Placed) (next i n : ℕ) (v : TypedValue)
       → value_code s F next i n v ≡ value_command s next n v ∷ (if not (is_read v) then F next (i + 1) else [])
   value-first F next i n (Plain e) = refl

@@ -1,4 +1,4 @@
--- A jump that leads to no entry leads forwards. A jump leads backwards to the test of a `while` alone, from its body, by
+-- A jump that leads to no entry leads forwards. A jump leads backwards only to the test of a `while`, from its body, by
 -- its end or a `continue`; and a path leads to the test from outside of the body too.
 use Rattle.std.proofs.Common.{◌≡◌, ◌⊎◌, inl, inr, ℕ, zero, suc, ◌+◌, ◌<◌, ◌≤◌, Bool, true, false, ◌&&◌, ◌||◌, if◌then◌else◌, Option, Some, None, List, [], ◌∷◌, ◌++◌, length, slice_get, replicate, Contains, refl, sym, subst, ◌∙◌, arith}
 use Rattle.std.proofs.lemmas.List.Elements.{Contains-push, Contains-append_left, Contains-append_right}
@@ -118,7 +118,7 @@ module _ (g : Graph) where
   no-jumps : (block : GraphBlock) (c : ℕ) → block ≡ Unreached → Contains (jumps block) c → ⊥
   no-jumps block c e j = contains-none c (subst (λ x. Contains (jumps x) c) e j)
 
-  -- a part that does not go on, and what is left out after it
+  -- a part that does not continue, and what is left out after it
   last-laws : (start mid : ℕ) (xs : List GraphBlock) (n k m after : ℕ) → Laws start xs n k mid false
       → Laws start (xs ++ replicate m Unreached) n (k + m) after false
   last-laws start mid xs n k m after one = record {

@@ -104,7 +104,8 @@ core-one body n rest i j e =
     ap (λ bs. ends_before bs i) (append_assoc (all_blocks body n done (no_loop done)) (Done ∷ []) rest)
     ∙ ends-one (all_blocks body n done (no_loop done)) rest i j (no-end-all body n done (no_loop done)) (omega (arith, long, e))
 
--- a core function among others, of which the first begins at block `n`: where it begins, and that its blocks are its own
+-- a core function among others, of which the first begins at block `n`: where it begins, and that its blocks are its
+-- own
 record Among (n : ℕ) (fs : List TypedFunction) (k : ℕ) (f : TypedFunction) : Type 0 where
   start : ℕ
   skip : ℕ

@@ -1,4 +1,4 @@
--- The tree of a block unfolds: with at least as many blocks as stand from it on, its depth does not matter.
+-- The tree of a block unfolds: with at least as many blocks as there are from it on, its depth does not matter.
 use Rattle.std.proofs.Common.{◌≡◌, ℕ, zero, suc, ◌+◌, ◌<◌, ◌≤◌, Bool, true, false, Option, Some, None, List, [], ◌∷◌, length, slice_get, Contains, if◌then◌else◌, refl, arith}
 use Rattle.std.proofs.lemmas.List.Elements.{Contains-push, Contains-append_left, Contains-append_right}
 use Rattle.ceal_base.specs.declared.typed.TypedStmt.{TypedStmt, Declare, Assign, SetField, Write, Call, If', While', Return, Break, Continue}
@@ -16,7 +16,7 @@ use Rattle.ceal_norm.specs.Laws.{IsClosed, IsForward}
 use Rattle.ceal_norm.specs.Units.{Source, Placed, unit_of, args_of, jump_code, test_code, value_code, stmt_code, block_code, tree}
 
 module _ (s : Source) where
-  -- the code of a block depends on what stands at its jumps alone
+  -- the code of a block depends only on what is at its jumps
   module _ (F G : Placed) where
     value-same : (next i n : ℕ) (v : TypedValue) → ((j : ℕ) → F next j ≡ G next j) → value_code s F next i n v ≡ value_code s G next i n v
     value-same next i n (Plain e) h = rw (h (i + 1)) refl

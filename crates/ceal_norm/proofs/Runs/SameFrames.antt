@@ -1,4 +1,4 @@
--- A run of trace code goes along with a run of the graph: each unit still to do stands at the block of the point that goes
+-- A run of trace code corresponds to a run of the graph: each unit still to do is at the block of the point that goes
 -- with it, and has the words of the variables that are live there.
 use Rattle.std.proofs.Common.{◌≡◌, ◌⊎◌, inl, inr, ℕ, ◌+◌, ◌-◌, ◌<◌, ◌≤◌, Bool, true, false, if◌then◌else◌, Option, Some, None, List, [], ◌∷◌, ◌++◌, length, map, slice_get, unwrap_or, replicate, refl, sym, ap, ◌∙◌, subst, arith, append_assoc, length-append}
 use Rattle.std.proofs.lemmas.List.{append-nil}
@@ -98,7 +98,7 @@ module _ (s : Source) (onward : Placed) (i : ℕ) where
   block-head (Some (Act st next)) = stmt-head next st
   block-head (Some Unreached) = record { c = _; rest = _; is = refl; done = λ e. refl; steps = λ e. cc }
 
--- a part of a unit's body stands at an index
+-- a part of a unit's body is at an index
 pub record PartAt (code : Code) (u i : ℕ) (part : List Cmd) : Type 0 where
   pub before : List Cmd
   pub after : List Cmd
@@ -148,7 +148,7 @@ module _ (p : Typed) (sets : List (List ℕ)) where
   abbrev pub code : Code
   code = code_of s
 
-  -- the tree of a block, and what stands at a jump to it
+  -- the tree of a block, and what is at a jump to it
   abbrev pub T : Placed
   T b i = tree s (length g.blocks) b i
 

@@ -189,7 +189,7 @@ module _ (p : Typed) (sets : List (List ℕ)) (typed : WellTyped p) (kept : Keep
     abbrev Step : CodeAct → State → Type 0
     Step a t = Stepped p sets m a t
 
-    -- by the command that stands there
+    -- by the command that is there
     step-by : (part : List Cmd) (c : Cmd) (rest : List Cmd) (t : State) → tree_at q.block i ≡ part → part ≡ c ∷ rest → Step (now c) t → Step (now (command_at the_code u i)) t
     step-by part c rest t e f h =
         subst (λ d. Step (now d) t) (sym (command-is the_code u i (tree_at q.block i) c rest along.part (e ∙ f))) h

@@ -111,7 +111,7 @@ module _ (fs : List TypedFunction) (c : Context) (blocks : List GraphBlock) (sta
   use-seen seen at v (acts s next nx inner look within typed usage simple st) h =
       seen-within c inner seen v within (stmt-seen c inner fs nx s typed usage simple v (rw look at h))
 
-  -- where a path leads others stand
+  -- where a path leads there are others
   pub record Onward (seen : List ℕ) (b d : ℕ) (keep : ℕ → Type 0) : Type 0 where
     pub after : List ℕ
     pub stands : Stand after d

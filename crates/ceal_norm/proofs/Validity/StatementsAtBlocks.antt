@@ -1,5 +1,5 @@
--- Where a run stands in the blocks of a function: the statements still to do are well typed there, and a jump leads to
--- where others stand.
+-- Where a run is in the blocks of a function: the statements still to do are well typed there, and a jump leads to
+-- others.
 use Rattle.std.proofs.Common.{◌≡◌, ℕ, ◌+◌, ◌≤◌, Bool, true, false, ◌||◌, Some, List, [], ◌∷◌, ◌++◌, slice_get, Contains, All, refl, sym, ap, ◌∙◌, subst, arith}
 use Rattle.std.proofs.lemmas.List.Elements.{All-nil, All-cons, All-head, All-tail, Contains-append_right}
 use Rattle.ceal_base.specs.Usage.{CoreUsage, RowCoreUsage}
@@ -80,9 +80,9 @@ module _ (fs : List TypedFunction) (c : Context) where
   row-typed seen next (x ∷ xs) h = (h.0, row-typed (seen_after seen x) (next + declarations x) xs h.1)
 
   module _ (blocks : List GraphBlock) (start done : ℕ) where
-    -- the statements still to do stand at a block, where these variables are in scope: they are parts of bodies, each of
-    -- which stands where the part before it leads, and other statements stand where jumps lead out; after a part that
-    -- does not go on anything may follow
+    -- the statements still to do are at a block, where these variables are in scope: they are parts of bodies, each of
+    -- which is where the part before it leads, and there are other statements where jumps lead out. After a part that
+    -- does not continue anything may follow
     pub data Stands : List ℕ → ℕ → Type 0 where
       ends : {seen : List ℕ} {at : ℕ} → at ≡ done → Stands seen at
       goes : {seen : List ℕ} {at : ℕ} → (ss : List TypedStmt) (n after next : ℕ) (exits : Exits) (outer loop : List ℕ) → at ≡ entry ss n after exits
@@ -90,7 +90,7 @@ module _ (fs : List TypedFunction) (c : Context) where
           → Within outer seen → (all_go_on ss ≡ true → Stands outer after)
           → exits.done ≡ done → Within loop seen → Stands loop exits.behind → Stands loop exits.test → Stands seen at
 
-    -- the first statement, what follows it where it goes on, and what stands where jumps lead out
+    -- the first statement, what follows it where it continues, and what is where jumps lead out
     record Front (s : TypedStmt) (seen : List ℕ) (at : ℕ) : Type 0 where
       n : ℕ
       after : ℕ
@@ -134,7 +134,7 @@ module _ (fs : List TypedFunction) (c : Context) where
       within-blocks seen at (goes (s ∷ ss) n after next exits outer loop e usage typed placed low high within stands final enclosed behind test) =
           target-within s n at exits e low (omega (arith, high)) final (within-blocks loop exits.behind behind) (within-blocks loop exits.test test)
 
-      -- what stands at a block
+      -- what is at a block
       pub data View (seen : List ℕ) (at : ℕ) : Type 0 where
         over : slice_get blocks at ≡ Some Done → View seen at
         tests : (test : TypedExpr) (a b : ℕ) (inner : List ℕ) → slice_get blocks at ≡ Some (Test test a b) → Within inner seen
@@ -142,7 +142,7 @@ module _ (fs : List TypedFunction) (c : Context) where
         acts : (s : TypedStmt) (next nx : ℕ) (inner : List ℕ) → slice_get blocks at ≡ Some (Act s next) → Within inner seen
             → StmtTyped c inner nx s → CoreUsage fs true s → IsSimple s → Stands (seen_after inner s) next → View seen at
 
-      -- what stands at a block stands there where more variables are in scope
+      -- what is at a block is there where more variables are in scope
       view-within : (inner seen : List ℕ) (b at : ℕ) → at ≡ b → Within inner seen → View inner b → View seen at
       view-within inner seen b at e w (over look) = over (ap (slice_get blocks) e ∙ look)
       view-within inner seen b at e w (tests test x y more look within typed int one two) =

@@ -1,4 +1,4 @@
--- Each entry of a program's graph is a block of a core function, at which well typed statements stand.
+-- Each entry of a program's graph is a block of a core function, at which there are well typed statements.
 use Rattle.std.proofs.Common.{◌≡◌, ℕ, ◌≤◌, true, false, Option, Some, None, List, [], ◌∷◌, slice_get, All, refl, sym, ap, ◌∙◌, subst, arith}
 use Rattle.ceal_base.specs.Usage.{CoreUsage, InitUsage, FunctionUsage, KeepsUsage}
 use Rattle.ceal_base.specs.WellTyped.{Context, FunctionTyped, WellTyped, context_of, numbers_below}
@@ -62,11 +62,11 @@ module _ (p : Typed) where
     pub room : home.start ≤ end_of f.body home.start
     pub first : Stands p.functions (context f) g.blocks home.start (end_of f.body home.start) (numbers_below f.params) (first_of f.body home.start)
 
-  -- it stands at a block of the function, where these variables are in scope
+  -- it is at a block of the function, where these variables are in scope
   abbrev pub StandsIn : (k : ℕ) → Function k → List ℕ → ℕ → Type 0
   StandsIn k fn seen b = Stands p.functions (context fn.f) g.blocks fn.home.start (end_of fn.f.body fn.home.start) seen b
 
-  -- what stands there
+  -- what is there
   abbrev pub ViewIn : (k : ℕ) → Function k → List ℕ → ℕ → Type 0
   ViewIn k fn seen b = View p.functions (context fn.f) g.blocks fn.home.start (end_of fn.f.body fn.home.start) fn.over fn.room seen b
 

@@ -1,4 +1,4 @@
--- After a read among kept nodes whose unit is over, the nodes that are kept go on, in code.
+-- After a read among kept nodes whose unit is over, the kept nodes continue, in code.
 use Rattle.std.proofs.Common.{◌≡◌, ℕ, Some, List, refl, sym, ap, ◌∙◌}
 use Rattle.ceal_base.specs.Block.{Block}
 use Rattle.ceal_base.specs.declared.word.BlockId.{BlockId}

@@ -95,7 +95,7 @@ end-turn code names s below ws is = refl
 unqueued-from : (t : Tables) → Kept t → (s : ℕ) → QueuedFrom s t → (r : ℕ) → position r t.trace.nodes < position s t.trace.nodes → IsHonestRecord r t
 unqueued-from t k s from r lt = unqueued-honest t k r (false-of (is_in r t.stale.stamps) (λ i. absurd (omega (arith, from r i, lt)))) (λ z i. omega (arith, from z i, lt))
 
--- ---- what is passed, and what stands after it
+-- ---- what is passed, and what is after it
 
 -- what the frame of the taken read says of what waits
 pub record PassesTaken (limit : Option Stamp) (beyond : List Entry) (until : Stamp) (fs : List Frame) (ws : List Wait) (rs : List ℕ) (back : List Entry) : Type 0 where
@@ -168,7 +168,7 @@ module _ (code : Code) (inputs : List Block) (start : Start) (until : Stamp) (v 
   pub limit-there : (u : Stamp) → v.limit ≡ Some u → has_node u.0 v.tables.trace.nodes ≡ true
   limit-there u e = let both = sym now.limit ∙ e in let same : until ≡ u = cc in subst (λ (s : Stamp). has_node s.0 v.tables.trace.nodes ≡ true) same (end-there v.tables refl now.placed.kept)
 
-  -- where none that is queued stands before the limit
+  -- where none that is queued is before the limit
   pub left-from : (t : Tables) → t.trace ≡ v.tables.trace → ((s : ℕ) → is_in s t.stale.stamps ≡ true → ¬ IsBefore (stamps_in v.tables.trace.nodes) v.limit s) → QueuedFrom until.0 t
   left-from t same h s i =
       let far : ¬ (position s t.trace.nodes < position until.0 t.trace.nodes) = subst (λ (l : Timeline). ¬ (position s l.nodes < position until.0 l.nodes)) (sym same)
@@ -207,7 +207,7 @@ module _ (code : Code) (inputs : List Block) (start : Start) (until : Stamp) (v 
         ∙ (changed-part (closing until.0 around-it.read around-it.steps) last-part (steps_set 0) walked not-front
         ∙ sym (behind-all walked (entry until.0 (End (stamped around-it.read)) 0) last-part)))
 
-    -- nothing that is queued stands up to the end
+    -- nothing is queued up to the end
     late-then : QueuedBehind until.0 t
     late-then r i =
         let q : is_in r t1.stale.stamps ≡ true = subst (λ (z : _). is_in r z.stamps ≡ true) queue i in
@@ -236,7 +236,7 @@ module _ (code : Code) (inputs : List Block) (start : Start) (until : Stamp) (v 
         → KnownBlock (length inputs) (known_after [] (forest_of walked)) q.block
     known-then q c = subst (λ bs. KnownBlock (length inputs) bs q.block) (ap (known_after []) (forest-put walked until.0 (End (stamped around-it.read))) ∙ known-append [] (forest_of walked) (item.End ∷ [])) c
 
-    -- all are in front with the end, and the units below run with what stands after it
+    -- all are in front with the end, and the units below run with what is after it
     pub now-passed : RunningNow code inputs start (waits_in around-it.below) (record { tables = t; heap = v.heap; spent = v.spent; cursor = until.0; limit = Some around-it.next; frames = around-it.frames })
     now-passed = record {
       reads = around-it.reads;

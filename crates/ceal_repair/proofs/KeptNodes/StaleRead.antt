@@ -44,7 +44,7 @@ use Rattle.ceal_trace.specs.Items.{ticks, forest_of}
 use Rattle.ceal_trace.specs.Nodes.{Entry, stamps_in, has_node, position, entry_at, node_at, held_by, end_in, with_steps, with_value, steps_set, value_set, is_read}
 use Rattle.ceal_trace.specs.declared.node.Node.TheVariants.{Read}
 
--- ---- nodes that stand in none of these
+-- ---- nodes that are in none of these
 
 entry-back : (r : ℕ) (front back : List Entry) → has_node r front ≡ false → entry_at r (front ++ back) ≡ entry_at r back
 entry-back r [] back h = refl
@@ -67,7 +67,7 @@ position-far r (e ∷ es) back h = elim (eqb_tells e.stamp r) [
   | inr p ↦ rw p.0 (let rest = position-far r es back (rw p.0 at h) in omega (arith, rest))
 ]
 
--- where all that is queued stands after a node, the reads up to it have the contents of their moments
+-- where all that is queued is after a node, the reads up to it have the contents of their moments
 unqueued-behind : (t : Tables) → Kept t → (s : ℕ) → QueuedBehind s t → (r : ℕ) → position r t.trace.nodes ≤ position s t.trace.nodes → IsHonestRecord r t
 unqueued-behind t k s behind r le = unqueued-honest t k r (false-of (is_in r t.stale.stamps) (λ i. absurd (omega (arith, behind r i, le)))) (λ z i. omega (arith, behind z i, le))
 
@@ -85,7 +85,7 @@ mend-turn code names s ws p w u x args is h = rw h refl
 
 module _ (code : Code) (inputs : List Block) (start : Start) (until : Stamp) (v : View) (now : PassingNow code inputs start until v)
     (read : ℕ) (stale : IsStale read v.tables) (near : position read v.tables.trace.nodes < position until.0 v.tables.trace.nodes) where
-  -- the read stands among the nodes that are passed
+  -- the read is among the nodes that are passed
   not-yet : has_node read (through now.placed.done now.placed.last) ≡ false
   not-yet = elim (cases_Bool (has_node read (through now.placed.done now.placed.last))) [
     | inl h ↦
@@ -232,7 +232,8 @@ module _ (code : Code) (inputs : List Block) (start : Start) (until : Stamp) (v 
         ∙ ap (λ z. Went (item.Read the-read.place z the-read.unit the-read.var the-read.args ∷ [])
         (running_at (state_at code inputs v moment-read.course.store (start.chosen ++ moment-read.course.made)) (resumed code the-read.unit the-read.var the-read.args z) (Fixes ∷ the-read.waits) (ticks the-read.steps ++ forest_of read-tail))) store-now
 
-    -- the nodes before the read are passed, and its unit runs, with what is inside it left over; after its end nodes are passed then
+    -- the nodes before the read are passed, and its unit runs, with what is inside it left over; after its end nodes
+    -- are passed then
     pub now-mend : RunningNow code inputs start (resumed code the-read.unit the-read.var the-read.args word)
         (record { tables = t; heap = v.heap; spent = v.spent; cursor = read; limit = Some (stamped the-read.end); frames = FrameKept until ∷ v.frames })
     now-mend = record {

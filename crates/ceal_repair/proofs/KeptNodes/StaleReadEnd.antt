@@ -101,7 +101,7 @@ module _ (code : Code) (inputs : List Block) (start : Start) (st : Stack) (w : V
     node-there : node_at next-kept.end t.trace.nodes ≡ Some (End (stamped next-kept.read))
     node-there = ap (node_at next-kept.end) nodes-part ∙ ap held_by (entry-part end-entry next-kept.back (through now.placed.done now.placed.last) not-front)
 
-    -- nothing that is queued stands up to the end
+    -- nothing is queued up to the end
     late-then : QueuedBehind next-kept.end t
     late-then r i =
         let reads : is_read (node_at r t.trace.nodes) ≡ true = kept.step.queued r i in
@@ -159,7 +159,8 @@ module _ (code : Code) (inputs : List Block) (start : Start) (st : Stack) (w : V
     unfolding mid-machine
     mid-number = refl
 
-    -- what is left over inside the read is revoked, its end is in front with its steps, and the nodes after it are to be passed
+    -- what is left over inside the read is revoked, its end is in front with its steps, and the nodes after it must be
+    -- passed
     pub now-go-on : PassingNow code inputs start until (record { tables = t; heap = heap; spent = w.spent; cursor = next-kept.end; limit = Some until; frames = w.frames })
     now-go-on = record {
       reads = next-kept.reads;

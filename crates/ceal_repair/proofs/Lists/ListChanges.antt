@@ -1,4 +1,5 @@
--- What is put into the lists of a place and of a key, taken out of them and looked up in them, where the nodes are parted.
+-- What is put into the lists of a place and of a key, taken out of them and looked up in them, where the nodes are
+-- parted.
 use Rattle.std.proofs.Common.{◌≡◌, ℕ, suc, inl, inr, ◌+◌, ◌<◌, ◌≤◌, Bool, true, false, if◌then◌else◌, nat_lt, insert, List, [], ◌∷◌, ◌++◌, length, refl, sym, ap, subst, ◌∙◌, arith, append_assoc}
 use Rattle.std.proofs.lemmas.Bool.Decides.{eqb_tells}
 use Rattle.ceal_base.specs.Operators.{same_place}
@@ -72,7 +73,7 @@ module _ (front : List Entry) (e : Entry) (back : List Entry) (distinct : Distin
   pub own-apart : is_in e.stamp (stamps_in front) ≡ false
   own-apart = not-front (stamps_in front) e.stamp (stamps_in back) parts
 
-  -- a node of the front stands before it, one of the back does not
+  -- a node of the front is before it, one of the back is not
   pub front-before : (t : ℕ) → is_in t (stamps_in front) ≡ true → place t (stamps_in (front ++ e ∷ back)) < place e.stamp (stamps_in (front ++ e ∷ back))
   front-before t h = rw (stamps-append front (e ∷ back)) (before-part e.stamp t (stamps_in front) (e.stamp ∷ stamps_in back) h own-apart)
 

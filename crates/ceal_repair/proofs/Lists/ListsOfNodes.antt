@@ -181,7 +181,7 @@ module _ (front : List Entry) (e : Entry) (back : List Entry) where
         reads q true k = rw (place-same q p k) (ap (λ (x : Cell). x.reads) c.here ∙ (ap (without e.stamp) (t.reads p) ∙ where-cut front e back distinct (reads_at p)))
         reads q false k = ap (λ (x : Cell). x.reads) (c.others q (other-place q p k)) ∙ (t.reads q ∙ where-skip (reads_at q) front e back (rw (is, place-sym q p k) refl))
 
--- a stamp that no node has stands in no list
+-- a stamp that no node has is in no list
 pub free-of : (s : ℕ) (nodes : List Entry) (mods : Contents) → IsTabled nodes mods → has_node s nodes ≡ false → IsFree s mods
 free-of s nodes mods t h q = (
   false-of (is_in s (stamps_of (cell_of mods q).writes)) (λ k. sym (writes-among q nodes s (subst (λ (l : List WriteOf). is_in s (stamps_of l) ≡ true) (t.writes q) k)) ∙ h),

@@ -30,14 +30,14 @@ place-back s (x ∷ xs) ys h = elim (eqb_tells x s) [
   | inr p ↦ rw p.0 (let r = place-back s xs ys (rw p.0 at h) in omega arith)
 ]
 
--- the front ones stand before a stamp that is not among them, the others do not
+-- the front ones are before a stamp that is not among them, the others are not
 pub before-part : (n s : ℕ) (xs ys : List ℕ) → is_in s xs ≡ true → is_in n xs ≡ false → place s (xs ++ ys) < place n (xs ++ ys)
 before-part n s xs ys h k = omega (arith, place-front s xs ys h, place-back n xs ys k, place_below s xs h)
 
 pub behind-part : (n s : ℕ) (xs ys : List ℕ) → is_in s xs ≡ false → is_in n xs ≡ false → place n ys ≡ 0 → place n (xs ++ ys) ≤ place s (xs ++ ys)
 behind-part n s xs ys h k e = omega (arith, place-back s xs ys h, place-back n xs ys k, e)
 
--- ---- how many of a list stand before a stamp
+-- ---- the number of those of a list before a stamp
 
 pub count-all : (order : List ℕ) (n : ℕ) (fs bs : List ℕ) → ((t : ℕ) → is_in t fs ≡ true → place t order < place n order) → count_before order n (fs ++ bs) ≡ length fs + count_before order n bs
 count-all order n [] bs h = omega arith

@@ -19,7 +19,7 @@ use Rattle.ceal_trace.specs.Nodes.{Entry, Timeline, IsTrace, stamps_in, has_node
 use Rattle.ceal_trace.specs.declared.node.Node.{Node}
 use Rattle.ceal_trace.specs.declared.node.Node.TheVariants.{Root, Alloc, Write, Read, End}
 
--- the end of an open read, and what stands after it up to the next such end
+-- the end of an open read, and what is after it up to the next such end
 record Layer : Type 0 where
   end : ℕ
   read : ℕ
@@ -57,7 +57,7 @@ laid-got s p v u x args n g e m h [] = refl
 laid-got s p v u x args n g e m h (l ∷ ls) =
     ap (λ es. entry s (Read p v u x args) n ∷ es) (sym (append_assoc (entries g) (closing e s m ∷ entries h) (closing l.end l.read l.steps ∷ laid l.behind ls)))
 
--- a read takes the innermost grove inside, and goes on with the one after its end
+-- a read takes the innermost grove inside, and continues with the one after its end
 laid-read : (s n : ℕ) (p : Place) (v : Word) (u : UnitId) (x : ℕ) (args : List Word) (reads : List ℕ) (es : List Entry) (g : Grove) (ls : List Layer) → reads_of ls ≡ s ∷ reads → es ≡ laid g ls
     → Laid reads (entry s (Read p v u x args) n ∷ es)
 laid-read s n p v u x args reads es g [] same is = absurd (cc)
@@ -109,7 +109,7 @@ laid-alone es g (l ∷ ls) same is = absurd (cc)
 pub as-grove : (es : List Entry) → Rootless es → Nests es → (g : Grove) × (es ≡ entries g)
 as-grove es plain nests = let l = laid-all es [] plain nests in laid-alone es l.inner l.outer l.same l.is
 
--- ---- no root stands after the first node
+-- ---- there is no root after the first node
 
 rootless-node : (node : Node) → (node ≡ Root → ⊥) → RootlessNode node
 rootless-node Root h = h refl
@@ -134,7 +134,7 @@ module _ (t : Timeline) (trace : IsTrace t) where
     rootless-after first (done ++ x ∷ []) xs (e ∙ ap (λ es. first ∷ es) (sym (behind-all done x xs))),
   )
 
-  -- none stands after another node
+  -- there is none after another node
   pub rootless-behind : (front : List Entry) (e : Entry) (back : List Entry) → t.nodes ≡ front ++ e ∷ back → Rootless back
   rootless-behind [] e back h = rootless-after e [] back h
   rootless-behind (x ∷ xs) e back h = rootless-after x (xs ++ e ∷ []) back (h ∙ ap (λ es. x ∷ es) (sym (behind-all xs e back)))
@@ -189,7 +189,7 @@ module _ (t : Timeline) (trace : IsTrace t) (nests : Nests t.nodes) (read : ℕ)
       ∙ (ap (λ es. around.before ++ entry read (Read place value unit var args) around.begins.steps ∷ (es ++ around.ends' ∷ around.behind)) inside-grove.1
       ∙ ap (λ e. around.before ++ entry read (Read place value unit var args) around.begins.steps ∷ (entries inside-grove.0 ++ e ∷ around.behind)) ends-is))
 
-  -- it stands among the nodes with what is inside it and with its end
+  -- it is among the nodes with what is inside it and with its end
   abbrev pub read-at : ReadAt t.nodes
   read-at = record {
     before = around.before;

@@ -213,7 +213,7 @@ began-put start front e b = record {
   same = ap (λ es. es ++ e ∷ []) b.same ∙ append_assoc start.before (entry start.stamp start.node b.steps ∷ b.fresh) (e ∷ []);
 }
 
--- ---- the reads that are open stand among the nodes
+-- ---- the reads that are open are among the nodes
 
 -- no stamp of these is that of a node
 abbrev ApartFrom : List ℕ → List Entry → Type 0
@@ -428,7 +428,7 @@ pub entry-front : (r : ℕ) (front back : List Entry) → has_node r front ≡ t
 entry-front r [] back h = absurd (cc)
 entry-front r (e ∷ es) back h = elim (eqb_tells e.stamp r) [ inl p ↦ rw p.0 refl | inr p ↦ rw p.0 (entry-front r es back (rw p.0 at h)) ]
 
--- a node in front does not stand after the last one
+-- a node in front is not after the last one
 pub position-front : (r : ℕ) (done : List Entry) (last : Entry) (back : List Entry) → has_node r (through done last) ≡ true → position r (through done last ++ back) ≤ length done
 position-front r [] last back h = elim (eqb_tells last.stamp r) [
   | inl p ↦ rw p.0 (omega arith)
@@ -474,7 +474,7 @@ mutual
       → Passes limit beyond until fs ws rs back → (r : ℕ) → is_in r (waiting fs) ≡ true → is_in r rs ≡ true
   passes-open (Passes.passes {rs = rs} below e q m g h t) r i = inside-reads h r (in_tail r q rs (waiting-open t r i))
 
--- what stands after nodes that are left over
+-- what is after nodes that are left over
 pub tails-bound : {limit : Option Stamp} {beyond : List Entry} {until : Option Stamp} {fs : List Frame} {ws : List Wait} {rs : List ℕ} {tail : List Entry}
     → Tails limit beyond until fs ws rs tail → Bounds limit beyond → Bounds until tail
 tails-bound Tails.last b = b
@@ -503,7 +503,7 @@ comes-next (Tails.begun {ws = ws} {rs = rs} below read t) = record { waits = ws;
 comes-next (Tails.taken below e r m g t) = refl
 comes-next (Tails.kept e r m t) = refl
 
--- stamps that stand once do so in front
+-- stamps that occur once do so in front
 not-in-front : (s : ℕ) (front back : List Entry) → NotIn s (stamps_in (front ++ back)) → NotIn s (stamps_in front)
 not-in-front s [] back h = tt
 not-in-front s (e ∷ es) back h = (h.0, not-in-front s es back h.1)

@@ -120,7 +120,7 @@ module _ (code : Code) (inputs : List Block) (f : ℕ) (args : List Word) (r : R
   pub items-parted : (front back : List Entry) → run.tables.trace.nodes ≡ front ++ back → flat r.items ≡ forest_of front ++ forest_of back
   items-parted front back h = sym stands.items ∙ (ap forest_of h ∙ forest-append front back)
 
-  -- a block that nodes allocate is known with its shape, which its bases go by
+  -- a block that nodes allocate is known with its shape, which determines its bases
   live-base : (b field : ℕ) → IsLive run.heap (Core b) → first-store (record { block = Core b; field = field }) ≡ bases (record { block = Core b; field = field })
   unfolding starting
   live-base b field l =
@@ -187,6 +187,7 @@ module _ (code : Code) (inputs : List Block) (f : ℕ) (args : List Word) (r : R
       (agrees-both code first-store (forest_of done) (item_of e.node ++ ticks e.steps) a (agrees-node done e (es ++ back) h a e.node refl c.0)))
       (subst (λ s. HasContents s es) (sym (contents-append bases done (e ∷ []))) c.1))
 
-  -- nodes in front whose reads have what the lists of writes say agree with the store of the repair; the front may be all nodes
+  -- nodes in front whose reads have what the lists of writes say agree with the store of the repair; the front may be
+  -- all nodes
   pub agrees-front : (front back : List Entry) → run.tables.trace.nodes ≡ front ++ back → HasContents bases front → AgreesAll code first-store (forest_of front)
   agrees-front front back h c = agrees-after [] front back h tt c

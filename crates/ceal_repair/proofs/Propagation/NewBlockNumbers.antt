@@ -1,4 +1,4 @@
--- Names of new blocks that go on from the numbers that were given out, and turns with them.
+-- Names of new blocks that continue the numbers that were given out, and turns with them.
 use Rattle.std.proofs.Common.{◌≡◌, ℕ, zero, suc, ◌+◌, ◌≤◌, ◌<◌, inl, inr, Some, List, [], ◌∷◌, ◌++◌, slice_get, refl, arith}
 use Rattle.std.proofs.lemmas.Bool.Decides.{eqb_tells}
 use Rattle.ceal_base.specs.Block.{Block}
@@ -37,7 +37,7 @@ none-above b (c ∷ bs) h = elim (eqb_tells c b) [
   | inr e ↦ let rest : count b bs ≡ 0 = none-above b bs (omega (arith, h)) in rw (e.0, rest) refl
 ]
 
--- names that go on from these numbers, each another one, and none that of a block that was there at first
+-- names that continue these numbers, each another one, and none that of a block that was there at first
 pub record GoesOn (chosen first : List ℕ) : Type 0 where
   pub names : ℕ → ℕ
   pub single : Single names
@@ -50,7 +50,7 @@ each-name P [] bound k h g = g k
 each-name P (b ∷ bs) bound zero h g = h b here
 each-name P (b ∷ bs) bound (suc k) h g = each-name P bs bound k (λ c i. h c (there i)) g
 
--- numbers that were given out go on
+-- numbers that were given out are continued
 pub goes-on : (first chosen : List ℕ) → Distinct chosen → ((b : ℕ) → In b chosen → count b first ≡ 0) → GoesOn chosen first
 goes-on first chosen d a =
     let bound = above chosen + above first in
@@ -62,7 +62,7 @@ goes-on first chosen d a =
       continues = h.1;
     }
 
--- what goes on from more numbers goes on from the first of them
+-- what continues more numbers continues the first of them
 pub continues-front : (chosen made : List ℕ) (names : ℕ → ℕ) → Continues (chosen ++ made) names → Continues chosen names
 continues-front chosen made names h k c e = h k c (front chosen k c e)
   where
@@ -77,7 +77,7 @@ module _ (code : Code) (inputs : List Block) (f : ℕ) (args : List Word) (o : S
     turns-hold r z n h Turns.none = h
     turns-hold r z n h (Turns.turn {n = m} {r' = r'} s t) = turns-hold r' z m (slice-law code names inputs f args called.fits r h (Some 1) r' s).sound t
 
-    -- what turns come to holds
+    -- the result of turns holds
     pub turns-sound : Single names → NamesOff names o.first → (n : ℕ) (z : Repair) → Turns code names inputs n o.repair z → Sound code names inputs f args z
     turns-sound single apart n z t = turns-hold o.repair z n (called.sound names single apart) t
 

@@ -90,7 +90,7 @@ module _ (code : Code) (inputs : List Block) (f : ℕ) (args : List Word) (o : S
       (subst (λ is. AgreesAll code (bases code inputs) is) (forest-append spot.before (read_there ∷ rest)) a) in
       stale (any-start code inputs (forest_of spot.before) (known_after [] (forest_of spot.before)) contents so_far.repair.known spot.place ready.place ∙ there.1.0)
 
-  -- so nodes that agree stand before it
+  -- so nodes that agree are before it
   pub stands-before : (front back : List Entry) → run.tables.trace.nodes ≡ front ++ back → AgreesAll code (bases code inputs) (forest_of front) → (mid : List Entry) × (spot.before ≡ front ++ mid)
   stands-before front back e a = of (fronts front back spot.before read_there _ (sym e ∙ spot.whole))
     where
@@ -143,7 +143,7 @@ no-turns r idle = record {
   sure = λ f args o before h k. refl;
 }
 
--- some turns, no more than there are to be, and no more steps than the fuel
+-- some turns, no more than the given number of reads, and no more steps than the fuel
 pub record TurningIn (old now : Repair) (turns : ℕ) (reads : Option ℕ) (fuel : ℕ) : Type 0 where
   pub turning : Turning old now turns
   pub few : IsWithin turns reads
@@ -274,7 +274,7 @@ module _ (old begun gone : Repair) (read : ℕ) (call_begun : SameCall old begun
   pub turn-out : Runs runs.start gone → (fuel : ℕ) → fuel < (view gone).spent → IsSpent (code_of old) (inputs_of old) fuel o
   turn-out r fuel more = turn-over (code_of old) (inputs_of old) f args o found.before runs.start runs.began gone (call_gone.code ∙ call_begun.code) (call_gone.inputs ∙ call_begun.inputs) r fuel more
 
-  -- it has come to its end
+  -- it has reached its end
   pub began-gone : TurnBegan (code_of gone) (inputs_of gone) f args o found.before runs.start
   began-gone = rw (call_gone.code ∙ call_begun.code, call_gone.inputs ∙ call_begun.inputs) runs.began
 

@@ -165,7 +165,7 @@ module _ (code : Code) (inputs : List Block) (f : ℕ) (args : List Word) (o : S
   pub opens : (reads : List ℕ) × (unclosed (Some []) spot.before ≡ Some reads)
   opens = read-opens old.trace found.so_far.stands.kept.step.whole found.so_far.stands.nests read at-place found.value unit var words found.is_read.is
 
-  -- what stands after the read
+  -- what is after the read
   abbrev behind : List Entry
   behind = entries spot.inside ++ closing spot.end read spot.end_steps ∷ spot.behind
 
@@ -192,7 +192,7 @@ module _ (code : Code) (inputs : List Block) (f : ℕ) (args : List Word) (o : S
   same-bases : base_in run.tables.mods ≡ base_in old.mods
   same-bases = fun_ext (λ p. bases-cells run.tables.mods old.mods found.cells p)
 
-  -- nothing that is queued stands up to the read
+  -- nothing is queued up to the read
   honest-there : (s : ℕ) → position s run.tables.trace.nodes ≤ position read run.tables.trace.nodes → IsHonestRecord s run.tables
   honest-there s le = unqueued-honest run.tables found.kept s (false-of (is_in s run.tables.stale.stamps) (λ i. absurd (omega (arith, found.queued s i, le)))) (λ z i. omega (arith, found.queued z i, le))
 

@@ -1,5 +1,5 @@
--- A turn of propagation as its course: its machine has come from the read by itself; where it has spent more steps than the fuel, so
--- has each slice that comes so far.
+-- A turn of propagation as its course: its machine has come from the read by itself; where it has spent more steps than
+-- the fuel, so has each slice that comes so far.
 use Rattle.std.proofs.Common.{◌≡◌, ℕ, zero, suc, ◌+◌, ◌<◌, Some, None, List, ◌∷◌, ◌++◌, sym, subst, ◌∙◌, arith}
 use Rattle.ceal_base.specs.Block.{Block}
 use Rattle.ceal_base.specs.Trace.{Trace, flat}
@@ -62,7 +62,7 @@ module _ (code : Code) (inputs : List Block) (f : ℕ) (args : List Word) (o : S
     abbrev pub machine_now : Machine
     machine_now = running_at (state_at code inputs v now.course.store chosen_now) st now.waits (forest_of (entries now.left ++ now.tail))
 
-    -- with names that go on from all numbers that were given, it is a course of the turn
+    -- with names that continue all numbers that were given, it is a course of the turn
     pub turn-course : (names : ℕ → ℕ) → Continues chosen_now names
         → TurnCourse code names inputs b.so_far.repair (forest_of b.spot.before) b.spot.place b.spot.unit b.spot.var b.spot.args inside_there back_there machine_now now.course.out
     turn-course names h =

@@ -44,7 +44,7 @@ turn-ended : (code : Code) (names : ℕ → ℕ) (s : State) (st : Stack) (ws : 
 unfolding turn
 turn-ended code names s st ws is e over = rw (over, e) refl
 
--- the words of core blocks that stand as they did
+-- the words of core blocks whose state is the same
 core-words : (code : Code) (inputs : List Block) (old new : Contents) → ((b : BlockId) → block_of new b ≡ block_of old b) → (b : ℕ) → words_of code inputs old (Core b) ≡ plain_of new (Core b)
 unfolding words_of with_inputs
 core-words code inputs old new h b = ap (option_map plain_block) (sym (h (Core b)))
@@ -102,7 +102,7 @@ module _ (code : Code) (inputs : List Block) (f : ℕ) (args : List Word) (o : S
     one : Come going.names
     one = comes going.names going.continues
 
-    -- and so with all that go on from the chosen numbers
+    -- and so with all that continue the chosen numbers
     every : (names : ℕ → ℕ) → Continues chosen names → Slices code names inputs (Some 1) b.so_far.repair (repair_at state one.items)
     every names h =
         let c = comes names h in

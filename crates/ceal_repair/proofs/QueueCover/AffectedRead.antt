@@ -1,4 +1,5 @@
--- The read that is affected by a change after a stamp is the first one of its place there, before any write of the place.
+-- The read that is affected by a change after a stamp is the first one of its place there, before any write of the
+-- place.
 use Rattle.std.proofs.Common.{◌≡◌, ℕ, ◌<◌, ◌≤◌, Bool, true, false, List, [], ◌∷◌, ◌++◌, refl, sym, ap, subst, ◌∙◌, arith, append_assoc}
 use Rattle.std.specs.Prelude.{⊤}
 use Rattle.ceal_base.specs.Operators.{same_place}
@@ -17,9 +18,10 @@ use Rattle.ceal_repair.proofs.Lists.ListChanges.{back-apart, in-back}
 use Rattle.ceal_repair.specs.Covered.{Queue}
 use Rattle.ceal_repair.specs.Lists.{write_of, writes_in, reads_at, stamps_where}
 
--- the order parts at the stamp after which things change: those up to it, those between with nothing of the place, and the rest
+-- the order parts at the stamp after which things change: those up to it, those between with nothing of the place, and
+-- the rest
 module _ (front : List ℕ) (p : Place) (cell : Cell) (after : ℕ) (q' : Queue) where
-  -- a queued read of the place that stands after the stamp, and no other such before it
+  -- a queued read of the place that is after the stamp, and no other such one before it
   abbrev pub IsWoken : List ℕ → Type 0
   IsWoken order = (r : ℕ) → Sees order cell after r → ((other : ℕ) → Sees order cell after other → place r order ≤ place other order) → q' r ≡ true
 
@@ -54,7 +56,7 @@ module _ (front : List ℕ) (p : Place) (cell : Cell) (after : ℕ) (q' : Queue)
           go false k = refl
           go true k = absurd (omega (arith, h, up_to t k))
 
-      -- a stamp of the rest does not stand before its first one
+      -- a stamp of the rest is not before its first one
       far : (t : ℕ) → is_in t (stamps_in (e ∷ es)) ≡ true → place e.stamp (front ++ (mid ++ stamps_in (e ∷ es))) ≤ place t (front ++ (mid ++ stamps_in (e ∷ es)))
       far t h = omega (
         arith,

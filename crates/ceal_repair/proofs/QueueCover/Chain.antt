@@ -71,7 +71,7 @@ stored-away s p v x e = rw e refl
 linked : (q q' : Queue) (n : ℕ) (t t' : Store) (p : Place) (v : Word) → (q n ≡ true → q' n ≡ true) → t p ≡ t' p → (t p ≡ v) ⊎ (q n ≡ true) → (t' p ≡ v) ⊎ (q' n ≡ true)
 linked q q' n t t' p v k e c = elim c [ inl h ↦ inl (sym e ∙ h) | inr h ↦ inr (k h) ]
 
--- what is to be shown of the nodes after one
+-- what must be shown of the nodes after one
 abbrev pub Onward : Queue → Queue → List Entry → Type 0
 Onward q q' ks = (t t' : Store) → Alike t t' → Chained q t ks → Chained q' t' ks
 

@@ -48,7 +48,7 @@ module _ (e : Entry) (back : List Entry) where
     | inr p ↦ rw p.0 (behind-node xs (rw p.0 at none))
   ]
 
--- what stands up to a node does not stand after it
+-- what is up to a node is not after it
 pub up-to-places : (s : ℕ) (es : List Entry) (z : ℕ) → is_in z (stamps_in (up_to s es)) ≡ true → place z (stamps_in es) ≤ place s (stamps_in es)
 up-to-places s [] z h = absurd (let no : false ≡ true = h in cc)
 up-to-places s (e ∷ es) z h = elim (eqb_tells e.stamp s) [
@@ -214,7 +214,7 @@ chained-and r q m s es h c = chained-still (queue_of q) (and_one r m) es (keep e
 
 -- ---- the first read that is affected
 
--- the last one of a list stands after all of it
+-- the last one of a list is after all of it
 pub last-place : (xs : List ℕ) (y : ℕ) (ys : List ℕ) → is_in y xs ≡ false → (t : ℕ) → is_in t (xs ++ y ∷ []) ≡ true → place t ((xs ++ y ∷ []) ++ ys) ≤ place y ((xs ++ y ∷ []) ++ ys)
 last-place xs y ys h t k =
     let a = place-front t (xs ++ y ∷ []) ys k in
@@ -227,7 +227,7 @@ last-place xs y ys h t k =
     length-one [] y = omega arith
     length-one (x ∷ xs) y = omega (arith, length-one xs y)
 
--- After a stamp stand these nodes, before it others. Where what is woken after it is the read that is affected, the first
+-- After a stamp are these nodes, before it others. Where what is woken after it is the read that is affected, the first
 -- node of the place after it is queued if it is a read.
 pub first-queued : (front back : List Entry) (own : List ℕ) (s : ℕ) (order : List ℕ) (p : Place) (cell : Cell) (q' : List ℕ)
     → order ≡ (own ++ s ∷ []) ++ stamps_in back → Distinct order

@@ -157,7 +157,7 @@ pub record CutMore (code : Code) (inputs : List Block) (cursor found : ℕ) (fro
   pub queue : new.stale ≡ mid.stale
   pub kept : Kept new
 
--- the plain words of blocks that stand as they did
+-- the plain words of blocks whose state is the same
 words-input : (code : Code) (inputs : List Block) (heap heap' : Contents) (i : ℕ) → words_of code inputs heap' (Input i) ≡ words_of code inputs heap (Input i)
 unfolding words_of with_inputs
 words-input code inputs heap heap' i = refl
@@ -254,7 +254,7 @@ module _ (code : Code) (inputs : List Block) (start : Start) (st : Stack) (v : V
   pub node-there : node_at found.0 t2.trace.nodes ≡ Some (Alloc the-match.block the-match.own)
   node-there = ap (node_at found.0) nodes-mid ∙ ap held_by (entry-part (entry found.0 (Alloc the-match.block the-match.own) the-match.steps) (entries the-match.behind ++ now.tail) (through now.placed.done (more now.placed.last)) found-not-front)
 
-  -- nothing that is queued stands up to it
+  -- nothing is queued up to it
   late-then : QueuedBehind found.0 t
   late-then r i =
       let q : is_in r t2.stale.stamps ≡ true = subst (λ (z : _). is_in r z.stamps ≡ true) c.queue i in
@@ -408,7 +408,7 @@ module _ (code : Code) (inputs : List Block) (start : Start) (st : Stack) (v : V
   limit-some : v.limit ≡ None → ⊥
   limit-some none = let no : head_of (stamps_where (allocates key) (entries Bare)) ≡ Some found.0 = subst (λ g. head_of (stamps_where (allocates key) (entries g)) ≡ Some found.0) (now.bare none) matches in absurd (cc)
 
-  -- the block of the match is taken: its node is in front, and what stands after it is left over
+  -- the block of the match is taken: its node is in front, and what is after it is left over
   pub now-take-alloc : (x u i : ℕ) (env : Variables) (below : Stack) → next code (words_of code inputs v.heap) st ≡ Makes key x u i env below
       → RunningNow code inputs start (Run u i (set env x (pointer key the-match.block)) below) (record { tables = t; heap = heap; spent = v.spent + 1; cursor = found.0; limit = v.limit; frames = v.frames })
   now-take-alloc x u i env below does = record {

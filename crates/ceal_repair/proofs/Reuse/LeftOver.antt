@@ -178,7 +178,7 @@ taken-as key t block behind h = go (take_alloc key t) refl h
         let b : q.block ≡ block = ap (λ (z : TakenAlloc). z.block) same in
         record { left = q.leftover; is = e ∙ ap (λ c. Some (record { block = c; leftover = q.leftover })) b; same = ap (λ (z : TakenAlloc). z.leftover) same }
 
--- the first with the key stands among the nodes, and is no end
+-- the first with the key is among the nodes, and is no end
 head-some : (xs ys : List ℕ) (s : ℕ) → head_of (xs ++ ys) ≡ Some s → (head_of xs ≡ Some s) ⊎ (head_of ys ≡ Some s)
 head-some [] ys s h = inr h
 head-some (x ∷ xs) ys s h = inl h

@@ -171,7 +171,7 @@ pub record CutDone (code : Code) (inputs : List Block) (cursor found : ℕ) (fro
   pub has : HasBlocks code inputs heap old → HasBlocks code inputs heap' new
   pub kept : Kept new
 
--- the levels of what stands in a read and after its end
+-- the levels of what is in a read and after its end
 pub levels-behind : (g : Grove) (e r m : ℕ) (tail : List Entry) → around (levels (forest_of (entries g ++ closing e r m ∷ tail))) ≡ levels (ticks m ++ forest_of tail)
 levels-behind g e r m tail = around-left g (closing e r m ∷ tail)
 
@@ -353,7 +353,8 @@ module _ (code : Code) (inputs : List Block) (start : Start) (st : Stack) (v : V
     end-then = end-is t kept the-match.end found.0 the-match.end_steps (through (through now.placed.done (more now.placed.last)) (entry found.0 (Read p w u x args) 0)) (entries the-match.inside)
         (entries the-match.behind ++ now.tail) nodes-then
 
-    -- the read is in front, and its unit runs, with what is inside it left over; after its end stands what is left over then
+    -- the read is in front, and its unit runs, with what is inside it left over; after its end is what is left over
+    -- then
     pub now-retake : (until : Stamp) → v.limit ≡ Some until
         → RunningNow code inputs start (resumed code u x args w) (record { tables = t; heap = heap; spent = v.spent + 1; cursor = found.0; limit = Some (stamped the-match.end); frames = Taken below until ∷ v.frames })
     now-retake until limit = record {
@@ -440,7 +441,7 @@ module _ (code : Code) (inputs : List Block) (start : Start) (st : Stack) (v : V
     end-same = end-is t kept the-match.end found.0 the-match.end_steps (through (through now.placed.done (more now.placed.last)) (entry found.0 (Read p the-match.value u x args) the-match.steps)) (entries the-match.inside)
         (entries the-match.behind ++ now.tail) nodes-same
 
-    -- the read is in front with its steps, and what is inside it is to be passed, up to its end
+    -- the read is in front with its steps, and what is inside it must be passed, up to its end
     pub now-enter : (until : Stamp) → v.limit ≡ Some until
         → PassingNow code inputs start (stamped the-match.end) (record { tables = t; heap = heap; spent = v.spent + 1; cursor = found.0; limit = Some (stamped the-match.end); frames = Taken below until ∷ v.frames })
     now-enter until limit = record {

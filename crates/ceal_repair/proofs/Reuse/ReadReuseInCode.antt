@@ -120,6 +120,6 @@ same-place n p q v w u x args e r = let both : Some (Read p v u x args) ≡ Some
 pub same-value : (n : Option Node) (p q : Place) (v w : Word) (u : UnitId) (x : ℕ) (args : List Word) → n ≡ Some (Read p v u x args) → Records q w n → w ≡ v
 same-value n p q v w u x args e r = let both : Some (Read p v u x args) ≡ Some (Read q w r.unit r.var r.args) = sym e ∙ r.is in let same : v ≡ w = cc in sym same
 
--- what places hold before any write is in the cells alone
+-- what places hold before any write is only in the cells
 pub bases-cells : (a b : Mods) → a.cells ≡ b.cells → (q : Place) → base_in a q ≡ base_in b q
 bases-cells a b e q = rw e refl

@@ -119,7 +119,7 @@ module _ (code : Code) (inputs : List Block) (start : Start) (st : Stack) (w : V
     node-there = ap (node_at next-taken.end) nodes-mid
         ∙ ap held_by (entry-part (closing next-taken.end next-taken.read next-taken.steps) (entries next-taken.behind ++ next-taken.rest) (through now.placed.done now.placed.last) not-front)
 
-    -- nothing that is queued stands up to the end
+    -- nothing is queued up to the end
     late-then : QueuedBehind next-taken.end t
     late-then r i =
         let q : is_in r t1.stale.stamps ≡ true = subst (λ (z : _). is_in r z.stamps ≡ true) queue i in
@@ -196,7 +196,7 @@ module _ (code : Code) (inputs : List Block) (start : Start) (st : Stack) (w : V
     known-before q c = subst (λ bs. KnownBlock (length inputs) bs q.block)
         (ap (known_after []) (forest-put (through now.placed.done now.placed.last) next-taken.end (End (stamped next-taken.read))) ∙ known-append [] (forest_of (through now.placed.done now.placed.last)) (item.End ∷ [])) c
 
-    -- what is left over inside the read is revoked, its end is in front, and the units below run with what stands after it
+    -- what is left over inside the read is revoked, its end is in front, and the units below run with what is after it
     pub now-leave : RunningNow code inputs start (waits_in below) (record { tables = t; heap = heap; spent = w.spent; cursor = next-taken.end; limit = Some until; frames = w.frames })
     now-leave = record {
       reads = next-taken.reads;

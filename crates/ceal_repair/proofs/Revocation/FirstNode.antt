@@ -46,7 +46,7 @@ position-behind r (e ∷ es) back h = elim (eqb_tells e.stamp r) [
 
 -- ---- the first node that is left over
 
--- what stands first, and what after it
+-- what comes first, and what after it
 pub record BeginsWith (s : ℕ) (es : List Entry) : Type 0 where
   pub node : Node
   pub steps : ℕ
@@ -107,7 +107,7 @@ module _ (cursor : ℕ) (front : List Entry) (left : Grove) (tail : List Entry) 
   last-not-done : has_node l.last.stamp l.done ≡ false
   last-not-done = not_before l.done l.last (entries left ++ tail) (subst (λ es. order.Distinct (stamps_in es)) front-nodes kept.step.whole.order.distinct)
 
-  -- where nodes begin with those in front, the cursor stands at their end
+  -- where nodes begin with those in front, the cursor is at their end
   cursor-position : (back : List Entry) → position cursor (front ++ back) ≡ length l.done
   cursor-position back =
       ap (λ es. position cursor (es ++ back)) l.ends ∙ (ap (position cursor) (behind-all l.done l.last back)
@@ -129,7 +129,7 @@ module _ (cursor : ℕ) (front : List Entry) (left : Grove) (tail : List Entry) 
     | inr e ↦ e
   ]
 
-  -- so nothing else is, where fewer nodes stand after it
+  -- so nothing else is, where fewer nodes are after it
   pub late-fewer : (new : Tables) (back : List Entry) → new.trace.nodes ≡ front ++ back → ((r : ℕ) → is_in r new.stale.stamps ≡ true → is_in r t.stale.stamps ≡ true) → QueuedBehind cursor new
   late-fewer new back e only r i =
       subst (λ es. position cursor es < position r es) (sym e)
@@ -141,7 +141,7 @@ module _ (cursor : ℕ) (front : List Entry) (left : Grove) (tail : List Entry) 
 -- ---- one node less
 
 module _ (cursor s : ℕ) (front : List Entry) (left : Grove) (tail : List Entry) (t : Tables) (kept : Kept t) (l : Lies cursor front left tail t) (f : first_stamp left ≡ Some s) where
-  -- the cursor stands directly before it
+  -- the cursor is directly before it
   pub cursor-before : position s t.trace.nodes ≡ position cursor t.trace.nodes + 1
   cursor-before = omega (arith, first-position cursor s front left tail t kept l f, cursor-at cursor front left tail t kept l, front-long cursor front left tail t kept l)
 
@@ -162,7 +162,7 @@ back-plain (Made t b key n rest) s h tail k = refl
 back-plain (Put t p v n rest) s h tail k = refl
 back-plain (Got t p v u x args n inside e m rest) s h tail k = absurd (cc)
 
--- after a read stand those inside it, its end, and those after that
+-- after a read are those inside it, its end, and those after that
 pub record ReadFirst (s : ℕ) (g : Grove) (tail back : List Entry) : Type 0 where
   pub inside : List Entry
   pub end : ℕ
@@ -381,7 +381,7 @@ has-fewer-nodes code inputs heap heap' old new b default same was lives h = reco
 
 -- ---- the three ways
 
--- a block that is revoked can still be read, and the others stand as they did
+-- a block that is revoked can still be read, and the others have the same state
 pub record RevokedOne (structs : List StructInfo) (heap heap' : Contents) (new : List Entry) : Type 0 where
   pub lives : Lives heap' new
   pub same : (c : BlockId) → block_of heap' c ≡ block_of heap c
@@ -597,7 +597,7 @@ back-tail (Made t b key n rest) s f tail u h = in-later u (entries rest) tail h
 back-tail (Put t p v n rest) s f tail u h = in-later u (entries rest) tail h
 back-tail (Got t p v x y args n inside e m rest) s f tail u h = in-later u (entries inside ++ closing e t m ∷ entries rest) tail h
 
--- the node up to which nodes are revoked stands after the cursor: it is the first of them, or all were revoked
+-- the node up to which nodes are revoked is after the cursor: it is the first of them, or all were revoked
 module _ (cursor until : ℕ) (front : List Entry) (left : Grove) (tail : List Entry) (t : Tables) (kept : Kept t) (r : LeftOf cursor until front left tail t) where
   pub cut-there : is_in until (starts left) ≡ true → order.successor cursor (stamps_in t.trace.nodes) ≡ Some until → (rest : Grove) × CutTo until left rest × Lies cursor front rest tail t
   cut-there i n = (r.rest, r.cuts r.rest (there (sym (starts-some r.rest until (r.there i) tail) ∙ (sym (next-is cursor front r.rest tail t kept r.lies) ∙ n))), r.lies)

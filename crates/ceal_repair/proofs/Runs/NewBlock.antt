@@ -133,7 +133,7 @@ core-same : (b c : ℕ) → Core b ≡ Core c → b ≡ c
 core-same b c e = cc
 
 module _ (code : Code) (inputs : List Block) (b : ℕ) (key : Key) (heap heap' : Contents) (old new : Tables) (h : MadeMore code inputs b key heap heap' old new) where
-  -- what is there is another block, and stands as it did
+  -- what is there is another block, with the same state
   pub another : (c : BlockId) → IsSome (block_of heap c) → c ≢ Core b
   another c some e = none-not-some (block_of heap (Core b)) h.unused (subst (λ d. IsSome (block_of heap d)) e some)
 
@@ -499,7 +499,7 @@ module _ (code : Code) (inputs : List Block) (start : Start) (st : Stack) (v : V
   here-made = subst (λ (z : _). has_node v.cursor z.nodes ≡ true) (sym k.trace)
       (cursor-here start (record { tables = t1; heap = v.heap; spent = v.spent + 1; cursor = v.cursor; limit = v.limit; frames = v.frames }) now.reads (entries now.left ++ now.tail) placed-stepped)
 
-  -- a new block: its node stands after the cursor
+  -- a new block: its node is after the cursor
   pub now-make : take_alloc key (first (levels (forest_of (entries now.left ++ now.tail)))) ≡ None → (x u i : ℕ) (env : Variables) (below : Stack) → next code (words_of code inputs v.heap) st ≡ Makes key x u i env below
       → RunningNow code inputs start (Run u i (set env x (pointer key (Core b))) below) (record { tables = t; heap = heap; spent = v.spent + 1; cursor = s; limit = v.limit; frames = v.frames })
   unfolding placed-step placed-put placed-as placed-stepped

@@ -34,7 +34,7 @@ is-in-front : (r : ℕ) (xs ys : List ℕ) → is_in r xs ≡ true → is_in r (
 is-in-front r [] ys h = absurd (cc)
 is-in-front r (x ∷ xs) ys h = elim (eqb_tells x r) [ inl p ↦ rw p.0 refl | inr p ↦ rw p.0 (is-in-front r xs ys (rw p.0 at h)) ]
 
--- an open read stands in front
+-- an open read is in front
 module _ (start : Start) (v : View) (reads : List ℕ) (behind : List Entry) (p : Placed start v reads behind) (r : ℕ) (among : is_in r reads ≡ true) where
   front-distinct : Distinct (stamps_in (through p.done p.last))
   front-distinct = distinct-front (through p.done p.last) behind (nodes-distinct start v reads behind p)

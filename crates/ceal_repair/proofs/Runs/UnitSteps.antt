@@ -234,7 +234,7 @@ module _ (code : Code) (inputs : List Block) (start : Start) (st : Stack) (v : V
   pub knows-act : KnownAct (length inputs) (known_after [] (forest_of (through now.placed.done now.placed.last))) (next code (words_of code inputs v.heap) st)
   knows-act = next-known (length inputs) (known_after [] (forest_of (through now.placed.done now.placed.last))) (words_of code inputs v.heap) now.course.knows.plain (words_of code inputs v.heap) (λ b k. refl) code st now.course.knows.mode.0
 
-  -- a write: its node stands after the cursor
+  -- a write: its node is after the cursor
   pub now-write : (after : Stack) (p : Place) (value : Word) (t1 t : Tables) (s : ℕ) → next code (words_of code inputs v.heap) st ≡ Writes p value after
       → StepMore v.cursor v.tables t1 → NodeMore v.cursor s (Write p value) t1 t
       → RunningNow code inputs start after (record { tables = t; heap = v.heap; spent = v.spent + 1; cursor = s; limit = v.limit; frames = v.frames })

@@ -152,7 +152,7 @@ looked-more old t t' n s l i kept trace cells memo behind looks differed = recor
   differed = differed ∙ l.differed;
 }
 
--- what is said of a read goes by the nodes and the cells
+-- what is said of a read depends on the nodes and the cells
 pub contents-same : (a b : Tables) (s : ℕ) → a.trace ≡ b.trace → a.mods.cells ≡ b.mods.cells → (p : Place) → contents_at s a p ≡ contents_at s b p
 contents-same a b s e f p = rw (e, f) refl
 

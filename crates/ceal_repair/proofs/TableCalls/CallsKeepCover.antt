@@ -28,7 +28,7 @@ use Rattle.ceal_trace.specs.declared.node.Node.TheVariants.{Alloc, Write, Read, 
 
 -- ---- places in the order
 
--- a stamp that stands before another one is there
+-- a stamp that is before another one is there
 pub there-before : (s : ℕ) (xs : List ℕ) → place s xs < length xs → is_in s xs ≡ true
 there-before s [] h = absurd (omega (arith, h))
 there-before s (x ∷ xs) h = elim (eqb_tells x s) [
@@ -36,7 +36,7 @@ there-before s (x ∷ xs) h = elim (eqb_tells x s) [
   | inr p ↦ rw p.0 (there-before s xs (let k : 1 + place s xs < length (x ∷ xs) = rw p.0 at h in omega (arith, k)))
 ]
 
--- what follows a node stands after one that is put directly after that
+-- what follows a node is after one that is put directly after that
 pub behind-put : (after s : ℕ) (n : Node) (old nodes : List Entry) → Inserted after s n old nodes → has_node after old ≡ true
     → (r : ℕ) → has_node r old ≡ true → position after old < position r old → position s nodes < position r nodes
 behind-put after s n old nodes i here r there lt =

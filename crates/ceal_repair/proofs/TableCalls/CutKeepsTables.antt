@@ -74,14 +74,14 @@ by-queue {X} r q f g = go (is_in r q) refl
     go true e = f e
     go false e = g e
 
--- where one is not queued and none before it, what is queued stands after it
+-- where one is not queued and none before it, what is queued is after it
 pub behind-own : (order q : List ℕ) (s : ℕ) → Rattle.ceal_order.specs.Rising.IsRising order q → is_in s order ≡ true → is_in s q ≡ false → ((r : ℕ) → is_in r q ≡ true → place s order ≤ place r order)
     → (r : ℕ) → is_in r q ≡ true → place s order < place r order
 behind-own order q s rises here none first r i =
     let ne : place r order ≢ place s order = λ e. absurd (let no : true ≡ false = sym i ∙ (ap (λ z. is_in z q) (place_tells r s order (in_order r q order rises i) here e) ∙ none) in cc) in
     omega (arith, first r i, ne)
 
--- what is left of a queue does not stand before what all of it does not
+-- what is left of a queue is not before what all of it is not
 pub still-first : (order q m : List ℕ) (s : ℕ) → IsWithout s q m → ((r : ℕ) → is_in r q ≡ true → place s order ≤ place r order) → (r : ℕ) → is_in r m ≡ true → place s order ≤ place r order
 still-first order q m s out first r i = elim (eqb_tells r s) [
   | inl p ↦ rw p.1 (omega arith)

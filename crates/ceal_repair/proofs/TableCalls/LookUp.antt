@@ -21,11 +21,11 @@ use Rattle.ceal_trace.specs.Nodes.{Entry, stamps_in, has_node, node_at, position
 use Rattle.ceal_trace.specs.declared.node.Node.{Node}
 use Rattle.ceal_trace.specs.declared.node.Node.TheVariants.{Root, Alloc, Write, Read, End}
 
--- none of these stands between two stamps
+-- none of these is between two stamps
 abbrev NoneBetween : List ℕ → List ℕ → ℕ → ℕ → Type 0
 NoneBetween order stamps after until = (s : ℕ) → is_in s stamps ≡ true → place after order < place s order → place until order ≤ place s order
 
--- the first of a list stands before the others of it
+-- the first of a list is before the others of it
 where-first : (f : Node → Bool) (es : List Entry) (x : ℕ) (xs : List ℕ) → Distinct (stamps_in es) → stamps_where f es ≡ x ∷ xs
     → (t : ℕ) → is_in t (stamps_where f es) ≡ true → place x (stamps_in es) ≤ place t (stamps_in es)
 where-first f [] x xs d h t i = absurd (let no : false ≡ true = i in cc)
@@ -94,7 +94,7 @@ module _ (f : Node → Bool) (front mid : List Entry) (u : Entry) (later : List 
   list-is : stamps_where f nodes ≡ stamps_where f front ++ (stamps_where f mid ++ stamps_where f (u ∷ later))
   list-is = ap (stamps_where f) was ∙ (where-append f front (mid ++ u ∷ later) ∙ ap (λ (l : List ℕ). stamps_where f front ++ l) (where-append f mid (u ∷ later)))
 
-  -- what stands between the two is one of those between
+  -- what is between the two is one of those between
   one-between : (t : ℕ) → is_in t (stamps_where f nodes) ≡ true → place after (stamps_in nodes) < place t (stamps_in nodes) → place t (stamps_in nodes) < place u.stamp (stamps_in nodes)
       → is_in t (stamps_where f mid) ≡ true
   one-between t i lo hi = middle (is_in t (stamps_where f mid)) refl (in-parts (stamps_where f front) (stamps_where f mid ++ stamps_where f (u ∷ later)) t (subst (λ (l : List ℕ). is_in t l ≡ true) list-is i) not-front-one)

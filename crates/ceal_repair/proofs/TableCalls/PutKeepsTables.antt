@@ -166,7 +166,7 @@ module _ (old : Tables) (k : Kept old) (after s : ℕ) (n : Node) (tr : Timeline
       was : Chained (queue_of old.stale.stamps) (base_in old.mods) (putting.front ++ putting.back)
       was = subst (λ (l : List Entry). Chained (queue_of old.stale.stamps) (base_in old.mods) l) putting.was k.chained
 
-      -- what is queued stands after the nodes in front
+      -- what is queued is after the nodes in front
       none : (z : ℕ) → is_in z (stamps_in putting.front) ≡ true → queue_of old.stale.stamps z ≡ false
       none z i = is-queued z old.stale.stamps false (false-of (is_in z old.stale.stamps) (λ j.
           let a = up-to-places after old.trace.nodes z (subst (λ (l : List Entry). is_in z (stamps_in l) ≡ true) (sym putting.front_is) i) in

@@ -1,4 +1,5 @@
--- What an engine makes of a run, or of what is left of a repair, is what the definition makes of each past that it had up to numbers.
+-- What an engine makes of a run, or of what is left of a repair, is what the definition makes of each past that it had
+-- up to numbers.
 use Rattle.std.proofs.Common.{◌≡◌, ◌⊎◌, inl, inr, ℕ, Bool, true, false, if◌then◌else◌, Option, Some, None, Result, Ok, Err, IfOk, OnOk, IsSomeAnd, List, is_some, refl, sym, ap, ◌∙◌, subst, arith}
 use Rattle.std.specs.Prelude.{◌≢◌, IfSome, IsSome, OnErr}
 use Rattle.ceal_base.specs.Block.{Block}
@@ -73,7 +74,7 @@ past-none e k h = go e.phase h
     go Partial p = absurd (grind (arith, p))
     go Dropped p = ap (traced_by e) none
 
--- a run is whole, or goes on
+-- a run is whole, or in progress
 pub whole-or-part : (phase : Phase) → has_run phase ≡ true → IsWhole phase ⊎ (phase ≡ Partial)
 whole-or-part New h = absurd (grind (arith, h))
 whole-or-part Finished h = inl refl
@@ -124,7 +125,7 @@ module _ {code : Code} {inputs : List Block} {f : ℕ} {args : List Word} where
   same-going (SamePast.traced r) z e = absurd (grind (arith, e))
   same-going (SamePast.going {r = r} s c) z e = record { repair = r; is = refl; sound = s; carried = subst (Carried code inputs 0 r) (cc e) c }
 
--- a repair goes on only where a number of reads was given
+-- a repair stays in progress only where a number of reads was given
 pub some-reads : (outcome : Outcome) (reads : Option ℕ) → IfOk outcome (λ came. came ≡ More → IsSome reads) → IfOk outcome (λ came. came ≡ More → is_some reads ≡ true)
 some-reads (Ok c) None h = h
 some-reads (Ok c) (Some k) h = λ e. refl
@@ -135,7 +136,7 @@ pub from-dropped : {A : Type 0} (P : Type 0) (outcome : Result A RunError) (phas
 from-dropped P (Ok x) phase e h = h e
 from-dropped P (Err x) phase e h = tt
 
--- the repair with which the definition goes on is the engine's, up to the numbers of core blocks
+-- the repair with which the definition continues is the engine's, up to the numbers of core blocks
 pub record IsNext (e : EngineState) (p : Past) : Type 0 where
   pub repair : Repair
   pub is : next_repair e.code e.inputs p ≡ Some repair
@@ -240,7 +241,7 @@ module _ (e e' : EngineState) (call : Call) (code : e'.code ≡ e.code) (fuel : 
           (subst (λ (b : Bool). SamePast e.code e.inputs call.function call.args (if b then done_past first h.repair else Going h.repair) (Traced (record { items = l; work = e'.work }))) (sym h.done)
           (subst (λ (o : Option Repaired). SamePast e.code e.inputs call.function call.args (done_past o h.repair) (Traced (record { items = l; work = e'.work }))) (sym a.1) same))
 
-  -- a repair that goes on
+  -- a repair in progress
   pub after-part : (r : Repair) → e'.phase ≡ Partial → is_done e.code e.inputs r ≡ false → CarriesFrom e' 0 r → Same (left_by e.code e.inputs first (Some r))
   after-part r ph more h =
       let c : h.call ≡ call = some-same h.call call (sym h.called ∙ called) in

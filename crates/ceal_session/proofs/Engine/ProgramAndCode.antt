@@ -31,7 +31,7 @@ module _ (p : Typed) (code : Code) (c : IsCodeOf p code) where
         by_initialiser None e k = rw e refl
         by_initialiser (Some s) e k = absurd (grind (arith, k))
 
-    -- code has arguments that fit for core functions alone
+    -- code has arguments that fit only for core functions
     pub core-of : (f : ℕ) → args_fit structs x (slice_get code.functions f) args ≡ true → IsCore (slice_get p.functions f)
     core-of f h = fits-core (slice_get p.functions f) (sym (same_calls p code c structs x f args) ∙ h)
 

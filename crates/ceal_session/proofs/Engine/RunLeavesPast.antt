@@ -72,7 +72,7 @@ module _ (code : Code) (inputs : List Block) (f : ℕ) (args : List Word) (fits 
       go _ _ i k FirstOutcome.none = none-some a i
       go _ _ i k (FirstOutcome.some {r = r} t) = (r, k)
 
-  -- the repair from which a slice goes on is one of the call
+  -- the repair from which a slice continues is one of the call
   pub next-sound : (p : Past) → IsPastOf code inputs f args p → (r : Repair) → next_repair code inputs p ≡ Some r → Sound code own inputs f args r
   next-sound NoTrace h r e = none-some r e
   next-sound (Traced l) h r e =
@@ -80,8 +80,8 @@ module _ (code : Code) (inputs : List Block) (f : ℕ) (args : List Word) (fits 
       (begin-law code own inputs inputs f args l.items (above l.items) (above l.items) (edited-so code inputs f args fits l.items h (above l.items) (is-above l.items)) own-single (λ j i. is-above l.items j i))
   next-sound (Going q) h r e = subst (Sound code own inputs f args) (some-same q r e) h
 
-  -- what the past after a run is, by the run from scratch: none where that is out of fuel, a trace that is honest, or a repair that goes on,
-  -- which is in a part alone
+  -- what the past after a run is, by the run from scratch: none where that is out of fuel, a trace that is honest, or a
+  -- repair in progress, which is only in a part
   pub data Ran (reads : Option ℕ) (o : Option Finished) : Past → Type 0 where
     out : o ≡ None → Ran reads o NoTrace
     ended : (l : Repaired) (r : Finished) → o ≡ Some r → Replays code inputs f args l.items → IsHonest code inputs l.items → steps_of l.items ≤ fuel → Ran reads o (Traced l)

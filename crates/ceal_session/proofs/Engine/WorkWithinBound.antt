@@ -40,7 +40,8 @@ pub record IsSlicedFrom (code : Code) (s : State) (call : Call) (r : Repair) : T
   pub reads : ℕ
   pub slices : Slices code own s.inputs (Some reads) (beginning code s.inputs trace.items (above trace.items)) r
 
--- The work of the trace is at most the bound, and that at most the steps; a repair that goes on is what slices have made.
+-- The work of the trace is at most the bound, and that at most the steps; a repair in progress is what slices have
+-- made.
 abbrev pub IsLeft : Code → State → Call → Past → ℕ → Type 0
 IsLeft code s call NoTrace bound = ⊤
 IsLeft code s call (Traced a) bound = (a.work ≤ bound) × (bound ≤ steps_of a.items)
@@ -107,7 +108,7 @@ module _ (code : Code) (s : State) (call : Call) (now : Fits code s.inputs call.
         let k = bound-law code s.settled s.inputs call.function call.args l.items (above l.items) s.fuel x.repaired edited t.honest t.few x.is (subst (λ y. steps_of y ≤ s.fuel) x.items few) in
         (subst (λ n. n ≤ first_cost code s.fuel s.settled s.inputs call.function call.args) (sym x.work) k.0, subst (λ y. first_cost code s.fuel s.settled s.inputs call.function call.args ≤ steps_of y) (sym x.items) k.1)
 
-    -- slices one after another that come to a repair that is done are the whole repair
+    -- slices one after another that end with a repair that is done are the whole repair
     of-slices : (o : Option ℕ) (r : Repair) → Slices code own s.inputs o next r → r.spent ≤ s.fuel → is_done code s.inputs r ≡ true → (b : Repaired) → first ≡ Some b
         → Holds (first_cost code s.fuel s.settled s.inputs call.function call.args) (record { items = r.items; work = r.spent })
     of-slices None r k few d b f = of-done r ((slices-law code own s.inputs None s.fuel next r).1 (k, few)) d b f
@@ -159,7 +160,7 @@ module _ (code : Code) (s : State) (call : Call) (now : Fits code s.inputs call.
         subst (λ p. IsLeft code s call p (bound_left code s (Ok call) None (Traced l) bound)) h
         (slice-left None next reaches-next bound (sliced code own s.inputs None s.fuel next) refl)
 
--- and with what a session makes of its own
+-- and with what a session makes of its runs
 module _ (m n : Situation) (call : Call) (r : Retraces m call None n) where
   of-past : (now : Fits m.code m.state.inputs call.function call.args) (was : Fits m.code m.state.settled call.function call.args) → IsSettled m.code m.state → (l : Repaired) → IsTraceIn m.code m.state call l
       → m.past ≡ Traced l → (q : Past) → past_left m.code m.state (Ok call) None (Traced l) ≡ q → SamePast m.code m.state.inputs call.function call.args q n.past

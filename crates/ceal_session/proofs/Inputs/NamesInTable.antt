@@ -12,7 +12,7 @@ at-place : {X : Type 0} (P : X → Type 0) (xs : List X) (y : X) (zs : List X) �
 at-place P [] y zs h = h.0
 at-place P (x ∷ xs) y zs h = at-place P xs y zs h.1
 
--- a name that was there before stands twice
+-- a name that was there before occurs twice
 twice : (xs : List (List ℕ)) (y : List ℕ) (zs : List (List ℕ)) → list_any (bytes_eq y) xs ≡ true → AreDistinct (xs ++ y ∷ zs) → ⊥
 unfolding IsDistinct
 twice [] y zs h d = absurd (grind (arith, h))

@@ -22,7 +22,7 @@ set-same [] n x e = refl
 set-same (z ∷ xs) zero x e = ap (λ w. w ∷ xs) (sym (cc e))
 set-same (z ∷ xs) (suc n) x e = ap (λ l. z ∷ l) (set-same xs n x e)
 
--- what stands there is put back, or null where nothing does
+-- what was there is put back, or null where nothing was
 set-back : (xs : List Word) (n : ℕ) (w : Word) → slice_set (slice_set xs n w) n (unwrap_or (slice_get xs n) Null) ≡ xs
 set-back [] n w = refl
 set-back (z ∷ xs) zero w = refl
@@ -94,7 +94,7 @@ pub undone-count : (es : List Edit) (inputs : List Block) → length (undone es 
 undone-count [] inputs = refl
 undone-count (e ∷ es) inputs = base-count (undone es inputs) e.place e.base ∙ undone-count es inputs
 
--- an input that comes later is left alone
+-- an input that comes later is left as it is
 pub undone-longer : (es : List Edit) (inputs : List Block) (b : Block) → AreWithin (length inputs) es → undone es (inputs ++ b ∷ []) ≡ undone es inputs ++ b ∷ []
 undone-longer [] inputs b h = refl
 undone-longer (e ∷ es) inputs b h =
@@ -114,7 +114,7 @@ pub are-within-push : (es : List Edit) (e : Edit) (n : ℕ) → AreWithin n es �
 are-within-push [] e n h k = (k, tt)
 are-within-push (d ∷ es) e n h k = (h.0, are-within-push es e n h.1 k)
 
--- bases alone change: each block keeps its shape
+-- only bases change: each block keeps its shape
 shape-set : (inputs : List Block) (n i : ℕ) (x block : Block) → slice_get inputs n ≡ Some block → (y : Block) → slice_get inputs i ≡ Some y → x.shape ≡ block.shape
     → (z : Block) × (slice_get (slice_set inputs n x) i ≡ Some z) × (z.shape ≡ y.shape)
 shape-set [] n i x block e y h s = none-some y h

@@ -1,4 +1,4 @@
--- The source's run as an engine tells of it.
+-- The source's run as an engine describes it.
 use Rattle.std.proofs.Common.{◌≡◌, ℕ, ◌<◌, Bool, true, Option, Some, None, List, length, is_some, refl, sym, ap, ◌∙◌, subst, arith}
 use Rattle.std.specs.Prelude.{IsSome, IsTrue}
 use Rattle.ceal_base.specs.Access.{word_in, content_of}

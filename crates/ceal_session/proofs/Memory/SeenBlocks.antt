@@ -1,4 +1,4 @@
--- What an engine tells of a finished run by its inputs and by its memory.
+-- What an engine says of a finished run by its inputs and by its memory.
 use Rattle.std.proofs.Common.{◌≡◌, ℕ, ◌<◌, Bool, true, false, Option, Some, None, List, length, is_some, unwrap_or, if◌then◌else◌, refl, sym, ap, ◌∙◌, subst, slice_get, arith}
 use Rattle.std.proofs.lemmas.Option.{slice_get_within}
 use Rattle.std.specs.Option.{option_map}

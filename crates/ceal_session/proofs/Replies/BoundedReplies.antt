@@ -1,4 +1,5 @@
--- Where no edit comes between the slices of a repair, the work at its end is at most the bound, and that at most the steps.
+-- Where no edit comes between the slices of a repair, the work at its end is at most the bound, and that at most the
+-- steps.
 use Rattle.std.proofs.Common.{◌≡◌, inl, inr, ℕ, ◌≤◌, Bool, true, false, Option, Some, None, Result, Ok, Err, List, [], ◌∷◌, is_none, refl, sym, ap, ◌∙◌, subst, arith}
 use Rattle.std.specs.Prelude.{⊤, IfSome}
 use Rattle.ceal_base.specs.Finished.{Finished}
@@ -31,7 +32,7 @@ use Rattle.ceal_theory.specs.Pasts.{Past, NoTrace, Traced, Going, goes}
 use Rattle.ceal_theory.specs.Repair.{own}
 use Rattle.ceal_theory.specs.Slices.{Repair, beginning, sliced}
 
--- A repair that goes on is one of slices, without an edit between them.
+-- A repair in progress is one of slices, without an edit between them.
 abbrev pub IsUnedited : Code → State → Option Call → Past → Type 0
 IsUnedited code s None past = ⊤
 IsUnedited code s (Some call) NoTrace = ⊤
@@ -106,7 +107,7 @@ module _ (progress : ProgressLaw) (line_law : LineLaw) (whole_law : WholeLaw) (t
       }
       ordered-by _ (Ran.going r sound some) h g = absurd (grind (arith, g))
 
-      -- where the run is whole no repair goes on
+      -- where the run is whole no repair is in progress
       whole-so : (t : State) → reads ≡ None → IsUnedited code t (Some call) past
       whole-so t e = go past ran
         where
@@ -165,7 +166,7 @@ module _ (progress : ProgressLaw) (line_law : LineLaw) (whole_law : WholeLaw) (t
     run-state (Some Work) more call e g = absurd (grind (arith, e))
     run-state (Some Bound) more call e g = absurd (grind (arith, e))
 
-    -- and after a slice with which a repair goes on
+    -- and after a slice with which a repair is in progress
     part-state : (reads : ℕ) (more : Bool) (call : Call) → call_in s (Some (Slice reads)) ≡ Ok call → more ≡ true → (answered_line s more (Some (Slice reads))).state ≡ with_part s
     part-state reads more call e g = rw (e, g) refl
 

@@ -1,4 +1,4 @@
--- Which questions come to be answered, and about what.
+-- Which questions are answered, and about what.
 use Rattle.std.proofs.Common.{◌≡◌, ℕ, ◌<◌, ◌||◌, Bool, true, false, Option, Some, None, Result, Ok, Err, List, [], ◌∷◌, length, map, is_some, if◌then◌else◌, position, refl, ap, subst, slice_get, arith}
 use Rattle.std.specs.List.{list_any}
 use Rattle.std.specs.Option.{option_map}

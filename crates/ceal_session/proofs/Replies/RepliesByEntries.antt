@@ -21,7 +21,7 @@ use Rattle.ceal_session.specs.declared.reply.Reply.TheVariants.{Refused, Told as
 use Rattle.ceal_theory.specs.Computed.{Repaired}
 use Rattle.ceal_theory.specs.Pasts.{Past, NoTrace, Traced, Going, goes}
 
--- a line that runs nothing is answered without a look at what goes on
+-- a line that runs nothing is answered without a look at the repair
 same-step : (s : State) (a b : Bool) (command : Option Command) (r : Refusal) → call_in s command ≡ Err r → answered_line s a command ≡ answered_line s b command
 same-step s a b None r e = refl
 same-step s a b (Some Blank) r e = refl
@@ -67,7 +67,7 @@ can-tell-line : (s : State) (more : Bool) (m : Situation) → Stands m → s ≡
 can-tell-line s more m st e None = tt
 can-tell-line s more m st e (Some command) = can-tell m.state more st.named command
 
--- the entry of a line says whether a repair goes on after it
+-- the entry of a line says whether a repair is in progress after it
 entry-goes : (p : Past) (bound : ℕ) (later : List Entry) → goes_on (entry_of p bound ∷ later) ≡ goes p
 entry-goes NoTrace bound later = refl
 entry-goes (Traced l) bound later = refl
@@ -87,7 +87,7 @@ told-on latest NoTrace bound later = refl
 told-on latest (Traced l) bound later = refl
 told-on latest (Going r) bound later = refl
 
--- the situation after each line stands
+-- the situation after each line is sound
 abbrev pub BehindLaw : Type 0
 BehindLaw = (m : Situation) (line : List ℕ) (command : Option Command) → Reads line command → Stands m → Stands (behind m command)
 
@@ -108,7 +108,7 @@ module _ (stands : BehindLaw) where
     abbrev entry : Entry
     entry = entry_of (past_in m command) (bound_in m command)
 
-    -- the answer, by these numbers, and where it is told so that a repair goes on
+    -- the answer, by these numbers, and where it is said that a repair is in progress
     abbrev answer : (told : Bool) → answered_line m.state more command ≡ answered_line m.state told command → Answers m.state latest told line text (behind m command).state
     answer told same = record {
       command = command;

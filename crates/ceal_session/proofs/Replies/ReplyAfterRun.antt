@@ -1,4 +1,4 @@
--- From how a run or a repair came out to the reply.
+-- From the outcome of a run or a repair to the reply.
 use Rattle.std.proofs.Common.{◌≡◌, inr, ℕ, Bool, true, false, Option, Some, None, Result, Ok, Err, IfOk, OnOk, is_some, refl, ap, subst, arith}
 use Rattle.std.specs.Prelude.{OnErr}
 use Rattle.ceal_base.specs.Finished.{Finished}
@@ -123,7 +123,7 @@ module _ (m n : Situation) (outcome : Outcome) (some : is_some m.state.call ≡ 
         go None i s = absurd (grind (arith, s))
         go (Some call) i s = part-left m n call reads outcome (h call i) r e
 
--- after a part of a repair a change stands
+-- after a part of a repair a change is kept
 part-changes : (s : State) (more : Bool) (call : Call) → IsQuiet (runs_part s more (Ok call)).reply → ⊥
 part-changes s true call h = h
 part-changes s false call h = go (run_of s call) h

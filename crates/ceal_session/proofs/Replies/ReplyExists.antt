@@ -1,4 +1,4 @@
--- In a situation that a session comes to each line has a reply, and the situation after it is such a one.
+-- In a situation that a session reaches each line has a reply, and the situation after it is such a one.
 use Rattle.std.proofs.Common.{◌≡◌, ◌⊎◌, inl, inr, ℕ, ◌<◌, ◌||◌, Bool, true, false, Option, Some, None, Result, Ok, Err, List, [], ◌∷◌, ◌++◌, length, map, is_none, is_some, if◌then◌else◌, refl, sym, ap, ◌∙◌, subst, slice_get, take, length-append, arith}
 use Rattle.std.specs.List.{list_any, IsDistinct}
 use Rattle.std.proofs.lemmas.Map.Keys.{IsDistinct-push}
@@ -70,7 +70,8 @@ use Rattle.ceal_show.specs.Graph.{IsGraphText}
 use Rattle.ceal_show.specs.Shown.{IsWhole}
 use Rattle.ceal_traceck.specs.Verdicts.{is_known, has_known_shape}
 
--- the laws that a line is a command's or none's, that a memory whose words fit is whole, and that a whole memory has texts
+-- the laws that a line is a command's or none's, that a memory whose words fit is whole, and that a whole memory has
+-- texts
 abbrev pub LineLaw : Type 0
 LineLaw = (line : List ℕ) → ((c : Command) × IsLineOf c line) ⊎ ((c : Command) → IsLineOf c line → ⊥)
 
@@ -81,7 +82,7 @@ abbrev pub TextLaw : Type 0
 TextLaw = (structs : List StructInfo) (m : Blocks) (name : ℕ → List ℕ) (root : BlockId) → IsWhole structs (block_at m) → IsSome (block_at m root)
     → (text : List ℕ) × IsGraphText structs (block_at m) name root text
 
--- a session begins so that it stands
+-- the first situation of a session is sound
 pub begun-stands : BegunLaw
 unfolding IsDistinct
 begun-stands p fuel compiled = record {
@@ -136,7 +137,7 @@ pub record Moves (s t : State) (calls : Result Call Refusal) : Type 0 where
   pub inputs : (call : Call) → calls ≡ Ok call → t.inputs ≡ s.inputs
   pub same_call : (r : Refusal) → calls ≡ Err r → t.call ≡ s.call
 
--- there is a text of the step's reply, and the situation after it stands
+-- there is a text of the step's reply, and the situation after it is sound
 pub record Good (m : Situation) (called : Result Call Refusal) (step : Step) (past : Past) : Type 0 where
   pub text : List ℕ
   pub is : IsText m.state (numbers_in m) step.reply text
@@ -412,7 +413,7 @@ module _ (progress : ProgressLaw) (line_law : LineLaw) (whole_law : WholeLaw) (t
     part-is None = refl
     part-is (Some f) = refl
 
-    -- a whole repair does not go on
+    -- a whole repair is not in progress
     whole-ends : (call : Call) (a : Accepted s call) (past : Past) → Ran code s.inputs call.function call.args (fits-call call a.is) s.fuel None (run_of s call) past → goes past ≡ false
     whole-ends call a _ (Ran.out e) = refl
     whole-ends call a _ (Ran.ended l r e replays honest few) = refl
@@ -434,7 +435,7 @@ module _ (progress : ProgressLaw) (line_law : LineLaw) (whole_law : WholeLaw) (t
         let q = past_left code s (Ok call) None m.past in
         ran-good call a None run_reply run-text run-is q (whole-ends call a q (ran-here call a None)) (ran-here call a None)
 
-    -- a part of a repair that goes on
+    -- a part of a repair in progress
     part-going : (call : Call) → s.call ≡ Some call → (r : Repair) → IsRepairIn code (with_part s) call r → Good m (Ok call) (runs_part s true (Ok call)) (Going r)
     part-going call same r h = record {
       text = codes "more\n";
@@ -550,7 +551,7 @@ module _ (progress : ProgressLaw) (line_law : LineLaw) (whole_law : WholeLaw) (t
     line-good None n = refused C1
     line-good (Some command) n = command-good command n
 
-    -- the bound says nothing of what stands
+    -- the bound says nothing of whether a situation is sound
     pub with-bound : (state : State) (past : Past) (bound : ℕ) → Stands (record { state = state; code = code; past = past; bound = m.bound })
         → Stands (record { state = state; code = code; past = past; bound = bound })
     with-bound state past bound h = record {

@@ -70,7 +70,8 @@ ran-past m session n call reads c s b is same r =
     let k : Retraces (record { state = m.state; code = m.code; past = session.past; bound = m.bound }) call reads n = subst (λ x. Retraces x call reads n) e r in
     (k.past m.past is same, k.bound m.past is same)
 
--- The reply of a session is the situation's: it tells the same numbers, and the line is answered `more` where it is there.
+-- The reply of a session is the situation's: it tells the same numbers, and the line is answered `more` where it is
+-- there.
 pub kept-reply : (m session n : Situation) (line text : List ℕ) → session.state ≡ m.state → session.bound ≡ m.bound
     → IsSamePast m.code m.state.inputs m.state.call m.past session.past
     → (a : Answers session.state (numbers_in session) (goes n.past) line text n.state)
@@ -87,8 +88,9 @@ kept-reply m session n line text s b same a more =
       next = refl;
     }
 
--- What is known of each line of a situation that a session comes to: the situation after it stands, the call of a line that runs is the one
--- that was accepted before or the first one, and it fits; the inputs after a line that runs none extend those before it.
+-- What is known of each line of a situation that a session reaches: the situation after it is sound. The call of a line
+-- that runs is the one that was accepted before or the first one, and it fits. The inputs after a line that runs none
+-- extend those before it.
 pub record LineFacts (m : Situation) (command : Option Command) : Type 0 where
   pub stands : Stands (behind m command)
   pub called : (call : Call) → call_in m.state command ≡ Ok call → (behind m command).state.call ≡ Some call

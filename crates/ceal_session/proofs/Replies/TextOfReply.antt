@@ -15,7 +15,7 @@ use Rattle.ceal_session.specs.declared.reply.Reply.TheVariants.{Refused, Told}
 use Rattle.ceal_session.specs.Keeping.{Held, situation}
 use Rattle.ceal_session.specs.State.{State, Numbers, numbers_in}
 
--- a reply that no change stands after is that of the session before
+-- a reply after which nothing has changed is that of the session before
 pub text-back : (m n : Held) (reply : Reply) (text : List ℕ) → (IsQuiet reply → n ≡ m) → IsText n.state (numbers_in (situation n)) reply text
     → IsText m.state (numbers_in (situation m)) reply text
 text-back m n reply.Nothing text same h = h
@@ -57,7 +57,7 @@ answers m n more line reply text same h t = record {
 not-so-long : (text : List ℕ) (n : ℕ) → length text ≡ n → n < 13 → 12 < length text → ⊥
 not-so-long text n e k l = omega (arith, e, k, l)
 
--- no change stands after a long answer
+-- after a long answer nothing has changed
 pub long-quiet : (s : State) (numbers : Numbers) (reply : Reply) (text : List ℕ) → IsText s numbers reply text → 12 < length text → IsQuiet reply
 long-quiet s numbers reply.Nothing text h l = tt
 long-quiet s numbers reply.Ok text h l = not-so-long text 3 (ap length h) (omega arith) l

@@ -40,7 +40,7 @@ module _ (code : Code) (s : Save) (h : Holding code s) where
   few : steps_of l ≤ s.fuel
   few = subst (λ n. n ≤ s.fuel) (ap steps_in items ∙ steps-flat l) h.few
 
-  -- an engine may go on from it
+  -- an engine may continue from it
   pub restorable : IsRestorable code s.fuel s.kept.inputs s.kept.function s.kept.args s.kept.forest
   restorable = record {
     trace = l;

@@ -23,7 +23,7 @@ call-law progress line_law whole_law text_law m command st call e =
     let a = accepted-in progress line_law whole_law text_law m st command call e in
     record { fits = fits-call progress line_law whole_law text_law m st call a.is; past = past-before progress line_law whole_law text_law m st call a }
 
--- so a situation of the definition goes on as a session does
+-- so a situation of the definition continues as a session does
 abbrev pub FollowsLaw : Type 0
 FollowsLaw = (m : Situation) (command : Option Command) → Stands m → Goes m (call_in m.state command) (reads_in command) (behind m command)
 

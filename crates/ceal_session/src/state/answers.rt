@@ -1,4 +1,4 @@
-// What a state tells of its last run.
+// What a state says of its last run.
 
 ghost use Rattle.std.specs.Prelude.{◌≡◌, ◌<◌, ◌↔◌, true, Some, None, length, is_some, IfOk, IsTrue, MatchOption};
 ghost use Rattle.ceal_session.specs.Asking.{IsReady, IsCellOf, steps_in, blocks_in, content_text};
@@ -85,8 +85,8 @@ impl State {
         self.journal.keep(bound);
     }
 
-    /// Whether there is a run that ended within the fuel, and nothing is pending. Its contract also tells what ties the state to
-    /// the engine.
+    /// Whether there is a run that ended within the fuel, and nothing is pending. Its contract also tells what ties the
+    /// state to the engine.
     pub fn is_ready(&self) -> bool
         ensures ready { IsTrue result ↔ IsReady self.now.state }
         ensures tied { IsTied self.now }
@@ -96,7 +96,8 @@ impl State {
         !self.has_no_run() && !self.is_pending()
     }
 
-    /// The record of the run. There is none where there is no run, the last one was out of fuel, or an edit or a repair is pending.
+    /// The record of the run. There is none where there is no run, the last one was out of fuel, or an edit or a repair
+    /// is pending.
     pub fn recorded(&self, alloc: Global) -> Result<Option<Record>, NoMemory>
         ensures { IfOk result
             (λ found. MatchOption found (¬ IsReady self.now.state)

@@ -116,7 +116,7 @@ module _ (code : Code) (names : ℕ → ℕ) where
       turn-then (fixing_at s ws (items_in (knot stamp (Read p value u v args) n ∷ back))) (running_at s (resumed code u v args (s.store p)) (Fixes ∷ ws) (ticks n ++ items_in back))
       (running_at s (resumed code u v args (s.store p)) (Fixes ∷ ws) (items_in back)) (Read p (s.store p) u v args ∷ []) (rw e refl) (drop-ticks s (resumed code u v args (s.store p)) (Fixes ∷ ws) n (items_in back))
 
-  -- its unit is over: what is left over is revoked, and what is kept goes on after its end
+  -- its unit is over: what is left over is revoked, and what is kept continues after its end
   pub repaired : (s : State) (st : Stack) (ws : List Wait) (g : Grove) (e m : ℕ) (rest : List Knot) → next code s.plain st ≡ Over
       → Comes (running_at s st (Fixes ∷ ws) (items_in (knots g ++ knot e End m ∷ rest))) (End ∷ []) (fixing_at s ws (ticks m ++ items_in rest))
   unfolding turn
@@ -196,7 +196,7 @@ module _ (code : Code) (names : ℕ → ℕ) where
       one-turn (running_at s st ws (items_in (knots g ++ tail))) (running_at (works s) (resumed code u v args (s.store p)) (Begins below ∷ ws) (items_in (knots g ++ tail))) (Step ∷ Read p (s.store p) u v args ∷ [])
       (rw (h, first-knots g c, k) refl)
 
-  -- a read that is taken stands after what was revoked, its items inside it and what is left over after its end
+  -- a read that is taken is after what was revoked, its items inside it and what is left over after its end
   module _ (s : State) (st below : Stack) (ws : List Wait) (g inside rest : Grove) (e m n : ℕ) (tail : List Knot) (p : Place) (u : UnitId) (v : ℕ) (args : List Word) (t : TakenRead)
       (c : Closes tail) (h : next code s.plain st ≡ Reads p u v args below) (k : take_read p u v args (trace_in g) ≡ Some t)
       (in_it : t.inside ≡ stepped n (trace_in inside)) (behind : bare t.leftover ≡ bare (trace_in rest)) where

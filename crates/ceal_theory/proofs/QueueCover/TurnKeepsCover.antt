@@ -171,8 +171,8 @@ module _ {names : ℕ → ℕ} (code : Code) (inputs : List Block) (f : ℕ) (ws
             (agrees-append code (store_after code (starting code inputs t.plain) front) (items_of fresh) (End ∷ [])
             (subst (λ z. AgreesAll code (store_after code (starting code inputs t.plain) front) z) (sym now) new-honest) (tt, tt))
 
-    -- the new nodes are covered from the new start, if the first read after the read's end is queued of each place whose content
-    -- changes there or of which somebody waited
+    -- the new nodes are covered from the new start, if the first read after the read's end is queued of each place
+    -- whose content changes there or of which somebody waited
     pub turn-kept : ((x : Place) → ((store_after code here (items_of old) x ≡ store_after code here (items_of made_nodes) x) × (waits_after q none_waits old x ≡ false)) ⊎ Queued q' (first_read x behind))
         → Covered code q' (starting code inputs t.plain) none_waits (before fore (before made_nodes behind))
     turn-kept loose =

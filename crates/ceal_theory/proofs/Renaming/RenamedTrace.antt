@@ -198,7 +198,7 @@ module _ (ps : Pairs) (one : OneToOne ps) where
   id-at b c t IdAlike.input = refl
   id-at b c t (IdAlike.core {b = d} {c = e} s) = core-at b c d e t s
 
-  -- a block stands as often as the one that it stands for
+  -- a block occurs as often as the one that it stands for
   pub uses-renamed : {l m : Trace} → TraceAlike ps l m → (b c : ℕ) → Tied b c ps → uses c m ≡ uses b l
   uses-renamed TraceAlike.nothing b c t = refl
   uses-renamed (TraceAlike.stepped h) b c t = uses-renamed h b c t
@@ -208,7 +208,7 @@ module _ (ps : Pairs) (one : OneToOne ps) where
   uses-renamed (TraceAlike.was_read {i = i} {j = j} {l = l} {m = m} p w vs ki h) b c t =
       omega (arith, uses-renamed ki b c t, uses-renamed h b c t, times-append c (blocks_of j) (blocks_of m), times-append b (blocks_of i) (blocks_of l))
 
-  -- and each that stands has one
+  -- and each that occurs has one
   pub uses-tied : {l m : Trace} → TraceAlike ps l m → (c : ℕ) → (uses c m ≡ 0) ⊎ ((b : ℕ) × Tied b c ps)
   uses-tied TraceAlike.nothing c = inl refl
   uses-tied (TraceAlike.stepped h) c = uses-tied h c

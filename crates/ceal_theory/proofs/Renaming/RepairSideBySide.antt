@@ -124,7 +124,7 @@ pub data ComesFrom (sides : Sides) (b c : ℕ) : Type 0 where
   grown : (k : ℕ) → b ≡ sides.left (sides.from + k) → c ≡ sides.right (sides.other + k) → ComesFrom sides b c
 
 module _ (code : Code) (sides : Sides) where
-  -- two repairs that go on side by side
+  -- two repairs that proceed side by side
   pub record Twin (ps : Pairs) (s t : State) : Type 0 where
     pub one : OneToOne ps
     pub plain : PlainAlike code.structs ps s.plain t.plain

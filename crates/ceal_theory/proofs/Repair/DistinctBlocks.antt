@@ -17,7 +17,7 @@ use Rattle.ceal_code.specs.Step.{Stack}
 use Rattle.ceal_theory.specs.Repair.{Single, State, Fix, Mend, Anew}
 use Rattle.ceal_theory.specs.Take.{TakenAlloc, TakenRead, same_words, same_key, alloc_then, read_then, take_alloc, take_read}
 
--- how often a core block stands among the blocks, and in the items
+-- how often a core block occurs among the blocks, and in the items
 abbrev pub times : ℕ → List BlockId → ℕ
 times b bs = count b (core_numbers bs)
 
@@ -230,7 +230,8 @@ module _ (code : Code) {names : ℕ → ℕ} (b : ℕ) where
     anew-uses (Anew.reads {inside' = inside'} {new = new} e w m a) =
         omega (arith, anew-uses m, anew-uses a, times-append b (blocks_of inside') (blocks_of new))
 
--- the new items' blocks are distinct, where the old ones' are, of which none has a name of a number from the next one on
+-- the new items' blocks are distinct, where the old ones' are, of which none has a name of a number from the next one
+-- on
 pub distinct-new : (names : ℕ → ℕ) → Single names → (from to b m n : ℕ) → m + named names from b ≤ n + named names to b → n ≤ 1 → ((k : ℕ) → from ≤ k → b ≡ names k → n ≡ 0) → m ≤ 1
 distinct-new names single from to b m n h o new = go (named names to b) refl
   where

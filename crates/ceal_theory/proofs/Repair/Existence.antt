@@ -30,7 +30,7 @@ use Rattle.ceal_theory.specs.Known.{Told, Sure}
 use Rattle.ceal_theory.specs.Repair.{own, State, clears, puts, works, grows, resumed, Fix, Mend, Anew}
 use Rattle.ceal_theory.specs.Take.{TakenAlloc, TakenRead, take_alloc, take_read}
 
--- a number that is learnt and stands in no pair
+-- a number that is learnt and occurs in no pair
 not-learnt : (structs : List StructInfo) (x y : Plain) (f : ℕ) (new : Block) (ps : Pairs) → PlainAlike structs ps x y → times f [] + count f (lefts ps) ≡ 0 → PlainAlike structs ps (learnt x (Core f) new) y
 unfolding learnt
 not-learnt structs x y f new ps h z b c (IdAlike.input {i = i}) = h (Input i) (Input i) IdAlike.input
@@ -212,7 +212,7 @@ module _ (code : Code) (n : ℕ) (ds : List ℕ) (y : Plain) where
   fix-wrote : (ps : Pairs) (s : State) (p : Place) (v : Word) (l : Trace) (t' : Store) (o r : ℕ → ℕ) → FixTotal ps (puts s p v) l t' o r → FixTotal ps s (Stepped (Wrote p v l)) t' o r
   fix-wrote ps s p v l t' o r q = record { state = q.state; items = Stepped (Wrote p v q.items); fix = Fix.step (Fix.write q.fix); after = q.after; wider = q.wider; like = q.like }
 
-  -- what follows a mended read, from any later state
+  -- what follows a corrected read, from any later state
   Then : (ps : Pairs) (s : State) (t1 : Store) (l m : List BlockId) (o r : ℕ → ℕ) → (Pairs → State → Type 0) → Type 0
   Then ps s t1 l m o r F = (qs : Pairs) (s1 : State) → Within ps qs → Grown own s s1 → Like qs s1 t1 l m o r → F qs s1
 

@@ -1,4 +1,4 @@
--- What holds of a state of a repair, and of the old items, while the repair goes on.
+-- What holds of a state of a repair, and of the old items, while the repair continues.
 use Rattle.std.proofs.Common.{◌≡◌, ℕ, ◌≤◌, Some, None, List, sym, ◌∙◌}
 use Rattle.std.specs.Prelude.{⊤}
 use Rattle.ceal_base.specs.Block.{Block}

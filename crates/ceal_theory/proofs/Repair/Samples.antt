@@ -1,5 +1,5 @@
--- Repairs, computed: INC with a new value, MAP with a new first cell, and BOX, whose revoked block's number is not given
--- out again.
+-- Repairs, computed: INC with a new value, MAP with a new first cell, and BOX, whose revoked block's number is not
+-- given out again.
 use Rattle.std.proofs.Common.{◌≡◌, ℕ, pos, Option, Some, None, List, [], ◌∷◌, refl}
 use Rattle.ceal_base.specs.Block.{Block}
 use Rattle.ceal_base.specs.Trace.{Trace, Nothing, Stepped, Wrote, WasRead, steps_of, blocks_of}
@@ -115,8 +115,8 @@ mapped : report map_first ≡ 18 ∷ 18 ∷ 0 ∷ 1 ∷ 2 ∷ []
 unfolding first_of anew next settled chosen bound woven set unset expr_value values bases input_plain stored cleared learnt made set_by set_by_all arguments take_read take_alloc hidden-the_row-CodeExpr-0 shape-the_row-CodeExpr-0 denote.Hole.Carrier.hidden
 mapped = refl
 
--- a new first cell: five steps and a block for it, and five for the old first cell, whose block is taken and the read of
--- whose tail is taken whole
+-- a new first cell: five steps and a block for it, and five for the old first cell, whose block is taken and the read
+-- of whose tail is taken whole
 mapped_again : report (map_again map_first) ≡ 10 ∷ 23 ∷ 3 ∷ 0 ∷ 1 ∷ 2 ∷ []
 unfolding first_of adjusted anew next settled chosen bound woven set unset expr_value values bases input_plain plain_of stored cleared learnt made set_by set_by_all arguments take_read take_alloc hidden-the_row-CodeExpr-0 shape-the_row-CodeExpr-0 denote.Hole.Carrier.hidden
 mapped_again = refl
@@ -129,7 +129,8 @@ boxed : report box_first ≡ 11 ∷ 11 ∷ 0 ∷ []
 unfolding first_of anew next settled chosen bound woven set unset expr_value values bases input_plain stored cleared learnt made set_by set_by_all arguments take_read take_alloc hidden-the_row-CodeExpr-0 shape-the_row-CodeExpr-0 denote.Hole.Carrier.hidden
 boxed = refl
 
--- the first box is revoked and the second is new: were its number that of the first, the read of it would look unchanged
+-- the first box is revoked and the second is new: were its number that of the first, the read of it would look
+-- unchanged
 boxed_again : report (box_again box_first) ≡ 5 ∷ 11 ∷ 1 ∷ []
 unfolding first_of adjusted anew next settled chosen bound woven set unset expr_value values bases input_plain plain_of stored cleared learnt made set_by set_by_all arguments take_read take_alloc hidden-the_row-CodeExpr-0 shape-the_row-CodeExpr-0 denote.Hole.Carrier.hidden
 boxed_again = refl

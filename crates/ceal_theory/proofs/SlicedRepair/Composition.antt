@@ -1,4 +1,5 @@
--- Slices follow one another: two are one of the sum of their reads, and one without a number of reads ends what any began.
+-- Slices follow one another: two are one of the sum of their reads, and one without a number of reads ends what any
+-- began.
 use Rattle.std.proofs.Common.{◌≡◌, ℕ, zero, suc, List, refl, sym, ap, subst}
 use Rattle.ceal_base.specs.Trace.{Trace, Stepped, Allocated, Wrote, WasRead}
 use Rattle.ceal_base.specs.declared.forest.UnitId.{UnitId}

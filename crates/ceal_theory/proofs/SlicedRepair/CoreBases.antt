@@ -1,5 +1,5 @@
--- What the store has at places of core blocks when a slice begins does not matter: where the slice looks, the items before
--- have allocated the block.
+-- What the store has at places of core blocks when a slice begins does not matter: where the slice looks, the items
+-- before have allocated the block.
 use Rattle.std.proofs.Common.{ℕ, suc, Option, List, [], ◌∷◌, length, sym, ◌∙◌, subst}
 use Rattle.ceal_base.specs.Block.{Block}
 use Rattle.ceal_base.specs.Trace.{Trace, WasRead}

@@ -1,4 +1,4 @@
--- A slice is what its first part comes to and then a further slice: the other way round of one slice following another.
+-- A slice is the result of its first part and then a further slice: the converse of one slice following another.
 use Rattle.std.proofs.Common.{◌≡◌, ℕ, zero, suc, ◌+◌, Option, Some, None, List, refl, sym, ap, ◌∙◌, subst, arith}
 use Rattle.ceal_base.specs.Block.{Block}
 use Rattle.ceal_base.specs.Trace.{Trace, WasRead}
@@ -30,7 +30,7 @@ module _ (code : Code) (names : ℕ → ℕ) where
     pub items : m ≡ m'
     pub lefts : left ≡ left'
 
-  -- a unit that is re-executed comes to one end
+  -- a unit that is re-executed has one end
   pub anew-one : {s t t' : State} {st : Stack} {old m m' left left' : Trace} → Anew code names s st old t m left → Anew code names s st old t' m' left' → SameRun t t' m m' left left'
   anew-one {s} {t} {t'} {st} {old} {m} {m'} {left} {left'} a b =
       let d = suc (t.work + t'.work) in

@@ -1,5 +1,5 @@
--- At the first read that is not honest: what the store, the stack of its unit and the plain words know there is an input or a
--- block that the items before it allocate.
+-- At the first read that is not honest: what the store, the stack of its unit and the plain words know there is an
+-- input or a block that the items before it allocate.
 use Rattle.std.proofs.Common.{◌≡◌, ℕ, Some, List, [], ◌∷◌, ◌++◌, length, refl, sym, ap, ◌∙◌, subst}
 use Rattle.ceal_base.specs.Block.{Block}
 use Rattle.std.specs.Prelude.{⊤}

@@ -1,5 +1,5 @@
--- What a part of a repair gives is yielded by the same stack, over the plain words at its end, and all that it mentions is
--- known then.
+-- What a part of a repair gives is yielded by the same stack, over the plain words at its end, and all that it mentions
+-- is known then.
 use Rattle.std.proofs.Common.{◌≡◌, ℕ, zero, suc, ◌+◌, List, sym, subst, arith}
 use Rattle.ceal_base.specs.Trace.{Trace, WasRead}
 use Rattle.ceal_base.specs.declared.forest.UnitId.{UnitId}

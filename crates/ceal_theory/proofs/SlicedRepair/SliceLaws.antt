@@ -341,7 +341,7 @@ history-law code names f args inputs r h = of (history code names f args h)
       again = λ i number above. record { call = k.0; fit = k.0.blocks; extended = extended-refl code inputs; trace = done-replays code inputs f args k.0 r k.1 i; above = above };
     }
 
--- a slice comes to one repair
+-- a slice has one result
 slices-one : (code : Code) (names : ℕ → ℕ) (inputs : List Block) (k : Option ℕ) (r a b : Repair) → Slices code names inputs k r a → Slices code names inputs k r b → a ≡ b
 slices-one code names inputs k r a b s t =
     let n = a.spent + b.spent in

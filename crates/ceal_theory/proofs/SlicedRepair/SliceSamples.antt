@@ -1,5 +1,5 @@
--- Slices, computed: two sums with an edit between the slices, and BOX, whose revoked block keeps its number while a later
--- slice makes a block.
+-- Slices, computed: two sums with an edit between the slices, and BOX, whose revoked block keeps its number while a
+-- later slice makes a block.
 use Rattle.std.proofs.Common.{◌≡◌, ℕ, pos, Bool, true, false, Option, Some, None, List, [], ◌∷◌, refl}
 use Rattle.ceal_base.specs.Block.{Block}
 use Rattle.ceal_base.specs.Trace.{steps_of, blocks_of}
@@ -50,7 +50,8 @@ box_2 = slice_one box (box_inputs 2) 11 box_1
 abbrev box_3 : Option Repair
 box_3 = slice_one box (box_inputs 2) 11 box_2
 
--- the first `make` is re-executed and its block is revoked; then the second makes a block with another number; then `look`
+-- the first `make` is re-executed and its block is revoked; then the second makes a block with another number; then
+-- `look`
 boxed-1 : report box (box_inputs 2) box_1 ≡ Some (record { spent = 1; done = false; steps = 9; blocks = [] })
 unfolding first_of sliced is_done with_inputs starting anew next settled chosen bound woven set unset expr_value values bases input_plain plain_of stored cleared learnt made set_by set_by_all arguments take_read take_alloc hidden-the_row-CodeExpr-0 shape-the_row-CodeExpr-0 denote.Hole.Carrier.hidden
 boxed-1 = refl
@@ -106,7 +107,7 @@ two-3 : report two (two_inputs 3 7) two_3 ≡ Some (record { spent = 3; done = t
 unfolding first_of sliced is_done with_inputs starting anew next settled chosen bound woven set unset expr_value values bases input_plain plain_of stored cleared learnt made set_by set_by_all arguments take_read take_alloc hidden-the_row-CodeExpr-0 shape-the_row-CodeExpr-0 denote.Hole.Carrier.hidden
 two-3 = refl
 
--- with an edit before each slice the steps spent come to the bound, and then the slice is none
+-- with an edit before each slice the steps spent reach the bound, and then the slice is none
 abbrev two_4 : Option Repair
 two_4 = slice_one two (two_inputs 4 7) 6 two_2
 

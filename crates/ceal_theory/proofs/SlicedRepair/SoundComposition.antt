@@ -35,7 +35,7 @@ module _ (names : ℕ → ℕ) (single : Single names) (code : Code) (n : ℕ) (
     pub part : Part code names k t old j (with_store s' after) new
     pub same : SameAt n known s'.store after
 
-  -- a part goes by what the store has only at known places
+  -- a part uses what the store has only at known places
   pub part-again : {k j : ℕ} {s s' : State} {old new : Trace} → Part code names k s old j s' new → Extends s'.plain y → (bs : List ℕ) → Good names n bs s → Pieces code s.plain y old → Uses n bs old
       → (t : Store) → SameAt n bs s.store t → PartAgain k j bs (with_store s t) old new s'
   part-again Part.stays ext bs g h u t w = record { known = bs; sub = λ b i. i; good = g; after = t; part = Part.stays; same = w }

@@ -138,7 +138,7 @@ module _ {names : ℕ → ℕ} (code : Code) (inputs : List Block) (f : ℕ) (ar
         go (inl i) = parted.sub b (h.all b block (sym (at-core code inputs r.known b) ∙ i))
         go (inr i) = subst (λ z. In z parted.known) (sym i.3) (made' i.0 i.1 i.2)
 
-    -- what the slice comes to holds
+    -- the result of the slice holds
     pub part-sound : Sound code names inputs f args (repair_at s' m)
     part-sound = record {
       yields = subst (λ x. Yields code x (started code f args) m) (sym same-plain) parted.yields;

@@ -121,7 +121,7 @@ module _ (code : Code) (n : ℕ) (ds : List ℕ) where
   run-knows : (bs : List ℕ) (key : Key) (b v u i : ℕ) (env : Variables) (below : Stack) → In b bs → KnownVariables n bs env → KnownStack n bs below → KnownStack n bs (Run u i (set env v (pointer key (Core b))) below)
   run-knows bs key b v u i env below j h k = (set-known n bs env v (pointer key (Core b)) h (pointer-known n bs key (Core b) j), k)
 
-  -- what a step that was gone through stands before
+  -- what is after a step that was gone through
   record BeforeAlloc (bs : List ℕ) (s : State) (b : ℕ) (key : Key) (rest : Trace) : Type 0 where
     known : KnownKey n bs key
     ready : StateKnows (b ∷ bs) (clears code s (Core b) key) → Ready code n ds s.plain (b ∷ bs) rest

@@ -1,4 +1,4 @@
--- A walk and a repair go by what the store has only at known places.
+-- A walk and a repair use what the store has only at known places.
 use Rattle.std.proofs.Common.{◌≡◌, ℕ, Bool, true, false, ◌==◌, if◌then◌else◌, List, ◌∷◌, refl, sym, ◌∙◌, subst, arith}
 use Rattle.ceal_base.specs.Operators.{same_block}
 use Rattle.ceal_base.specs.Trace.{Trace, Stepped, WasRead}

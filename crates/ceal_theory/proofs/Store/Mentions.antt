@@ -92,7 +92,7 @@ uses-pieces code n bs x y h ext (Yields.makes {key = key} {b = b} e g r) u =
 uses-pieces code n bs x y h ext (Yields.writes e r) u = uses-pieces code n bs x y h ext r u.2
 uses-pieces code n bs x y h ext (Yields.reads e r1 r2) u = (r1, uses-pieces code n bs x y h ext r1 u.3, uses-pieces code n bs x y h ext r2 u.4)
 
--- what a stack yields and what mentions only known blocks stays so, whatever stands around it
+-- what a stack yields and what mentions only known blocks stays so, whatever is around it
 pub uses-sure : (code : Code) (n : ℕ) (ds : List ℕ) (x : Plain) {st : Stack} {l : Trace} → Yields code x st l → Uses n ds l → Sure code n ds x l
 uses-sure code n ds x (Yields.over e) u = tt
 uses-sure code n ds x (Yields.quiet e r) u = uses-sure code n ds x r u

@@ -170,7 +170,7 @@ not-same v w h = go (same_word v w) refl
     go true e = absurd (h (word-same v w e))
     go false e = refl
 
--- a read that is mended: the mode in which it is opened finishes with its items and what follows
+-- a read that is corrected: the mode in which it is opened finishes with its items and what follows
 mend-ahead : (code : Code) (names : ℕ → ℕ) (s t s' : State) (p : Place) (u : UnitId) (v : ℕ) (args : List Word) (value : Word) (inside new : Trace) (fs : Frames) (later : List Item)
     → Mend code names s p u v args value inside t new → ((left : Trace) → Resumes code names t left fs s' later)
     → Finishes code names (at s (opened code (same_word (s.store p) value) u v args (s.store p) inside) fs) s' (flat new ++ later)
@@ -213,7 +213,7 @@ pub record FixedFlat (code : Code) (names : ℕ → ℕ) (s : State) (old : Trac
   pub fix : Fix code names s old s' items
   pub same : out ≡ flat items
 
--- what a machine finishes with that begins with items alone is their repair
+-- what a machine that begins with only items finishes with is their repair
 pub finishes-fix : (code : Code) (names : ℕ → ℕ) (s : State) (old : Trace) (s' : State) (out : List Item) → Finishes code names (at s (Fixing old) Bottom) s' out → FixedFlat code names s old s' out
 finishes-fix code names s old s' out (Finishes.fixes {new = new} f Resumes.bottom) = record { items = new; fix = f; same = append-nil (flat new) }
 

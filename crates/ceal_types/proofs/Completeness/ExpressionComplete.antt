@@ -148,7 +148,7 @@ module _ (structs : List (Name × Fields)) (name : Ident) where
         length = some-same found.0.row row (sym good.row ∙ (λ i. row_at (map struct_info structs) (found.2 i) (found.3 i)) ∙ rows);
       }
 
--- ---- what stands at a member
+-- ---- what is at a member
 no-kind : (kind : Option Kind) → None ≡ kind → IsSome kind → ⊥
 no-kind None e there = false≢true there
 no-kind (Some k) e there = cc

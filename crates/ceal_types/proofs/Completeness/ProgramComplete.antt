@@ -198,7 +198,7 @@ module _ (p : Typed) where
     within : Grows left.kinds kinds
     good : ScopeKinds kinds left.scope
 
-  -- the kinds begin with those of the variables, and go on with these
+  -- the kinds begin with those of the variables, and continue with these
   abbrev Ahead : Variables → List Kind → List Kind → Type 0
   Ahead v kinds rest = kinds ≡ v.kinds ++ rest
 

@@ -56,7 +56,7 @@ use Rattle.ceal_types.proofs.Resolution.NumbersOfNames.{numbers, numbers-added, 
 use Rattle.ceal_types.proofs.Typing.StatementTyped.{row-declarations}
 use Rattle.ceal_types.proofs.Typing.ValueTyped.{HasHead, HeadsMatch}
 
--- ---- a list that goes on with what stands there
+-- ---- a list that continues with what is there
 pub grows-next : {A : Type 0} (xs ys : List A) (x : A) → Grows xs ys → slice_get ys (length xs) ≡ Some x → Grows (xs ++ x ∷ []) ys
 grows-next {A = A} xs ys x g h = next g.more g.is
   where

@@ -119,7 +119,7 @@ no-pick-tells Q a i type index fs gs r s t u =
     (λ y z h k. same-place T3 y.span (operand_span a) h.0))
 
 module _ (p : Program) (functions : List (Name × FunctionDecl)) (init : Option Ident) (own : Option ℕ) (own-as : OwnAs p.names init own) (scope : Scope) where
-  -- what an expression stands in
+  -- what an expression is in
   abbrev pub Here : TypingContext
   Here = record { declared = Shown p functions; initialiser = init; scope = known_variables scope }
 

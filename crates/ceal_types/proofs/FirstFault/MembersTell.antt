@@ -1,4 +1,4 @@
--- The members of a struct, and what stands before `->`.
+-- The members of a struct, and what is before `->`.
 use Rattle.std.proofs.Common.{◌≡◌, ℕ, ◌==◌, Option, Some, None, Result, Ok, List, [], ◌∷◌, ◌++◌, map, slice_get, refl, sym, subst, ap, ◌∙◌, if◌then◌else◌}
 use Rattle.std.specs.Prelude.{IfSome, is_some}
 use Rattle.std.specs.Option.{option_map, option_and_then}
@@ -53,7 +53,7 @@ misfit-first P asked type at x gs r t h =
     rw (t.1, t.0) (unless-first P (suits asked x.kind) T1 at gs r (λ b. h))
 
 -- ---- members by name
--- the field that is found is the one that stands at its number
+-- the field that is found is the one that is at its number
 abbrev FieldAs : Option (ℕ × Field) → Option FieldInfo → Type 0
 FieldAs None m = m ≡ None
 FieldAs (Some f) m = (i : FieldInfo) × (m ≡ Some i) × (i.kind ≡ f.1.kind) × (i.row ≡ f.1.row)

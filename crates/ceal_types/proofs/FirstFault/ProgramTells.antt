@@ -110,6 +110,6 @@ tree-tells tree =
 pub first-fault : (tree : Tree) (f : Fault) → (checked tree ≡ Err f) ↔ (slice_get (tree_faults tree) 0 ≡ Some f)
 first-fault tree f = tells-first Any (tree_faults tree) (checked tree) (tree-tells tree) f
 
--- there is a program exactly where there are no faults
+-- there is a program exactly when there are no faults
 pub no-fault : (tree : Tree) → IsOk (checked tree) ↔ (tree_faults tree ≡ [])
 no-fault tree = tells-none Any (tree_faults tree) (checked tree) (tree-tells tree)

@@ -91,7 +91,7 @@ form-tells names form =
 pointer-known : (make : ℕ → Kind) (names : List Name) (name : Ident) (s : ℕ) → position (bytes_eq name.text) names ≡ Some s → pointer_type make names name ≡ Some (Some (make s))
 pointer-known make names name s h = ap (option_map (λ (n : ℕ). Some (make n))) h
 
--- two names of structs have one number exactly where they are the same
+-- two names of structs have one number exactly when they are the same
 module _ (a b : Name) where
   suc-of : (o : Option ℕ) (n : ℕ) → option_map suc o ≡ Some n → (k : ℕ) × (o ≡ Some k) × (n ≡ suc k)
   suc-of None n h = cc
@@ -177,7 +177,7 @@ lookup-heads names test (h ∷ hs) (f ∷ fs) k = by (test h.0) (test f.0) (ap t
     by true false e l = absurd (true≢false e)
     by false true e l = absurd (true≢false (sym e))
 
--- a name is that of a head exactly where it is that of a function
+-- a name is that of a head exactly when it is that of a function
 pub has-heads : (names : List Name) (name : Name) (hs : List (Name × Head)) (fs : List (Name × FunctionDecl)) → HeadsKnown names hs fs → has hs name ≡ has fs name
 has-heads names name hs fs k = by (lookup (bytes_eq name) hs) (lookup (bytes_eq name) fs) (lookup-heads names (bytes_eq name) hs fs k)
   where
@@ -213,7 +213,7 @@ asked-tells : {A : Type 0} (asked given : Kind) (type : Known) (at : Span) (x : 
 asked-tells asked given type at x h = rw h (unless-tells Any (same_kind asked given) T1 at x (λ b. tt))
 
 module _ (p : Program) (functions : List (Name × FunctionDecl)) (heads : HeadsKnown p.names p.functions functions) (init : Option Ident) (own : Option ℕ) (own-as : OwnAs p.names init own) where
-  -- what a statement stands in
+  -- what a statement is in
   abbrev At : Scope → TypingContext
   At scope = Here p functions init own own-as scope
 

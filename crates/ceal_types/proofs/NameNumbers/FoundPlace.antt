@@ -1,4 +1,4 @@
--- What stands at the place that a look-up gives.
+-- The value at the place that a look-up gives.
 use Rattle.std.proofs.Common.{◌≡◌, ℕ, Option, Some, None, List, [], ◌∷◌, map, position, slice_get, refl, sym, ap, ◌∙◌}
 use Rattle.std.specs.Prelude.{IfSome}
 use Rattle.std.specs.Map.{keys_of, lookup}
@@ -20,7 +20,7 @@ module _ {A : Type 0} where
   both-place table (Some i) None h = tt
   both-place table (Some i) (Some v) h = sym (slice_get-map second table i) ∙ h
 
-  -- the value that is found stands at the number that is found
+  -- the value that is found is at the number that is found
   pub find-place : (table : List (Name × A)) (name : Name) → IfSome (find table name) (λ f. value_at table f.0 ≡ Some f.1)
   unfolding find
   find-place table name =

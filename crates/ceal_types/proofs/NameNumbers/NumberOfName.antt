@@ -32,7 +32,7 @@ module _ {A : Type 0} where
   pub has-number : (es : List (Name × A)) (name : Name) → has es name ≡ is_some (position (bytes_eq name) (keys_of es))
   has-number es name = sym (some_index (bytes_eq name) es)
 
-  -- nothing stands under a name that is not there
+  -- there is nothing under a name that is not there
   pub absent : (es : List (Name × A)) (name : Name) → has es name ≡ false → lookup (bytes_eq name) es ≡ None
   absent es name = none (lookup (bytes_eq name) es)
     where

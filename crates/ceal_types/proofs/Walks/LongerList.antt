@@ -24,7 +24,7 @@ module _ {A : Type 0} where
   get-front (y ∷ xs) more zero x h = h
   get-front (y ∷ xs) more (suc n) x h = get-front xs more n x h
 
-  -- what stands in the first stands in the second
+  -- what is in the first is in the second
   pub grows-get : (xs ys : List A) (n : ℕ) (x : A) → Grows xs ys → slice_get xs n ≡ Some x → slice_get ys n ≡ Some x
   grows-get xs ys n x g h = rw g.is (get-front xs g.more n x h)
 

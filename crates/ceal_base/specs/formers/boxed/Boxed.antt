@@ -1,4 +1,4 @@
--- How `Boxed` may stand inside its own type: as the value in it.
+-- How `Boxed` may occur inside its own type: as the value in it.
 use mathlib.Core.Path.{refl}
 use mathlib.Core.Former.{Former, this, const, pair, via}
 use base.Stored.{gnil}

@@ -1,4 +1,4 @@
--- How `Items` may stand inside the type of its own items: as a list.
+-- How `Items` may occur inside the type of its own items: as a list.
 use mathlib.Core.Path.{◌≡◌, refl, sym}
 use mathlib.Core.List.{List, []}
 use mathlib.Core.Former.{Former, this, list, via, children}

@@ -4,7 +4,7 @@ use Rattle.ceal_order.specs.Links.{stamps_of}
 use Rattle.ceal_order.specs.Runs.{Spread}
 use Rattle.ceal_order.proofs.labels.spread.Given as goal
 
--- that many links have their labels, and the next one is at hand
+-- this number of links have their labels, and the next one is at hand
 abbrev pub invariant-loop-place : goal.invariant-loop-place
 invariant-loop-place l = record {
   done : Spread l.fn.links l.links l.first l.place l.low l.gap;

@@ -3,7 +3,7 @@ use Rattle.std.specs.Vec.{vec_len, vec_capacity}
 use Rattle.ceal_order.specs.Links.{Grown}
 use Rattle.ceal_order.proofs.link.add_spares.Given as goal
 
--- that many have been added, and there is room for the others
+-- this number have been added, and there is room for the others
 abbrev pub invariant-loop-added : goal.invariant-loop-added
 invariant-loop-added l = record {
   grown : Grown l.fn.links.items l.links.items l.fn.free l.first l.added;

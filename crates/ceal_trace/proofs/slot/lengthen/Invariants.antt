@@ -3,7 +3,7 @@ use Rattle.std.specs.Vec.{vec_len, vec_capacity}
 use Rattle.ceal_trace.specs.Slots.{Longer}
 use Rattle.ceal_trace.proofs.slot.lengthen.Given as goal
 
--- that many have been added, and there is room for the others
+-- this number have been added, and there is room for the others
 abbrev pub invariant-loop-added : goal.invariant-loop-added
 invariant-loop-added l = record {
   long : length l.slots.items ≡ length l.fn.slots.items + l.added;
