@@ -10,6 +10,8 @@ pub mod Words
 pub mod Entries
 pub mod Blocks
 pub mod Answers
+pub mod Propagation
+pub mod Slicing
 -- what its own functions say of each other
 pub mod Around
 pub mod Moment
@@ -17,5 +19,3 @@ pub mod Repairs
 pub mod Reads
 pub mod Passing
 pub mod Turning
-pub mod Propagation
-pub mod Slicing

@@ -1,6 +1,6 @@
 -- what the crate promises
 pub mod Verdicts
 pub mod Laws
--- what its own functions say of each other
 pub mod Items
+-- what its own functions say of each other
 pub mod Walk
