@@ -25,8 +25,10 @@ lint: ## the lint, and whether pages, examples and rows agree (seconds)
 	.ci/house
 	.ci/documents
 
-pages: ## makes again what is derived: sessions and pictures of pages, rows of examples, lines of the reading path
+pages: ## makes again what is derived: sessions, pictures and excerpts of pages, rows of examples, lines of the reading path
 	.ci/documents --write
+	.ci/references --write
+	.ci/crates --write
 	.ci/reading --write
 
 index: ## writes out/index.html: all definitions, laws and clauses, with who cites them
