@@ -2,7 +2,7 @@
 
 use ceal_base::syntax::{Entry, FieldDecl, FunctionDecl, Stmt};
 use ceal_base::text::Text;
-use sha2::{Digest, Sha256};
+use sha2::{Digest, Sha512};
 use std::hash::{BuildHasher, DefaultHasher, Hasher};
 
 /// What each hash of a table begins with. Made of all that is hashed there, it keeps names of one hash from being
@@ -81,10 +81,10 @@ impl Seed {
         more.finish()
     }
 
-    /// A whole text, for all that will be read in it. It begins with the text's SHA-256 digest, which nobody can work
+    /// A whole text, for all that will be read in it. It begins with the text's SHA-512 digest, which nobody can work
     /// backwards: nobody finds a text for a seed that he would like.
     pub fn of_text(text: &[u8]) -> Seed {
-        let digest = Sha256::digest(text);
+        let digest = Sha512::digest(text);
         let mut start = DefaultHasher::new();
         start.write(&digest);
         Seed { start }
