@@ -1,5 +1,7 @@
 -- Marks of items, and the tables of their places.
-use Rattle.std.proofs.Common.{◌≡◌, ℕ, zero, suc, ◌+◌, ◌<◌, ◌≤◌, ◌⊎◌, inl, inr, ◌++◌, ◌∷◌, [], Bool, true, false, cond, if◌then◌else◌, Option, Some, None, List, length, get_or, unwrap_or, slice_get, refl, sym, ap, subst, ◌∙◌, Result, Ok, Err, MatchOption, arith}
+use Rattle.std.proofs.Common.{◌≡◌, ℕ, zero, suc, ◌+◌, ◌<◌, ◌≤◌, ◌⊎◌, inl, inr, ◌++◌, ◌∷◌, [], Bool, true, false, cond}
+use Rattle.std.proofs.Common.{if◌then◌else◌, Option, Some, None, List, length, get_or, unwrap_or, slice_get, refl, sym}
+use Rattle.std.proofs.Common.{ap, subst, ◌∙◌, Result, Ok, Err, MatchOption, arith}
 use Rattle.std.proofs.lemmas.Bool.{cases_lt}
 use Rattle.std.proofs.lemmas.List.{length-append, get_or_append_left, get_or_push}
 use Rattle.std.proofs.lemmas.List.Sorted.{searched}

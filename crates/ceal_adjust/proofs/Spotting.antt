@@ -1,5 +1,7 @@
 -- To find by marks and depths is to find in a part of flat items.
-use Rattle.std.proofs.Common.{◌≡◌, ℕ, zero, suc, pred, ◌+◌, ◌-◌, ◌<◌, ◌≤◌, inl, inr, ◌∷◌, [], Bool, true, false, if◌then◌else◌, Option, Some, None, List, length, drop, drop-cons, slice_get, ◌==◌, ◌&&◌, MatchOption, refl, sym, ap, ◌∙◌, arith}
+use Rattle.std.proofs.Common.{◌≡◌, ℕ, zero, suc, pred, ◌+◌, ◌-◌, ◌<◌, ◌≤◌, inl, inr, ◌∷◌, [], Bool, true, false}
+use Rattle.std.proofs.Common.{if◌then◌else◌, Option, Some, None, List, length, drop, drop-cons, slice_get, ◌==◌, ◌&&◌}
+use Rattle.std.proofs.Common.{MatchOption, refl, sym, ap, ◌∙◌, arith}
 use Rattle.std.proofs.Math.ListN.{drop_of_length-le}
 use Rattle.std.proofs.lemmas.Bool.{cases_lt}
 use Rattle.std.proofs.lemmas.List.{length-drop}

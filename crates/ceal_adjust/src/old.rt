@@ -1,6 +1,7 @@
 // The old items, with tables by which they are found.
 
-ghost use Rattle.std.specs.Prelude.{◌≡◌, ◌∷◌, [], ◌++◌, ◌+◌, ◌<◌, ◌≤◌, ◌^◌, ⊤, Some, None, length, drop, slice_get, get_or, MatchOption, if◌then◌else◌, IfOk, OnOk};
+ghost use Rattle.std.specs.Prelude.{◌≡◌, ◌∷◌, [], ◌++◌, ◌+◌, ◌<◌, ◌≤◌, ◌^◌, ⊤, Some, None, length, drop, slice_get};
+ghost use Rattle.std.specs.Prelude.{get_or, MatchOption, if◌then◌else◌, IfOk, OnOk};
 ghost use Rattle.ceal_theory.specs.Levels.{skipped};
 ghost use Rattle.ceal_adjust.specs.Marks.{depth, depths, has, mark_of, places};
 ghost use Rattle.ceal_adjust.specs.Places.{listed};
@@ -35,7 +36,8 @@ impl<'a> Model for Old<'a> {
 
     ghost view = { λ o. o.items.now };
 
-    ghost invariant = { λ o. (o.nesting.items ≡ depths o.items.now (length o.items.now)) × ((m : AnyMark) → listed o.table m ≡ places o.items.now m (length o.items.now)) };
+    ghost invariant = { λ o. (o.nesting.items ≡ depths o.items.now (length o.items.now))
+        × ((m : AnyMark) → listed o.table m ≡ places o.items.now m (length o.items.now)) };
 }
 
 /// An item that is found: its place, and how many levels are left over there.

@@ -8,7 +8,8 @@ ghost use Rattle.ceal_code.specs.Tables.{code_in, plain_in, store_in};
 ghost use Rattle.ceal_theory.specs.Levels.{first, around};
 ghost use Rattle.ceal_theory.specs.Repair.{own};
 ghost use Rattle.ceal_theory.specs.Turns.{closed, opened, turn};
-ghost use Rattle.ceal_adjust.specs.Machines.{code_of, state_in, frames_in, ahead, after, left_over, machine_of, machine_in, turn_in};
+ghost use Rattle.ceal_adjust.specs.Machines.{code_of, state_in, frames_in, ahead, after, left_over, machine_of};
+ghost use Rattle.ceal_adjust.specs.Machines.{machine_in, turn_in};
 
 use crate::frame::{Frame, Mode, Turn};
 use crate::old::Old;

@@ -1,5 +1,6 @@
 -- How a program reaches into memory. Everything is total: what is not there reads as its default and takes no write.
-use Rattle.std.specs.Prelude.{ℕ, Bool, false, Option, Some, None, slice_get, unwrap_or, if◌then◌else◌, ◌==◌, not, is_some}
+use Rattle.std.specs.Prelude.{ℕ, Bool, false, Option, Some, None, slice_get, unwrap_or, if◌then◌else◌, ◌==◌, not}
+use Rattle.std.specs.Prelude.{is_some}
 use Rattle.ceal_base.specs.Block.{Block, Blocks, block_at, written_at}
 use Rattle.ceal_base.specs.Operators.{is_zero, number_of}
 use Rattle.ceal_base.specs.declared.kind.Shape.{Shape}

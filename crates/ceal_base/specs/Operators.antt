@@ -1,6 +1,7 @@
 -- What the operators give, as in C (ISO C, 6.5): a quotient is cut off towards 0. Numbers of 64 bits wrap,
 -- and a division by 0 gives 0 and has the dividend as its remainder (our own).
-use Rattle.std.specs.Prelude.{ℕ, ◌+◌, ◌^◌, nat_lt, ℤ, pos, negsuc, Bool, true, false, not, ◌==◌, ◌&&◌, ◌||◌, if◌then◌else◌, int_lt, int_le, int_rem}
+use Rattle.std.specs.Prelude.{ℕ, ◌+◌, ◌^◌, nat_lt, ℤ, pos, negsuc, Bool, true, false, not, ◌==◌, ◌&&◌, ◌||◌}
+use Rattle.std.specs.Prelude.{if◌then◌else◌, int_lt, int_le, int_rem}
 use Rattle.std.specs.Ordering.{int_eq}
 use Rattle.std.specs.Int.{w64, int_wrapping_add, int_wrapping_sub, int_wrapping_mul, int_wrapping_div, int_wrapping_neg}
 use Rattle.ceal_base.specs.declared.word.BlockId.{BlockId}
@@ -11,7 +12,8 @@ use Rattle.ceal_base.specs.declared.word.Word.TheVariants.{Num, Null, Block, At}
 use Rattle.ceal_base.specs.declared.operators.Unary.{Unary}
 use Rattle.ceal_base.specs.declared.operators.Unary.TheVariants.{Neg, Not}
 use Rattle.ceal_base.specs.declared.operators.Binary.{Binary}
-use Rattle.ceal_base.specs.declared.operators.Binary.TheVariants.{Add, Sub, Mul, Div, Rem, Less, LessEq, More, MoreEq, Same, Differ, And, Or, Pick}
+use Rattle.ceal_base.specs.declared.operators.Binary.TheVariants.{Add, Sub, Mul, Div, Rem, Less, LessEq, More, MoreEq}
+use Rattle.ceal_base.specs.declared.operators.Binary.TheVariants.{Same, Differ, And, Or, Pick}
 
 -- a word that is no number counts as 0
 abbrev pub number_of : Word → ℤ

@@ -1,6 +1,7 @@
 -- A program that is well typed, seen from its tree with names resolved: every number is in range, every
 -- expression has the kind that is asked of it, and a variable is used where it is in scope.
-use Rattle.std.specs.Prelude.{◌≡◌, ℕ, zero, suc, ◌+◌, ◌<◌, ◌≤◌, Option, Some, None, MatchOption, IfSome, IsSome, List, [], ◌∷◌, length, map, take, slice_get, All, Contains}
+use Rattle.std.specs.Prelude.{◌≡◌, ℕ, zero, suc, ◌+◌, ◌<◌, ◌≤◌, Option, Some, None, MatchOption, IfSome, IsSome, List}
+use Rattle.std.specs.Prelude.{[], ◌∷◌, length, map, take, slice_get, All, Contains}
 use Rattle.std.specs.List.{IsDistinct}
 use Rattle.std.specs.Str.{bytes_eq}
 use Rattle.ceal_base.specs.Shapes.{field_kinds, row_at}
@@ -17,7 +18,8 @@ use Rattle.ceal_base.specs.declared.typed.TypedExpr.{TypedExpr}
 use Rattle.ceal_base.specs.declared.typed.TypedForm.TheBlock.{Row_of-TypedExpr, end_of-TypedExpr, more_of-TypedExpr}
 use Rattle.ceal_base.specs.declared.typed.TypedForm.{TypedForm, Num, Null, Var, Own, Unary', Binary', Field', Address'}
 use Rattle.ceal_base.specs.declared.typed.TypedFunction.{TypedFunction}
-use Rattle.ceal_base.specs.declared.typed.TypedStmt.{TypedStmt, Declare, Assign, SetField, Write, Call, If', While', Return, Break, Continue}
+use Rattle.ceal_base.specs.declared.typed.TypedStmt.{TypedStmt, Declare, Assign, SetField, Write, Call, If', While'}
+use Rattle.ceal_base.specs.declared.typed.TypedStmt.{Return, Break, Continue}
 use Rattle.ceal_base.specs.declared.typed.TypedStmt.{Row_of-TypedStmt, end_of-TypedStmt, more_of-TypedStmt}
 use Rattle.ceal_base.specs.declared.typed.TypedValue.{TypedValue}
 use Rattle.ceal_base.specs.declared.typed.TypedValue.TheVariants.{Plain as PlainValue, Read, Alloc, ModrefInt, Modref}

@@ -4,7 +4,8 @@ ghost use Rattle.std.specs.Prelude.{◌≡◌, [], ◌∷◌, map, slice_get, is
 ghost use Rattle.std.specs.Option.{option_map};
 ghost use Rattle.ceal_base.specs.Access.{pointed};
 ghost use Rattle.ceal_base.specs.Block.{alone, block_at};
-ghost use Rattle.ceal_base.specs.Fitting.{kind_at, is_int_cell, is_pointer_cell, fits_kind, fits_field, words_fit as words_fit_kinds, fields_fit as words_fit_fields, block_fits};
+ghost use Rattle.ceal_base.specs.Fitting.{kind_at, is_int_cell, is_pointer_cell, fits_kind, fits_field};
+ghost use Rattle.ceal_base.specs.Fitting.{words_fit as words_fit_kinds, fields_fit as words_fit_fields, block_fits};
 ghost use Rattle.ceal_base.specs.declared.word.Word.TheVariants.{Block as BlockWord};
 ghost use Rattle.ceal_base.specs.Shapes.{kind_of_field};
 

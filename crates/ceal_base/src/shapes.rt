@@ -2,7 +2,8 @@
 
 ghost use Rattle.std.specs.Prelude.{◌≡◌, ◌∷◌, [], map, slice_get, IfOk};
 ghost use Rattle.ceal_base.specs.Access.{is_struct};
-ghost use Rattle.ceal_base.specs.Shapes.{default_of_field, kind_of_field, field_kinds, kinds_of_shape, default_block as default_block_of};
+ghost use Rattle.ceal_base.specs.Shapes.{default_of_field, kind_of_field, field_kinds, kinds_of_shape};
+ghost use Rattle.ceal_base.specs.Shapes.{default_block as default_block_of};
 
 use crate::kind::{FieldKind, Shape};
 use crate::memory::BlockWords;

@@ -5,7 +5,8 @@ use Rattle.clap.specs.Lexer.{usize_max}
 use Rattle.ceal_cli.specs.Fuel.{DEFAULT_FUEL, SpellsFuel}
 use Rattle.ceal_cli.specs.Workloads.{NamesWorkload}
 use Rattle.ceal_cli.specs.declared.words.Mode.{Mode}
-use Rattle.ceal_cli.specs.declared.words.Mode.TheVariants.{Check, List as Listing, Run, Gen, Dump, Verify, Many, Save, Resume}
+use Rattle.ceal_cli.specs.declared.words.Mode.TheVariants.{Check, List as Listing, Run, Gen, Dump, Verify, Many, Save}
+use Rattle.ceal_cli.specs.declared.words.Mode.TheVariants.{Resume}
 
 -- the option `--fuel` with one value
 abbrev pub fuel_option : Rule

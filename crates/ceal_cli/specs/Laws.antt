@@ -19,7 +19,8 @@ use Rattle.ceal_cli.specs.Modes.{ReadsInput}
 use Rattle.ceal_cli.specs.Output.{IsAnswer, IsGenerated, IsOutput, IsRefusal, IsTaken, bytes_behind}
 use Rattle.ceal_cli.specs.Verdicts.{verdict_text}
 use Rattle.ceal_cli.specs.declared.words.Mode.{Mode}
-use Rattle.ceal_cli.specs.declared.words.Mode.TheVariants.{Check, List as Listing, Run, Dump, Verify, Many, Save, Resume}
+use Rattle.ceal_cli.specs.declared.words.Mode.TheVariants.{Check, List as Listing, Run, Dump, Verify, Many, Save}
+use Rattle.ceal_cli.specs.declared.words.Mode.TheVariants.{Resume}
 
 -- Every workload is accepted that is short enough to be an input.
 abbrev pub AcceptedLaw : Type 0

@@ -1,7 +1,8 @@
 -- What a mode asks of a session.
 use Rattle.ceal_session.specs.Following.{IsAllowed}
 use Rattle.ceal_cli.specs.declared.words.Mode.{Mode}
-use Rattle.ceal_cli.specs.declared.words.Mode.TheVariants.{Check, List as Listing, Run, Gen, Dump, Verify, Many, Save, Resume}
+use Rattle.ceal_cli.specs.declared.words.Mode.TheVariants.{Check, List as Listing, Run, Gen, Dump, Verify, Many, Save}
+use Rattle.ceal_cli.specs.declared.words.Mode.TheVariants.{Resume}
 
 -- a run may take as many steps as a session allows
 abbrev pub KeepsLimits : Mode → Type 0

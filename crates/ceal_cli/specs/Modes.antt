@@ -4,7 +4,8 @@ use Rattle.std.specs.declared.alloc.Global.{Global}
 use Rattle.ceal_cli.specs.Fuel.{DEFAULT_FUEL, SpellsFuel}
 use Rattle.ceal_cli.specs.Workloads.{NamesWorkload}
 use Rattle.ceal_cli.specs.declared.words.Mode.{Mode}
-use Rattle.ceal_cli.specs.declared.words.Mode.TheVariants.{Check, List as Listing, Run, Gen, Dump, Verify, Many, Save, Resume}
+use Rattle.ceal_cli.specs.declared.words.Mode.TheVariants.{Check, List as Listing, Run, Gen, Dump, Verify, Many, Save}
+use Rattle.ceal_cli.specs.declared.words.Mode.TheVariants.{Resume}
 use Rattle.ceal_gen.specs.declared.kind.Workload.{Workload}
 
 abbrev pub Text : Type 0

@@ -21,7 +21,8 @@ use Rattle.ceal_cli.specs.Lines.{script_of, script_lines}
 use Rattle.ceal_cli.specs.Modes.{ReadsInput}
 use Rattle.ceal_cli.specs.Verdicts.{IsVerdictLine}
 use Rattle.ceal_cli.specs.declared.words.Mode.{Mode}
-use Rattle.ceal_cli.specs.declared.words.Mode.TheVariants.{Check, List as Listing, Run, Gen, Dump, Verify, Many, Save, Resume}
+use Rattle.ceal_cli.specs.declared.words.Mode.TheVariants.{Check, List as Listing, Run, Gen, Dump, Verify, Many, Save}
+use Rattle.ceal_cli.specs.declared.words.Mode.TheVariants.{Resume}
 use Rattle.ceal_gen.specs.Text.{workload_text}
 use Rattle.ceal_gen.specs.declared.kind.Workload.{Workload}
 

@@ -8,7 +8,9 @@ ghost use Rattle.ceal_cli.specs.Continuing.{ResumableLaw, ResumedOutputLaw};
 ghost use Rattle.ceal_cli.specs.DumpLaws.{DumpVerifiedLaw, TailLaw};
 ghost use Rattle.ceal_cli.specs.ManyLaws.{ManyIsRunLaw};
 ghost use Rattle.ceal_cli.specs.StrangerOutput.{StrangerOutputLaw};
-ghost use Rattle.ceal_cli.specs.Laws.{AcceptedLaw, ShortLaw, OneOutputLaw, AnsweredLaw, UntakenLaw, CheckedLaw, ListedLaw, RefusedLaw, RepliedLaw, DumpedLaw, SavedLaw, ToldLaw, JudgedLaw, TakenLaw, UnresumedLaw, SomeOutputLaw, GeneratedLaw, VerifiedLaw};
+ghost use Rattle.ceal_cli.specs.Laws.{AcceptedLaw, ShortLaw, OneOutputLaw, AnsweredLaw, UntakenLaw, CheckedLaw};
+ghost use Rattle.ceal_cli.specs.Laws.{ListedLaw, RefusedLaw, RepliedLaw, DumpedLaw, SavedLaw, ToldLaw, JudgedLaw};
+ghost use Rattle.ceal_cli.specs.Laws.{TakenLaw, UnresumedLaw, SomeOutputLaw, GeneratedLaw, VerifiedLaw};
 
 use crate::members::Member;
 use crate::top::INPUT_LIMIT;

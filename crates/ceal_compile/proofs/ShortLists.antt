@@ -5,8 +5,18 @@ use Rattle.ceal_base.specs.declared.syntax.Tree.{Tree}
 use Rattle.ceal_base.specs.declared.fault.Span.{Span}
 use Rattle.ceal_lex.specs.declared.token.Token.{Token}
 use Rattle.ceal_grammar.specs.Faults.{AllWithin, Accepts}
-use Rattle.ceal_grammar.specs.Grammar.{Phrase, number, null, variable, own, parens, arrow, prefix, address, element, binary, Written, int, pointer, mod_int, mod_pointer, cell_int, cell_pointer, Arguments, no_arguments, arguments, Given, plainly, reading, allocation, modref_int, modref, Statement, declare, assign, set, store, call, branch, loop, exit, break, continue, Branch, when, Otherwise, nothing, otherwise, chained, Block, block, Statements, ended, followed, Parameter, Parameters, no_parameters, parameters, Signature, core, init, Size, single, row, Member, SizeProper, MembersProper, Part, structure, function, PartProper, PartsProper}
-use Rattle.ceal_grammar.specs.Spelled.{Mark, spelled, spelled_type, spelled_more, spelled_arguments, spelled_given, spelled_statement, spelled_branch, spelled_otherwise, spelled_block, spelled_statements, spelled_others, spelled_parameters, spelled_signature, counted, spelled_size, spelled_members, spelled_part, spelled_parts}
+use Rattle.ceal_grammar.specs.Grammar.{Phrase, number, null, variable, own, parens, arrow, prefix, address, element}
+use Rattle.ceal_grammar.specs.Grammar.{binary, Written, int, pointer, mod_int, mod_pointer, cell_int, cell_pointer}
+use Rattle.ceal_grammar.specs.Grammar.{Arguments, no_arguments, arguments, Given, plainly, reading, allocation}
+use Rattle.ceal_grammar.specs.Grammar.{modref_int, modref, Statement, declare, assign, set, store, call, branch, loop}
+use Rattle.ceal_grammar.specs.Grammar.{exit, break, continue, Branch, when, Otherwise, nothing, otherwise, chained}
+use Rattle.ceal_grammar.specs.Grammar.{Block, block, Statements, ended, followed, Parameter, Parameters, no_parameters}
+use Rattle.ceal_grammar.specs.Grammar.{parameters, Signature, core, init, Size, single, row, Member, SizeProper}
+use Rattle.ceal_grammar.specs.Grammar.{MembersProper, Part, structure, function, PartProper, PartsProper}
+use Rattle.ceal_grammar.specs.Spelled.{Mark, spelled, spelled_type, spelled_more, spelled_arguments, spelled_given}
+use Rattle.ceal_grammar.specs.Spelled.{spelled_statement, spelled_branch, spelled_otherwise, spelled_block}
+use Rattle.ceal_grammar.specs.Spelled.{spelled_statements, spelled_others, spelled_parameters, spelled_signature}
+use Rattle.ceal_grammar.specs.Spelled.{counted, spelled_size, spelled_members, spelled_part, spelled_parts}
 use Rattle.ceal_grammar.specs.Trees.{type_form, sized_form, member_trees, other_trees, parameter_trees, part_tree, part_trees}
 use Rattle.ceal_types.specs.Heads.{row_of}
 use Rattle.ceal_types.specs.Limits.{width, fields_in, IsShort, HasShortLists}

@@ -3,7 +3,8 @@ use Rattle.std.specs.Prelude.{ℕ, ◌+◌, ◌==◌, ◌++◌, List, [], ◌∷
 use Rattle.std.specs.Fmt.{decimal}
 use Rattle.ceal_base.specs.declared.fault.Fault.{Fault}
 use Rattle.ceal_base.specs.declared.fault.FaultCode.{FaultCode}
-use Rattle.ceal_base.specs.declared.fault.FaultCode.TheVariants.{S1, S2, S3, S4, S5, S6, N1, N2, T1, T2, T3, T4, T5, U1, U2, U3, U4, U5, U6, L1}
+use Rattle.ceal_base.specs.declared.fault.FaultCode.TheVariants.{S1, S2, S3, S4, S5, S6, N1, N2, T1, T2, T3, T4, T5, U1}
+use Rattle.ceal_base.specs.declared.fault.FaultCode.TheVariants.{U2, U3, U4, U5, U6, L1}
 
 -- how many bytes are line feeds
 unfoldable pub line_feeds : List ℕ → ℕ

@@ -1,6 +1,7 @@
 // The phases, one after the other.
 
-ghost use Rattle.std.specs.Prelude.{◌≡◌, ◌<◌, ◌^◌, Result as ResultOf, Ok as OkOf, Err as ErrOf, List, ℕ, true, length, IfOk};
+ghost use Rattle.std.specs.Prelude.{◌≡◌, ◌<◌, ◌^◌, Result as ResultOf, Ok as OkOf, Err as ErrOf, List, ℕ, true, length};
+ghost use Rattle.std.specs.Prelude.{IfOk};
 ghost use Rattle.ceal_base.specs.Answers.{Gives, IfFault};
 ghost use Rattle.ceal_base.specs.Usage.{KeepsUsage};
 ghost use Rattle.ceal_base.specs.WellTyped.{WellTyped};

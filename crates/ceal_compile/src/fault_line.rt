@@ -1,7 +1,8 @@
 // The line that tells a fault.
 
 ghost use Rattle.std.specs.Prelude.{◌≡◌, ◌++◌, IfOk};
-ghost use Rattle.ceal_compile.specs.FaultLine.{before_fault, code_text, fault_text, meaning_text, fault_line as line_of};
+ghost use Rattle.ceal_compile.specs.FaultLine.{before_fault, code_text, fault_text, meaning_text};
+ghost use Rattle.ceal_compile.specs.FaultLine.{fault_line as line_of};
 
 use crate::position::{Position, position_after};
 use ceal_base::fault::{Fault, FaultCode};

@@ -16,8 +16,12 @@ use Rattle.ceal_base.specs.declared.word.Place.{Place}
 use Rattle.ceal_base.specs.declared.word.Word.{Word}
 use Rattle.ceal_base.specs.declared.word.Word.TheVariants.{Num, Null, Block as BlockWord, At}
 use Rattle.ceal_dump.proofs.Numbers.{Ends, small-back, first-above, positive-back, negative-back}
-use Rattle.ceal_dump.specs.DumpText.{block_text, place_text, word_text, words_text, shape_text, block_line, block_lines, key_text, item_line, item_lines, Small, SmallBlock, SmallPlace, SmallWord, SmallWords, SmallShape, SmallBlocks, SmallKey, SmallItem, SmallItems}
-use Rattle.ceal_dump.specs.Reading.{first_byte, block_at, place_at, pointer_at, word_at, words_from, words_at, shape_at, line_at, blocks_from, key_at, alloc_at, write_at, closure_read, read_at, item_at, items_from, inputs_at, trace_at, memory_at, many_from}
+use Rattle.ceal_dump.specs.DumpText.{block_text, place_text, word_text, words_text, shape_text, block_line, block_lines}
+use Rattle.ceal_dump.specs.DumpText.{key_text, item_line, item_lines, Small, SmallBlock, SmallPlace, SmallWord}
+use Rattle.ceal_dump.specs.DumpText.{SmallWords, SmallShape, SmallBlocks, SmallKey, SmallItem, SmallItems}
+use Rattle.ceal_dump.specs.Reading.{first_byte, block_at, place_at, pointer_at, word_at, words_from, words_at, shape_at}
+use Rattle.ceal_dump.specs.Reading.{line_at, blocks_from, key_at, alloc_at, write_at, closure_read, read_at, item_at}
+use Rattle.ceal_dump.specs.Reading.{items_from, inputs_at, trace_at, memory_at, many_from}
 
 -- the bytes continue with no digit and no dot
 pub record Stops (bs : List ℕ) : Type 0 where

@@ -12,8 +12,14 @@ use Rattle.ceal_dump.proofs.Numbers.{small-back, small-range}
 use Rattle.ceal_dump.proofs.ReadBack.{words-stop, words-back, inputs-back, trace-back, memory-back}
 use Rattle.ceal_dump.specs.Answers.{OneRecordLaw, ReadBackLaw}
 use Rattle.ceal_dump.specs.declared.read.DumpError.TheVariants.{Memory, Unreadable}
-use Rattle.ceal_dump.specs.DumpText.{words_text, block_lines, item_lines, inputs_text, call_text, trace_text, memory_text, dump_text, HasDump, Small, SmallBlock, SmallPlace, SmallWord, SmallWords, SmallShape, SmallBlocks, SmallKey, SmallItem, SmallItems, InRange, IsDump}
-use Rattle.ceal_dump.specs.Reading.{first_byte, number_at, positive, negative, int_at, small_at, block_of, block_at, place_at, pointer_at, is_pointer, word_at, words_from, words_at, shape_at, line_at, blocks_from, key_at, alloc_at, write_at, read_at, item_at, items_from, inputs_at, trace_at, memory_at, call_record, record_at, many_from}
+use Rattle.ceal_dump.specs.DumpText.{words_text, block_lines, item_lines, inputs_text, call_text, trace_text}
+use Rattle.ceal_dump.specs.DumpText.{memory_text, dump_text, HasDump, Small, SmallBlock, SmallPlace, SmallWord}
+use Rattle.ceal_dump.specs.DumpText.{SmallWords, SmallShape, SmallBlocks, SmallKey, SmallItem, SmallItems, InRange}
+use Rattle.ceal_dump.specs.DumpText.{IsDump}
+use Rattle.ceal_dump.specs.Reading.{first_byte, number_at, positive, negative, int_at, small_at, block_of, block_at}
+use Rattle.ceal_dump.specs.Reading.{place_at, pointer_at, is_pointer, word_at, words_from, words_at, shape_at, line_at}
+use Rattle.ceal_dump.specs.Reading.{blocks_from, key_at, alloc_at, write_at, read_at, item_at, items_from, inputs_at}
+use Rattle.ceal_dump.specs.Reading.{trace_at, memory_at, call_record, record_at, many_from}
 
 inputs-onto : (bs : List Block) (more : List ℕ) → inputs_text bs ++ more ≡ codes "ceal-trace 1\ninputs " ++ (decimal (length bs) ++ (10 ∷ (block_lines bs ++ more)))
 inputs-onto bs more =

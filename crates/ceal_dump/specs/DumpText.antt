@@ -1,5 +1,6 @@
 -- The dump text of a record. Every line ends with a line feed, and there is one space between the words of a line.
-use Rattle.std.specs.Prelude.{◌≡◌, pos, negsuc, ℕ, zero, suc, ◌<◌, ◌^◌, Bool, true, false, ◌&&◌, List, [], ◌∷◌, ◌++◌, length, codes}
+use Rattle.std.specs.Prelude.{◌≡◌, pos, negsuc, ℕ, zero, suc, ◌<◌, ◌^◌, Bool, true, false, ◌&&◌, List, [], ◌∷◌, ◌++◌}
+use Rattle.std.specs.Prelude.{length, codes}
 use Rattle.std.specs.Fmt.{decimal, signed_decimal}
 use Rattle.ceal_base.specs.Block.{Block}
 use Rattle.ceal_base.specs.declared.forest.Item.{Item}

@@ -1,6 +1,7 @@
 -- What is read from bytes that begin with the text of a thing: the thing, and the bytes after it. Of other
 -- bytes anything may be read; the reader compares the text of the record that it has read with the bytes.
-use Rattle.std.specs.Prelude.{ℕ, zero, suc, ◌+◌, ◌-◌, ◌*◌, ◌^◌, ◌==◌, ◌&&◌, nat_lt, nat_le, ℤ, pos, negsuc, Bool, if◌then◌else◌, List, [], ◌∷◌, length, drop}
+use Rattle.std.specs.Prelude.{ℕ, zero, suc, ◌+◌, ◌-◌, ◌*◌, ◌^◌, ◌==◌, ◌&&◌, nat_lt, nat_le, ℤ, pos, negsuc, Bool}
+use Rattle.std.specs.Prelude.{if◌then◌else◌, List, [], ◌∷◌, length, drop}
 use Rattle.ceal_base.specs.Block.{Block, Blocks}
 use Rattle.ceal_base.specs.Digits.{is_digit}
 use Rattle.ceal_base.specs.declared.forest.Item.{Item}

@@ -2,7 +2,8 @@
 
 ghost use Rattle.std.specs.Prelude.{◌≡◌, ◌==◌, length, drop};
 ghost use Rattle.ceal_dump.specs.Reading as reading;
-ghost use Rattle.ceal_dump.specs.Reading.{first_byte, number_from, number_at, small, small_at, positive, negative, int_at};
+ghost use Rattle.ceal_dump.specs.Reading.{first_byte, number_from, number_at, small, small_at, positive, negative};
+ghost use Rattle.ceal_dump.specs.Reading.{int_at};
 
 use ceal_base::digits::is_digit;
 use std::marker::Model;

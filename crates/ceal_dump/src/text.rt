@@ -2,8 +2,10 @@
 
 ghost use Rattle.std.specs.Prelude.{◌≡◌, ◌++◌, codes, OnOk};
 ghost use Rattle.std.specs.Fmt.{decimal};
-ghost use Rattle.ceal_dump.specs.DumpText.{block_text, place_text, word_text, words_text, shape_text, block_line, block_lines, key_text, item_line, item_lines};
-ghost use Rattle.ceal_dump.specs.DumpText.{Small, SmallBlock, SmallPlace, SmallWord, SmallWords, SmallShape, SmallBlocks, SmallKey, SmallItem, SmallItems};
+ghost use Rattle.ceal_dump.specs.DumpText.{block_text, place_text, word_text, words_text, shape_text, block_line};
+ghost use Rattle.ceal_dump.specs.DumpText.{block_lines, key_text, item_line, item_lines};
+ghost use Rattle.ceal_dump.specs.DumpText.{Small, SmallBlock, SmallPlace, SmallWord, SmallWords, SmallShape};
+ghost use Rattle.ceal_dump.specs.DumpText.{SmallBlocks, SmallKey, SmallItem, SmallItems};
 
 use ceal_base::forest::{Item, Key, UnitId};
 use ceal_base::kind::Shape;

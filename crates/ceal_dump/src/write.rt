@@ -2,7 +2,8 @@
 
 ghost use Rattle.std.specs.Prelude.{◌≡◌, ◌++◌, IfOk, OnOk};
 ghost use Rattle.ceal_dump.specs.DumpText as dump;
-ghost use Rattle.ceal_dump.specs.DumpText.{inputs_text, call_text, trace_text, memory_text, HasDump, Small, SmallWords, SmallBlocks, SmallItems, InRange, IsDump};
+ghost use Rattle.ceal_dump.specs.DumpText.{inputs_text, call_text, trace_text, memory_text, HasDump, Small, SmallWords};
+ghost use Rattle.ceal_dump.specs.DumpText.{SmallBlocks, SmallItems, InRange, IsDump};
 
 use crate::text::{put_blocks, put_items, put_words};
 use ceal_base::forest::Item;

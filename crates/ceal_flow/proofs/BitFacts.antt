@@ -1,5 +1,8 @@
 -- Sets of numbers as chunks of bits.
-use Rattle.std.proofs.Common.{◌≡◌, ◌≢◌, ◌⊎◌, inl, inr, ℕ, zero, suc, ◌+◌, ◌-◌, ◌*◌, ◌/◌, ◌%◌, ◌^◌, ◌<◌, ◌≤◌, max, Bool, true, false, ◌==◌, ◌||◌, ◌&&◌, not, Option, Some, List, [], ◌∷◌, ◌++◌, length, if◌then◌else◌, refl, ap, sym, ◌∙◌, subst, arith, w64, add-one, ltb, length-append, append_assoc, add-zero, add-suc, take}
+use Rattle.std.proofs.Common.{◌≡◌, ◌≢◌, ◌⊎◌, inl, inr, ℕ, zero, suc, ◌+◌, ◌-◌, ◌*◌, ◌/◌, ◌%◌, ◌^◌, ◌<◌, ◌≤◌, max, Bool}
+use Rattle.std.proofs.Common.{true, false, ◌==◌, ◌||◌, ◌&&◌, not, Option, Some, List, [], ◌∷◌, ◌++◌, length}
+use Rattle.std.proofs.Common.{if◌then◌else◌, refl, ap, sym, ◌∙◌, subst, arith, w64, add-one, ltb, length-append}
+use Rattle.std.proofs.Common.{append_assoc, add-zero, add-suc, take}
 use Rattle.std.specs.Int.{bit_at, bit_not}
 use Rattle.std.specs.Prelude.{bit_and, bit_or, insert, slice_get, slice_set}
 use Rattle.std.proofs.lemmas.Nat.Bits.{bit_at-lt, bit_at-zero, bit_at_or, bit_at_clear_same, bit_at_clear_other, bit_at_set_same, bit_at_set_other, same_from_bits_below}
@@ -13,7 +16,9 @@ use mir.Val.{bits}
 use Rattle.ceal_flow.specs.declared.bits.Chunk.{Chunk}
 use Rattle.ceal_flow.specs.Bits.{bits_of, has_bit, inside, members_below, members, AscendFrom, AreOrdered, AreBefore, IsNotBefore}
 use Rattle.ceal_flow.specs.Sets.{is_in, is_that, IsAscending}
-use Rattle.ceal_flow.proofs.ChunkFacts.{all-before, before-later, before-more, before-none, before-there, bits-here, bits-none, none-at-end, prefix-before, put-here, set-here, take-here, take-none, take-others}
+use Rattle.ceal_flow.proofs.ChunkFacts.{all-before, before-later, before-more, before-none, before-there, bits-here}
+use Rattle.ceal_flow.proofs.ChunkFacts.{bits-none, none-at-end, prefix-before, put-here, set-here, take-here, take-none}
+use Rattle.ceal_flow.proofs.ChunkFacts.{take-others}
 
 -- no chunk is there past the last number
 pub bits-late : (a : ℕ) (cs : List Chunk) (k : ℕ) → AscendFrom a cs → 2 ^ 26 ≤ k → bits_of cs k ≡ 0

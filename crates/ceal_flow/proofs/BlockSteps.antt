@@ -1,5 +1,7 @@
 -- The blocks of each form of statement.
-use Rattle.std.proofs.Common.{◌≡◌, ℕ, ◌+◌, Bool, true, false, ◌&&◌, ◌||◌, List, [], ◌∷◌, ◌++◌, length, replicate, if◌then◌else◌, refl, ap, ap₂, sym, ◌∙◌, arith, length-append, ◌<◌, take, drop, get_or, add-one, suc}
+use Rattle.std.proofs.Common.{◌≡◌, ℕ, ◌+◌, Bool, true, false, ◌&&◌, ◌||◌, List, [], ◌∷◌, ◌++◌, length, replicate}
+use Rattle.std.proofs.Common.{if◌then◌else◌, refl, ap, ap₂, sym, ◌∙◌, arith, length-append, ◌<◌, take, drop, get_or}
+use Rattle.std.proofs.Common.{add-one, suc}
 use Rattle.std.proofs.lemmas.List.{length-replicate, take_more, take-append-drop}
 use Rattle.std.proofs.Math.Seq.{drop-cons}
 use Rattle.ceal_base.specs.declared.fault.Span.{Span}

@@ -1,5 +1,7 @@
 -- The graph of a program runs as the program does.
-use Rattle.std.proofs.Common.{◌≡◌, ℕ, zero, suc, ◌+◌, Bool, true, false, ◌||◌, ◌⊎◌, inl, inr, Option, Some, None, IsSomeAnd, IsSome, IsNone, List, [], ◌∷◌, ◌++◌, map, slice_get, slice_set, if◌then◌else◌, refl, ap, sym, ◌∙◌, All, subst}
+use Rattle.std.proofs.Common.{◌≡◌, ℕ, zero, suc, ◌+◌, Bool, true, false, ◌||◌, ◌⊎◌, inl, inr, Option, Some, None}
+use Rattle.std.proofs.Common.{IsSomeAnd, IsSome, IsNone, List, [], ◌∷◌, ◌++◌, map, slice_get, slice_set, if◌then◌else◌}
+use Rattle.std.proofs.Common.{refl, ap, sym, ◌∙◌, All, subst}
 use Rattle.std.proofs.lemmas.List.{append-nil}
 use Rattle.std.proofs.lemmas.List.Elements.{All-nil, All-cons}
 use Rattle.ceal_base.specs.Access.{holds}
@@ -9,8 +11,15 @@ use Rattle.ceal_base.specs.declared.typed.Typed.{Typed}
 use Rattle.ceal_base.specs.declared.typed.TypedFunction.{TypedFunction}
 use Rattle.ceal_base.specs.declared.typed.TypedStmt.{TypedStmt, out-TypedStmt, roll-TypedStmt, roll-out-TypedStmt}
 use Rattle.ceal_base.specs.declared.typed.TypedStmt.TheBlock.{hidden-the_row-TypedStmt-0, shape-the_row-TypedStmt-0}
-use Rattle.ceal_base.specs.declared.typed.TypedStmt.TheOpen.{TypedStmt-F, Declare as OpenDeclare, Assign as OpenAssign, SetField as OpenSetField, Write as OpenWrite, Call as OpenCall, If as OpenIf, While as OpenWhile, Return as OpenReturn, Break as OpenBreak, Continue as OpenContinue}
-use Rattle.ceal_base.specs.declared.typed.TypedStmt.TheVariants.{Declare, Assign, SetField, Write, Call, Return, Break, Continue, rolls-Declare, rolls-Assign, rolls-SetField, rolls-Write, rolls-Call, rolls-If, rolls-While, rolls-Return, rolls-Break, rolls-Continue}
+use Rattle.ceal_base.specs.declared.typed.TypedStmt.TheOpen.{TypedStmt-F, Declare as OpenDeclare, Assign as OpenAssign}
+use Rattle.ceal_base.specs.declared.typed.TypedStmt.TheOpen.{SetField as OpenSetField, Write as OpenWrite}
+use Rattle.ceal_base.specs.declared.typed.TypedStmt.TheOpen.{Call as OpenCall, If as OpenIf, While as OpenWhile}
+use Rattle.ceal_base.specs.declared.typed.TypedStmt.TheOpen.{Return as OpenReturn, Break as OpenBreak}
+use Rattle.ceal_base.specs.declared.typed.TypedStmt.TheOpen.{Continue as OpenContinue}
+use Rattle.ceal_base.specs.declared.typed.TypedStmt.TheVariants.{Declare, Assign, SetField, Write, Call, Return, Break}
+use Rattle.ceal_base.specs.declared.typed.TypedStmt.TheVariants.{Continue, rolls-Declare, rolls-Assign, rolls-SetField}
+use Rattle.ceal_base.specs.declared.typed.TypedStmt.TheVariants.{rolls-Write, rolls-Call, rolls-If, rolls-While}
+use Rattle.ceal_base.specs.declared.typed.TypedStmt.TheVariants.{rolls-Return, rolls-Break, rolls-Continue}
 use Rattle.ceal_base.specs.declared.typed.TypedStmt.TheViews.{If, While}
 use Rattle.ceal_base.specs.declared.typed.TypedValue.{TypedValue}
 use Rattle.ceal_base.specs.declared.typed.TypedValue.TheVariants.{Plain, Read, Alloc, ModrefInt, Modref}
@@ -22,14 +31,18 @@ use Rattle.ceal_mean.specs.Init.{made_by}
 use Rattle.ceal_mean.specs.Jumps.{ready}
 use Rattle.ceal_mean.specs.Value.{value_of, values_of}
 use Rattle.ceal_flow.specs.Blocks.{sizes, all_go_on, no_loop, in_loop, target, entry, blocks_of, all_blocks}
-use Rattle.ceal_flow.specs.Fresh.{Point, State as GraphState, initialiser_in, taken as graph_taken, entered as graph_entered, given as graph_given, is_over as block_is_over, settled as graph_settled, stepped as graph_stepped, run_settled as graph_run_settled}
+use Rattle.ceal_flow.specs.Fresh.{Point, State as GraphState, initialiser_in, taken as graph_taken}
+use Rattle.ceal_flow.specs.Fresh.{entered as graph_entered, given as graph_given, is_over as block_is_over}
+use Rattle.ceal_flow.specs.Fresh.{settled as graph_settled, stepped as graph_stepped, run_settled as graph_run_settled}
 use Rattle.ceal_flow.specs.Laws.{RunsAs}
 use Rattle.ceal_flow.specs.Lowering.{end_of, first_of, core_blocks, function_at, function_in, blocks_at, graph_of}
 use Rattle.ceal_flow.specs.Program.{Graph}
 use Rattle.ceal_flow.specs.declared.block.GraphBlock.{GraphBlock}
 use Rattle.ceal_flow.specs.declared.block.GraphBlock.TheVariants.{Done, Test, Act}
 use Rattle.ceal_flow.specs.declared.exits.Exits.{Exits}
-use Rattle.ceal_flow.proofs.BlockSteps.{on-declare, on-assign, on-set, on-write, on-call, on-if, on-while, blocks-declare, blocks-assign, blocks-set, blocks-write, blocks-call, blocks-if, blocks-while, all-length}
+use Rattle.ceal_flow.proofs.BlockSteps.{on-declare, on-assign, on-set, on-write, on-call, on-if, on-while}
+use Rattle.ceal_flow.proofs.BlockSteps.{blocks-declare, blocks-assign, blocks-set, blocks-write, blocks-call, blocks-if}
+use Rattle.ceal_flow.proofs.BlockSteps.{blocks-while, all-length}
 use Rattle.ceal_flow.proofs.Placing.{Placed, placed-head, placed-left, placed-right, placed-tail, made-at, all-at}
 use Rattle.ceal_flow.proofs.Simulation.{is_jump, Stands, Around, part-stands, part-around, Ready, all-ready, Front, front}
 

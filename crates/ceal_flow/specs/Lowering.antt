@@ -5,7 +5,8 @@ use Rattle.ceal_base.specs.declared.fault.FaultCode.TheVariants.{L1}
 use Rattle.ceal_base.specs.declared.fault.Span.{Span}
 use Rattle.ceal_base.specs.declared.typed.Typed.{Typed}
 use Rattle.ceal_base.specs.declared.typed.TypedFunction.{TypedFunction}
-use Rattle.ceal_base.specs.declared.typed.TypedStmt.{TypedStmt, Declare, Assign, SetField, Write, Call, If', While', Return, Break, Continue}
+use Rattle.ceal_base.specs.declared.typed.TypedStmt.{TypedStmt, Declare, Assign, SetField, Write, Call, If', While'}
+use Rattle.ceal_base.specs.declared.typed.TypedStmt.{Return, Break, Continue}
 use Rattle.ceal_base.specs.declared.typed.TypedStmt.{Row_of-TypedStmt, end_of-TypedStmt, more_of-TypedStmt}
 use Rattle.ceal_flow.specs.Blocks.{sizes, no_loop, entry, all_blocks}
 use Rattle.ceal_flow.specs.Program.{Graph}

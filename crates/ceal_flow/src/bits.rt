@@ -1,6 +1,8 @@
 // Sets of numbers as chunks of 64 bits, which ascend: where few numbers are near each other, a set takes little memory.
 
-ghost use Rattle.std.specs.Prelude.{◌≡◌, ◌≢◌, ◌<◌, ◌≤◌, ◌^◌, ◌*◌, ◌+◌, ◌/◌, ◌==◌, ◌||◌, ◌&&◌, not, true, false, ℕ, [], ◌∷◌, ◌++◌, Some, slice_get, slice_set, length, bit_or, if◌then◌else◌, IfSome, IfNone, IfOk, OnOk, OnErr};
+ghost use Rattle.std.specs.Prelude.{◌≡◌, ◌≢◌, ◌<◌, ◌≤◌, ◌^◌, ◌*◌, ◌+◌, ◌/◌, ◌==◌, ◌||◌, ◌&&◌, not, true, false, ℕ, []};
+ghost use Rattle.std.specs.Prelude.{◌∷◌, ◌++◌, Some, slice_get, slice_set, length, bit_or, if◌then◌else◌, IfSome};
+ghost use Rattle.std.specs.Prelude.{IfNone, IfOk, OnOk, OnErr};
 ghost use Rattle.std.specs.Int.{bit_at};
 ghost use Rattle.ceal_flow.specs.declared.bits.Chunk.{Chunk as ChunkOf};
 ghost use Rattle.ceal_flow.specs.Bits.{bits_of, has_bit, inside, members, AreOrdered, AreBefore, IsNotBefore};

@@ -2,7 +2,8 @@
 
 ghost use Rattle.std.specs.Prelude.{◌≡◌, ◌≤◌, ◌+◌, ◌-◌, Some, slice_get, OnOk, IfOk, IfErr};
 ghost use Rattle.ceal_flow.specs.Blocks.{size, sizes};
-ghost use Rattle.ceal_flow.specs.Lowering.{function_size, function_sizes, places, all_places, places_of, function_places};
+ghost use Rattle.ceal_flow.specs.Lowering.{function_size, function_sizes, places, all_places, places_of};
+ghost use Rattle.ceal_flow.specs.Lowering.{function_places};
 
 use ceal_base::fault::Span;
 use ceal_base::typed::{TypedFunction, TypedStmt};

@@ -5,7 +5,8 @@ ghost use Rattle.ceal_base.specs.Answers.{Gives};
 ghost use Rattle.ceal_base.specs.Usage.{KeepsUsage};
 ghost use Rattle.ceal_flow.specs.Blocks.{sizes};
 ghost use Rattle.ceal_flow.specs.Laws.{RunsAs};
-ghost use Rattle.ceal_flow.specs.Lowering.{BLOCKS, function_size, function_sizes, core_at, function_at, core_blocks, blocks_at, functions_from, blocks_from, graph_of, lowered};
+ghost use Rattle.ceal_flow.specs.Lowering.{BLOCKS, function_size, function_sizes, core_at, function_at, core_blocks};
+ghost use Rattle.ceal_flow.specs.Lowering.{blocks_at, functions_from, blocks_from, graph_of, lowered};
 
 use crate::block::GraphBlock;
 use crate::exits::Exits;

@@ -1,5 +1,6 @@
 -- Code and its folding take the same steps from stacks that agree on the variables that the folding still uses.
-use Rattle.std.proofs.Common.{◌≡◌, ℕ, ◌+◌, ◌<◌, ◌==◌, nat_lt, ◌||◌, ◌&&◌, not, Bool, true, false, if◌then◌else◌, Some, None, List, [], ◌∷◌, ◌++◌, refl, sym, ap, ◌∙◌, subst, length, slice_get, slice_set, arith}
+use Rattle.std.proofs.Common.{◌≡◌, ℕ, ◌+◌, ◌<◌, ◌==◌, nat_lt, ◌||◌, ◌&&◌, not, Bool, true, false, if◌then◌else◌, Some}
+use Rattle.std.proofs.Common.{None, List, [], ◌∷◌, ◌++◌, refl, sym, ap, ◌∙◌, subst, length, slice_get, slice_set, arith}
 use Rattle.ceal_base.specs.declared.forest.UnitId.{UnitId}
 use Rattle.ceal_base.specs.declared.kind.Shape.{Shape}
 use Rattle.ceal_base.specs.declared.typed.StructInfo.{StructInfo}
@@ -15,7 +16,9 @@ use Rattle.ceal_code.specs.declared.expr.VarId.{VarId}
 use Rattle.ceal_fold.proofs.Bodies.{around, in-middle, facts, facts-follow, replaced-around, folded-followers, ticked-around, used-later, used-here}
 use Rattle.ceal_fold.proofs.Trees.{tree-apart}
 use Rattle.ceal_fold.proofs.Values.{CopyHolds, Holds, value-folded, values-folded, value-mentioned, values-mentioned, set-other, holds-set, move-holds}
-use Rattle.ceal_fold.specs.Folding.{Copies, at_root, copies_after, copy_by, is_among, folded_expr, folded_exprs, folded_command, folded_commands, mentions, all_mention, uses, assigns, used, used_in, used_by, command_or_tick, without_unused}
+use Rattle.ceal_fold.specs.Folding.{Copies, at_root, copies_after, copy_by, is_among, folded_expr, folded_exprs}
+use Rattle.ceal_fold.specs.Folding.{folded_command, folded_commands, mentions, all_mention, uses, assigns, used}
+use Rattle.ceal_fold.specs.Folding.{used_in, used_by, command_or_tick, without_unused}
 
 -- the body of a folded unit
 abbrev pub final : List StructInfo → List Cmd → List Cmd

@@ -1,5 +1,7 @@
 -- In a tree each index is reached from only one command.
-use Rattle.std.proofs.Common.{◌≡◌, ℕ, zero, suc, ◌+◌, ◌==◌, ◌||◌, Bool, true, false, if◌then◌else◌, Option, Some, None, is_some, List, [], ◌∷◌, ◌++◌, refl, ap, ◌∙◌, subst, length, replicate, arith, append_assoc, slice_get, slice_set, unwrap_or}
+use Rattle.std.proofs.Common.{◌≡◌, ℕ, zero, suc, ◌+◌, ◌==◌, ◌||◌, Bool, true, false, if◌then◌else◌, Option, Some, None}
+use Rattle.std.proofs.Common.{is_some, List, [], ◌∷◌, ◌++◌, refl, ap, ◌∙◌, subst, length, replicate, arith}
+use Rattle.std.proofs.Common.{append_assoc, slice_get, slice_set, unwrap_or}
 use Rattle.ceal_code.proofs.Words.SameIsEqual.{nat-same}
 use Rattle.ceal_code.specs.Valid.{followers, all_followers, reached, all_but_first, is_tree}
 use Rattle.ceal_code.specs.declared.command.Cmd.{Cmd}

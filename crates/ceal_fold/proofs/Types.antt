@@ -20,7 +20,10 @@ use Rattle.ceal_code.proofs.Words.PickedRows.{IfPick}
 use Rattle.ceal_code.proofs.Words.RowKinds.{kind-same}
 use Rattle.ceal_code.proofs.Words.SameIsEqual.{both, both-true, some-same, none-some}
 use Rattle.ceal_code.proofs.Equations.TypeSteps.{type-unary, type-binary, type-field, type-address, row-address}
-use Rattle.ceal_code.specs.Valid.{Typing, is_place, is_content, fits, fits_maybe, one_type, int_if, element_type, binary_type, is_row_of, starts_row, left_suits, operand_suits, variable_type, points_to, plain_type, cell_type, type_of, operand_type, all_fit, params_fit, place_fits, content_fits, write_fits}
+use Rattle.ceal_code.specs.Valid.{Typing, is_place, is_content, fits, fits_maybe, one_type, int_if, element_type}
+use Rattle.ceal_code.specs.Valid.{binary_type, is_row_of, starts_row, left_suits, operand_suits, variable_type}
+use Rattle.ceal_code.specs.Valid.{points_to, plain_type, cell_type, type_of, operand_type, all_fit, params_fit}
+use Rattle.ceal_code.specs.Valid.{place_fits, content_fits, write_fits}
 use Rattle.ceal_code.specs.Value.{field_kind, field_default}
 use Rattle.ceal_code.specs.declared.expr.CodeExpr.{CodeExpr, Num as NumExpr, Null as NullExpr, Var, Unary', Binary', Field', Address', Row_of-CodeExpr, end_of-CodeExpr, more_of-CodeExpr}
 use Rattle.ceal_code.specs.declared.expr.CodeExpr.TheViews.{Binary, Field, Address}

@@ -1,5 +1,7 @@
 -- The folding of valid code is valid.
-use Rattle.std.proofs.Common.{◌≡◌, ℕ, zero, suc, ◌+◌, ◌<◌, ◌==◌, nat_lt, ◌||◌, ◌&&◌, not, Bool, true, false, if◌then◌else◌, Option, Some, None, List, [], ◌∷◌, ◌⊎◌, inl, inr, refl, sym, ap, ap₂, ◌∙◌, subst, length, replicate, slice_get, slice_set, arith}
+use Rattle.std.proofs.Common.{◌≡◌, ℕ, zero, suc, ◌+◌, ◌<◌, ◌==◌, nat_lt, ◌||◌, ◌&&◌, not, Bool, true, false}
+use Rattle.std.proofs.Common.{if◌then◌else◌, Option, Some, None, List, [], ◌∷◌, ◌⊎◌, inl, inr, refl, sym, ap, ap₂, ◌∙◌}
+use Rattle.std.proofs.Common.{subst, length, replicate, slice_get, slice_set, arith}
 use Rattle.ceal_base.specs.declared.kind.Kind.{Kind}
 use Rattle.ceal_base.specs.declared.kind.Kind.TheVariants.{Int, Ptr}
 use Rattle.ceal_base.specs.declared.typed.StructInfo.{StructInfo}
@@ -8,7 +10,11 @@ use Rattle.ceal_code.proofs.Words.SameIsEqual.{both, both-true, nat-same}
 use Rattle.ceal_code.proofs.TypedCode.TypedBlocks.{units-valid, functions-valid}
 use Rattle.ceal_code.specs.Program.{Unit as CodeUnit, Code}
 use Rattle.ceal_code.specs.Step.{kinds_of}
-use Rattle.ceal_code.specs.Valid.{Typing, fits, fits_maybe, variable_type, type_of, place_fits, unit_fits, read_fits, entry_fits, call_fits, alloc_fits, others, params_fit, all_fit, command_ok, onward, path_ok, paths_ok, goes_forward, all_forward, followers, is_tree, with_params, below, is_core, body_ok, unit_ok, units_ok, is_prefix, kinds_ok, entry_ok, function_ok, functions_ok, structs_ok, valid}
+use Rattle.ceal_code.specs.Valid.{Typing, fits, fits_maybe, variable_type, type_of, place_fits, unit_fits, read_fits}
+use Rattle.ceal_code.specs.Valid.{entry_fits, call_fits, alloc_fits, others, params_fit, all_fit, command_ok, onward}
+use Rattle.ceal_code.specs.Valid.{path_ok, paths_ok, goes_forward, all_forward, followers, is_tree, with_params, below}
+use Rattle.ceal_code.specs.Valid.{is_core, body_ok, unit_ok, units_ok, is_prefix, kinds_ok, entry_ok, function_ok}
+use Rattle.ceal_code.specs.Valid.{functions_ok, structs_ok, valid}
 use Rattle.ceal_code.specs.declared.command.Cmd.{Cmd}
 use Rattle.ceal_code.specs.declared.command.Cmd.TheVariants.{Move, Tick, Alloc, Modref, Write, If, Done, Tail, Read, Call}
 use Rattle.ceal_code.specs.declared.expr.CodeExpr.{CodeExpr, Num as NumExpr, Null as NullExpr, Var, Unary', Binary', Field', Address'}
@@ -22,7 +28,10 @@ use Rattle.ceal_fold.proofs.ListSteps.{at-same, at-other, at-past}
 use Rattle.ceal_fold.proofs.ReplaceSteps.{set-length}
 use Rattle.ceal_fold.proofs.Simulated.{final, spot, used-follower, among-next, among-first, among-second, lt-true}
 use Rattle.ceal_fold.proofs.Types.{Refined, refined-refl, refined-fits, refined-maybe, refined-place, refined-write, known_at, CopiesTyped, type-folded, type-final, all-final, params-final}
-use Rattle.ceal_fold.specs.Folding.{Copies, no_copies, at_root, use_of, copies_after, copy_by, copy_without, copies_with, is_among, folded_expr, folded_exprs, folded_command, folded_commands, mentions, all_mention, uses, assigns, used, used_in, used_by, command_or_tick, folded_unit, folded_units, folded}
+use Rattle.ceal_fold.specs.Folding.{Copies, no_copies, at_root, use_of, copies_after, copy_by, copy_without}
+use Rattle.ceal_fold.specs.Folding.{copies_with, is_among, folded_expr, folded_exprs, folded_command, folded_commands}
+use Rattle.ceal_fold.specs.Folding.{mentions, all_mention, uses, assigns, used, used_in, used_by, command_or_tick}
+use Rattle.ceal_fold.specs.Folding.{folded_unit, folded_units, folded}
 use Rattle.ceal_fold.specs.declared.copies.Copied.{Copied}
 use Rattle.ceal_fold.specs.declared.copies.Copied.TheVariants.{Num as CopiedNum, Null as CopiedNull, Var as CopiedVar}
 

@@ -20,7 +20,9 @@ use Rattle.ceal_code.specs.declared.expr.CodeExpr.{CodeExpr, Num as NumExpr, Nul
 use Rattle.ceal_code.specs.declared.expr.CodeExpr.TheBlock.{hidden-the_row-CodeExpr-0, shape-the_row-CodeExpr-0}
 use Rattle.ceal_code.specs.declared.expr.CodeExpr.TheViews.{Unary, Binary, Field, Address}
 use Rattle.ceal_code.specs.declared.expr.VarId.{VarId}
-use Rattle.ceal_fold.specs.Folding.{Copies, no_copies, use_of, constant, constant_expr, is_null, unary_folded, binary_folded, folded_expr, folded_operand, folded_exprs, copy_by, copy_without, copies_with, mentions, operand_mentions, all_mention}
+use Rattle.ceal_fold.specs.Folding.{Copies, no_copies, use_of, constant, constant_expr, is_null, unary_folded}
+use Rattle.ceal_fold.specs.Folding.{binary_folded, folded_expr, folded_operand, folded_exprs, copy_by, copy_without}
+use Rattle.ceal_fold.specs.Folding.{copies_with, mentions, operand_mentions, all_mention}
 use Rattle.ceal_fold.specs.declared.copies.Copied.{Copied}
 use Rattle.ceal_fold.specs.declared.copies.Copied.TheVariants.{Num as CopiedNum, Null as CopiedNull, Var as CopiedVar}
 

@@ -1,6 +1,7 @@
 -- The folding of code: in each unit, uses of copies and operators on constants are replaced from the root
 -- down, and then moves that nothing uses from the leaves up.
-use Rattle.std.specs.Prelude.{ℕ, ◌+◌, ◌==◌, ◌&&◌, ◌||◌, Bool, true, false, not, if◌then◌else◌, Option, Some, None, List, [], ◌∷◌}
+use Rattle.std.specs.Prelude.{ℕ, ◌+◌, ◌==◌, ◌&&◌, ◌||◌, Bool, true, false, not, if◌then◌else◌, Option, Some, None, List}
+use Rattle.std.specs.Prelude.{[], ◌∷◌}
 use Rattle.ceal_base.specs.Operators.{unary_value, binary_value}
 use Rattle.ceal_base.specs.declared.kind.Shape.TheVariants.{Struct}
 use Rattle.ceal_base.specs.declared.operators.Binary.{Binary as BinaryOp}
@@ -12,8 +13,10 @@ use Rattle.ceal_code.specs.Program.{Unit, Code}
 use Rattle.ceal_code.specs.Valid.{followers}
 use Rattle.ceal_code.specs.Value.{field_kind, field_default}
 use Rattle.ceal_code.specs.declared.command.Cmd.{Cmd}
-use Rattle.ceal_code.specs.declared.command.Cmd.TheVariants.{Move, Tick, Alloc, Modref, Write, If, Done, Tail, Read, Call}
-use Rattle.ceal_code.specs.declared.expr.CodeExpr.{CodeExpr, Num as NumExpr, Null as NullExpr, Var, Unary', Binary', Field', Address'}
+use Rattle.ceal_code.specs.declared.command.Cmd.TheVariants.{Move, Tick, Alloc, Modref, Write, If, Done, Tail, Read}
+use Rattle.ceal_code.specs.declared.command.Cmd.TheVariants.{Call}
+use Rattle.ceal_code.specs.declared.expr.CodeExpr.{CodeExpr, Num as NumExpr, Null as NullExpr, Var, Unary', Binary'}
+use Rattle.ceal_code.specs.declared.expr.CodeExpr.{Field', Address'}
 use Rattle.ceal_code.specs.declared.expr.CodeExpr.{Row_of-CodeExpr, end_of-CodeExpr, more_of-CodeExpr}
 use Rattle.ceal_code.specs.declared.expr.CodeExpr.TheViews.{Unary, Binary, Field, Address}
 use Rattle.ceal_code.specs.declared.expr.VarId.{VarId}

@@ -3,7 +3,8 @@
 ghost use Rattle.std.specs.Prelude.{◌≡◌, Some, IfOk};
 ghost use Rattle.ceal_base.specs.declared.kind.Shape.TheVariants.{Struct};
 ghost use Rattle.ceal_code.specs.Value.{field_kind, field_default};
-ghost use Rattle.ceal_fold.specs.Folding.{use_of, constant, constant_expr, is_null, unary_folded, binary_folded, field_folded, address_folded, folded_expr, folded_exprs, folded_command};
+ghost use Rattle.ceal_fold.specs.Folding.{use_of, constant, constant_expr, is_null, unary_folded, binary_folded};
+ghost use Rattle.ceal_fold.specs.Folding.{field_folded, address_folded, folded_expr, folded_exprs, folded_command};
 ghost use Rattle.ceal_fold.specs.States.{copy_at};
 
 use crate::copies::Copied;

@@ -1,8 +1,10 @@
 // From the root of a body down: each command with its expressions folded.
 
-ghost use Rattle.std.specs.Prelude.{◌≡◌, ◌<◌, ◌+◌, ◌^◌, ℕ, [], length, slice_get, slice_set, replicate, if◌then◌else◌, IfOk};
+ghost use Rattle.std.specs.Prelude.{◌≡◌, ◌<◌, ◌+◌, ◌^◌, ℕ, [], length, slice_get, slice_set, replicate, if◌then◌else◌};
+ghost use Rattle.std.specs.Prelude.{IfOk};
 ghost use Rattle.ceal_code.specs.Valid.{followers};
-ghost use Rattle.ceal_fold.specs.Folding.{at_root, copies_after, is_among, folded_command, copies_past, folded_commands};
+ghost use Rattle.ceal_fold.specs.Folding.{at_root, copies_after, is_among, folded_command, copies_past};
+ghost use Rattle.ceal_fold.specs.Folding.{folded_commands};
 ghost use Rattle.ceal_fold.specs.States.{last_of, time, copy_at, state_at, copies_at, Until, AllUntil};
 
 use crate::expr::fold_command;

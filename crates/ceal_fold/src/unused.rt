@@ -1,6 +1,7 @@
 // From the leaves of a body up: each move that nothing later uses becomes a step that does nothing.
 
-ghost use Rattle.std.specs.Prelude.{◌≡◌, ◌<◌, ◌≤◌, ◌^◌, ◌||◌, ◌&&◌, not, ℕ, [], true, false, length, replicate, slice_set, IfOk};
+ghost use Rattle.std.specs.Prelude.{◌≡◌, ◌<◌, ◌≤◌, ◌^◌, ◌||◌, ◌&&◌, not, ℕ, [], true, false, length, replicate};
+ghost use Rattle.std.specs.Prelude.{slice_set, IfOk};
 ghost use Rattle.ceal_code.specs.Valid.{followers, is_tree};
 ghost use Rattle.ceal_fold.specs.Folding.{is_among, command_or_tick, uses, assigns, used_in, used_by, without_unused};
 ghost use Rattle.ceal_fold.specs.States.{has, has_at};

@@ -2,7 +2,8 @@
 
 ghost use Rattle.std.specs.Prelude.{◌≡◌, ◌++◌, ◌≤◌, IfOk};
 ghost use Rattle.ceal_gen.specs.Draws.{next_state, drawn, state_after};
-ghost use Rattle.ceal_gen.specs.ListText.{head_of, tail_text, cell_line, cell_lines, list_run, put_in_front, put_at_end, take_front, list_text};
+ghost use Rattle.ceal_gen.specs.ListText.{head_of, tail_text, cell_line, cell_lines, list_run, put_in_front};
+ghost use Rattle.ceal_gen.specs.ListText.{put_at_end, take_front, list_text};
 
 use crate::draws::Draws;
 use crate::names::put_cell_name;

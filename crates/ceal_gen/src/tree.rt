@@ -2,7 +2,8 @@
 
 ghost use Rattle.std.specs.Prelude.{◌≡◌, ◌<◌, ◌^◌, ◌++◌, IfOk};
 ghost use Rattle.ceal_gen.specs.Draws.{state_after};
-ghost use Rattle.ceal_gen.specs.TreeText.{node_count, leaf_line, operator_line, node_line, node_lines, tree_run, change_leaf, replace_left, tree_text};
+ghost use Rattle.ceal_gen.specs.TreeText.{node_count, leaf_line, operator_line, node_line, node_lines, tree_run};
+ghost use Rattle.ceal_gen.specs.TreeText.{change_leaf, replace_left, tree_text};
 
 use crate::draws::Draws;
 use crate::names::put_node_name;

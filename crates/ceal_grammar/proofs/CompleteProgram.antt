@@ -15,9 +15,17 @@ use Rattle.ceal_grammar.specs.declared.state.State.{State}
 use Rattle.ceal_grammar.specs.declared.state.State.TheVariants.{Top, Struct, Head as InHead}
 use Rattle.ceal_grammar.specs.declared.state.StructPlace.TheVariants as Structs
 use Rattle.ceal_grammar.specs.declared.state.TypePart.{TypePart}
-use Rattle.ceal_grammar.specs.Grammar.{Written, int, pointer, mod_int, mod_pointer, cell_int, cell_pointer, Allowed, Block, block, Parameter, Parameters, no_parameters, parameters, core, init, Size, single, row, Member, Part, structure, function, Program, StatementProper, BlockProper, MoreProper, ParametersProper, IsCell, SizeProper, MembersProper, PartProper, PartsProper}
-use Rattle.ceal_grammar.specs.Spelled.{Mark, plain, spelled_statement, spelled_block, spelled_parameter, spelled_others, spelled_parameters, counted, spelled_size, spelled_members, spelled_part, spelled_parts, spelled_program}
-use Rattle.ceal_grammar.specs.Trees.{type_form, type_first, statement_tree, block_trees, other_trees, parameter_tree, parameter_trees, close_of, row_form, sized_form, member_trees, part_tree, part_trees}
+use Rattle.ceal_grammar.specs.Grammar.{Written, int, pointer, mod_int, mod_pointer, cell_int, cell_pointer, Allowed}
+use Rattle.ceal_grammar.specs.Grammar.{Block, block, Parameter, Parameters, no_parameters, parameters, core, init, Size}
+use Rattle.ceal_grammar.specs.Grammar.{single, row, Member, Part, structure, function, Program, StatementProper}
+use Rattle.ceal_grammar.specs.Grammar.{BlockProper, MoreProper, ParametersProper, IsCell, SizeProper, MembersProper}
+use Rattle.ceal_grammar.specs.Grammar.{PartProper, PartsProper}
+use Rattle.ceal_grammar.specs.Spelled.{Mark, plain, spelled_statement, spelled_block, spelled_parameter, spelled_others}
+use Rattle.ceal_grammar.specs.Spelled.{spelled_parameters, counted, spelled_size, spelled_members, spelled_part}
+use Rattle.ceal_grammar.specs.Spelled.{spelled_parts, spelled_program}
+use Rattle.ceal_grammar.specs.Trees.{type_form, type_first, statement_tree, block_trees, other_trees, parameter_tree}
+use Rattle.ceal_grammar.specs.Trees.{parameter_trees, close_of, row_form, sized_form, member_trees, part_tree}
+use Rattle.ceal_grammar.specs.Trees.{part_trees}
 use Rattle.ceal_grammar.specs.Machine.{same_sign, same_word, type_begin, widened, with_member, is_cell, length_of, at_length, begun_struct, with_parameter, step, length_item, item_of}
 use Rattle.ceal_grammar.specs.Follows.{Follows}
 use Rattle.ceal_grammar.proofs.CompleteStatement.{read_type, read_statements}

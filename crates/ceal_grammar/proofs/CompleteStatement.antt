@@ -36,10 +36,22 @@ use Rattle.ceal_grammar.specs.declared.state.TypePart.TheVariants as Types
 use Rattle.ceal_grammar.specs.declared.state.Typing.{Typing}
 use Rattle.ceal_grammar.specs.declared.state.Typing.TheVariants.{More as MoreType, Named as NamedType}
 use Rattle.ceal_grammar.specs.declared.state.Whole.{Whole}
-use Rattle.ceal_grammar.specs.Grammar.{Phrase, number, null, variable, own, parens, arrow, prefix, address, element, binary, Grouped, IsPath, Written, int, pointer, mod_int, mod_pointer, cell_int, cell_pointer, Allowed, Arguments, no_arguments, arguments, AllGrouped, ArgumentsGrouped, Given, plainly, reading, allocation, modref_int, modref, GivenGrouped, Statement, declare, assign, set, store, call, branch, loop, exit, break, continue, Branch, when, Otherwise, nothing, otherwise, chained, Block, block, Statements, ended, followed, StatementProper, BranchProper, OtherwiseProper, BlockProper, StatementsProper}
-use Rattle.ceal_grammar.specs.Spelled.{Mark, plain, name, after, spelled, spelled_type, spelled_more, spelled_arguments, spelled_given, spelled_statement, spelled_branch, spelled_otherwise, spelled_block, spelled_statements}
+use Rattle.ceal_grammar.specs.Grammar.{Phrase, number, null, variable, own, parens, arrow, prefix, address, element}
+use Rattle.ceal_grammar.specs.Grammar.{binary, Grouped, IsPath, Written, int, pointer, mod_int, mod_pointer, cell_int}
+use Rattle.ceal_grammar.specs.Grammar.{cell_pointer, Allowed, Arguments, no_arguments, arguments, AllGrouped}
+use Rattle.ceal_grammar.specs.Grammar.{ArgumentsGrouped, Given, plainly, reading, allocation, modref_int, modref}
+use Rattle.ceal_grammar.specs.Grammar.{GivenGrouped, Statement, declare, assign, set, store, call, branch, loop, exit}
+use Rattle.ceal_grammar.specs.Grammar.{break, continue, Branch, when, Otherwise, nothing, otherwise, chained, Block}
+use Rattle.ceal_grammar.specs.Grammar.{block, Statements, ended, followed, StatementProper, BranchProper}
+use Rattle.ceal_grammar.specs.Grammar.{OtherwiseProper, BlockProper, StatementsProper}
+use Rattle.ceal_grammar.specs.Spelled.{Mark, plain, name, after, spelled, spelled_type, spelled_more, spelled_arguments}
+use Rattle.ceal_grammar.specs.Spelled.{spelled_given, spelled_statement, spelled_branch, spelled_otherwise}
+use Rattle.ceal_grammar.specs.Spelled.{spelled_block, spelled_statements}
 use Rattle.ceal_grammar.specs.Trees.{first, expression, type_form, type_first, expressions, argument_trees, value_tree, statement_tree, branch_tree, otherwise_trees, block_trees, statement_trees}
-use Rattle.ceal_grammar.specs.Machine.{same_sign, same_word, is_sign, is_word, operator_of, Reduced, reduced, within, begun, placed, at_operand, at_body, at_type, typed, type_begin, given, called, wrapped, with_statement, received, closes, at_sign_after, owned, opened_by, moved, step, nesting_of, item_of, operators_of}
+use Rattle.ceal_grammar.specs.Machine.{same_sign, same_word, is_sign, is_word, operator_of, Reduced, reduced, within}
+use Rattle.ceal_grammar.specs.Machine.{begun, placed, at_operand, at_body, at_type, typed, type_begin, given, called}
+use Rattle.ceal_grammar.specs.Machine.{wrapped, with_statement, received, closes, at_sign_after, owned, opened_by}
+use Rattle.ceal_grammar.specs.Machine.{moved, step, nesting_of, item_of, operators_of}
 use Rattle.ceal_grammar.specs.Follows.{Follows}
 use Rattle.ceal_grammar.proofs.CompletePhrase.{having, whole, pending, complete, reduced_pending, no_item, sign_behind}
 use Rattle.ceal_grammar.proofs.Telling.{sign_tells, word_tells}

@@ -32,9 +32,14 @@ use Rattle.ceal_grammar.specs.declared.state.StructPlace.TheVariants as Structs
 use Rattle.ceal_grammar.specs.declared.state.TypePart.{TypePart}
 use Rattle.ceal_grammar.specs.declared.state.TypePart.TheVariants as Types
 use Rattle.ceal_grammar.specs.declared.state.Whole.{Whole}
-use Rattle.ceal_grammar.specs.Grammar.{Phrase, level_of, Grouped, Allowed, Arguments, AllGrouped, ArgumentsGrouped, Given, GivenGrouped, Branch, Otherwise, Block, Statements, BranchProper, OtherwiseProper, BlockProper, StatementsProper, Parameter, Parameters, MoreProper, ParametersProper, Member, MembersProper, Part, PartsProper}
+use Rattle.ceal_grammar.specs.Grammar.{Phrase, level_of, Grouped, Allowed, Arguments, AllGrouped, ArgumentsGrouped}
+use Rattle.ceal_grammar.specs.Grammar.{Given, GivenGrouped, Branch, Otherwise, Block, Statements, BranchProper}
+use Rattle.ceal_grammar.specs.Grammar.{OtherwiseProper, BlockProper, StatementsProper, Parameter, Parameters}
+use Rattle.ceal_grammar.specs.Grammar.{MoreProper, ParametersProper, Member, MembersProper, Part, PartsProper}
 use Rattle.ceal_grammar.specs.Machine.{is_cell}
-use Rattle.ceal_grammar.proofs.Words.{word, named, phrase, items, argument_words, given_words, branch_words, other_words, block_words, statement_words, parameter_words, others, parameters_words, member_words, parts_words}
+use Rattle.ceal_grammar.proofs.Words.{word, named, phrase, items, argument_words, given_words, branch_words}
+use Rattle.ceal_grammar.proofs.Words.{other_words, block_words, statement_words, parameter_words, others}
+use Rattle.ceal_grammar.proofs.Words.{parameters_words, member_words, parts_words}
 use Rattle.ceal_grammar.proofs.Regroup.{Behind, behind_words, BehindGrouped, Tail, tail_words, TailGrouped}
 
 -- one token, and then what follows

@@ -34,7 +34,13 @@ use Rattle.ceal_grammar.specs.Grammar.{variable, Grouped, int, no_arguments, All
 use Rattle.ceal_grammar.specs.Machine.{is_cell}
 use Rattle.ceal_grammar.proofs.Words.{word, phrase, items, statement, others, member_words, parts_words}
 use Rattle.ceal_grammar.proofs.Regroup.{stop, behind_words, BehindGrouped, ending, tail_words, TailGrouped}
-use Rattle.ceal_grammar.proofs.Future.{After, AfterSign, AfterName, TopFuture, StarOr, TypeFuture, Each, BodyFuture, OtherFuture, OwnedFuture, CloseFuture, InBody, SemiFuture, ClosedFuture, EmptyFuture, BlockFuture, ReceiverFuture, FramesFuture, without_index, WantFuture, PostFuture, HaveFuture, ElementFuture, PlaceFuture, ArgumentsFuture, ValueFuture, hops, ReachedFuture, PathFuture, MakingFuture, ModeFuture, MembersFuture, SizedFuture, LengthFuture, EndFuture, StructFuture, OthersFuture, ParametersFuture, OwnFuture, ShapeFuture, HeadFuture, Future}
+use Rattle.ceal_grammar.proofs.Future.{After, AfterSign, AfterName, TopFuture, StarOr, TypeFuture, Each, BodyFuture}
+use Rattle.ceal_grammar.proofs.Future.{OtherFuture, OwnedFuture, CloseFuture, InBody, SemiFuture, ClosedFuture}
+use Rattle.ceal_grammar.proofs.Future.{EmptyFuture, BlockFuture, ReceiverFuture, FramesFuture, without_index}
+use Rattle.ceal_grammar.proofs.Future.{WantFuture, PostFuture, HaveFuture, ElementFuture, PlaceFuture, ArgumentsFuture}
+use Rattle.ceal_grammar.proofs.Future.{ValueFuture, hops, ReachedFuture, PathFuture, MakingFuture, ModeFuture}
+use Rattle.ceal_grammar.proofs.Future.{MembersFuture, SizedFuture, LengthFuture, EndFuture, StructFuture, OthersFuture}
+use Rattle.ceal_grammar.proofs.Future.{ParametersFuture, OwnFuture, ShapeFuture, HeadFuture, Future}
 
 -- some tokens bring it about
 abbrev pub Possible : (List Token → Type 0) → Type 0

@@ -48,11 +48,22 @@ use Rattle.ceal_grammar.specs.declared.state.TypePart.TheVariants as Types
 use Rattle.ceal_grammar.specs.declared.state.Typing.{Typing}
 use Rattle.ceal_grammar.specs.declared.state.Typing.TheVariants.{More as MoreType, Named as NamedType}
 use Rattle.ceal_grammar.specs.declared.state.Whole.{Whole}
-use Rattle.ceal_grammar.specs.Grammar.{Phrase, number, null, variable, own, parens, arrow, level, IsInfix, level_of, Grouped, IsPath, Written, int, pointer, mod_int, mod_pointer, cell_int, cell_pointer, Allowed, no_arguments, arguments, AllGrouped, plainly, reading, allocation, modref_int, modref, Statement, declare, assign, set, store, call, branch, loop, exit, break, continue, Branch, when, nothing, otherwise, chained, block, ended, followed, StatementProper, BranchProper, Parameter, no_parameters, parameters, MoreProper, core, init, single as one_field, row, Part, structure, function, IsCell, MembersProper, PartProper, PartsProper}
+use Rattle.ceal_grammar.specs.Grammar.{Phrase, number, null, variable, own, parens, arrow, level, IsInfix, level_of}
+use Rattle.ceal_grammar.specs.Grammar.{Grouped, IsPath, Written, int, pointer, mod_int, mod_pointer, cell_int}
+use Rattle.ceal_grammar.specs.Grammar.{cell_pointer, Allowed, no_arguments, arguments, AllGrouped, plainly, reading}
+use Rattle.ceal_grammar.specs.Grammar.{allocation, modref_int, modref, Statement, declare, assign, set, store, call}
+use Rattle.ceal_grammar.specs.Grammar.{branch, loop, exit, break, continue, Branch, when, nothing, otherwise, chained}
+use Rattle.ceal_grammar.specs.Grammar.{block, ended, followed, StatementProper, BranchProper, Parameter, no_parameters}
+use Rattle.ceal_grammar.specs.Grammar.{parameters, MoreProper, core, init, single as one_field, row, Part, structure}
+use Rattle.ceal_grammar.specs.Grammar.{function, IsCell, MembersProper, PartProper, PartsProper}
 use Rattle.ceal_grammar.specs.Spelled.{sign_of, prefix_sign}
 use Rattle.ceal_grammar.specs.Trees.{type_form, row_form}
-use Rattle.ceal_grammar.proofs.Words.{word, named, phrase, type_words, items, argument_words, given_words, statement, branch_words, block_words, parameter_words, others, parameters_words, member_words, part_words, parts_words}
-use Rattle.ceal_grammar.proofs.Regroup.{negate, negate_grouped, negate_words, Behind, stop, more, behind_words, BehindGrouped, beside, beside_grouped, beside_words, Tail, ending, field, index, tail_words, TailGrouped, pointed, pointed_grouped, pointed_words}
+use Rattle.ceal_grammar.proofs.Words.{word, named, phrase, type_words, items, argument_words, given_words, statement}
+use Rattle.ceal_grammar.proofs.Words.{branch_words, block_words, parameter_words, others, parameters_words}
+use Rattle.ceal_grammar.proofs.Words.{member_words, part_words, parts_words}
+use Rattle.ceal_grammar.proofs.Regroup.{negate, negate_grouped, negate_words, Behind, stop, more, behind_words}
+use Rattle.ceal_grammar.proofs.Regroup.{BehindGrouped, beside, beside_grouped, beside_words, Tail, ending, field, index}
+use Rattle.ceal_grammar.proofs.Regroup.{tail_words, TailGrouped, pointed, pointed_grouped, pointed_words}
 use Rattle.std.proofs.lemmas.Bool.{false≢true}
 use Rattle.std.proofs.lemmas.Bool.Decides.{leb_tells}
 use Rattle.ceal_base.specs.declared.syntax.Stmt.{Return, Break, Continue, SetField, Write}
@@ -61,9 +72,23 @@ use Rattle.ceal_base.specs.declared.syntax.Stmt.TheViews as Trees
 use Rattle.ceal_base.specs.declared.syntax.ExprForm.{Null, Own}
 use Rattle.ceal_base.specs.declared.syntax.TypeForm.TheVariants as Forms
 use Rattle.ceal_base.specs.declared.syntax.Value.TheVariants as Values
-use Rattle.ceal_grammar.specs.Machine.{same_sign, same_word, is_sign, is_word, wants, operator_of, at_name, single, prefixed, addressed, joined, accessed, reduced, within, begun, operated, placed, at_prim, at_operand, with_statement, given, called, received, closes, at_sign_after, accesses, at_index, at_after, at_element, at_place, type_begin, type_starts, star_or, at_type, owned, block_closed, opened_by, at_statement, at_word, at_body, typed, path_of, field_of, at_value, at_modref, at_making, at_reached, chained_in, moved, begun_type, with_member, is_cell, length_of, at_member_end, at_length, begun_struct, at_struct, with_parameter, at_head, at_part, at_top, step}
+use Rattle.ceal_grammar.specs.Machine.{same_sign, same_word, is_sign, is_word, wants, operator_of, at_name, single}
+use Rattle.ceal_grammar.specs.Machine.{prefixed, addressed, joined, accessed, reduced, within, begun, operated, placed}
+use Rattle.ceal_grammar.specs.Machine.{at_prim, at_operand, with_statement, given, called, received, closes}
+use Rattle.ceal_grammar.specs.Machine.{at_sign_after, accesses, at_index, at_after, at_element, at_place, type_begin}
+use Rattle.ceal_grammar.specs.Machine.{type_starts, star_or, at_type, owned, block_closed, opened_by, at_statement}
+use Rattle.ceal_grammar.specs.Machine.{at_word, at_body, typed, path_of, field_of, at_value, at_modref, at_making}
+use Rattle.ceal_grammar.specs.Machine.{at_reached, chained_in, moved, begun_type, with_member, is_cell, length_of}
+use Rattle.ceal_grammar.specs.Machine.{at_member_end, at_length, begun_struct, at_struct, with_parameter, at_head}
+use Rattle.ceal_grammar.specs.Machine.{at_part, at_top, step}
 use Rattle.ceal_grammar.proofs.Telling.{sign_true, word_true, sign_is, word_is}
-use Rattle.ceal_grammar.proofs.Future.{AfterSign, AfterWord, AfterName, TopFuture, StarOr, TypeFuture, Each, BodyFuture, OtherFuture, OwnedFuture, CloseFuture, InBody, SemiFuture, ClosedFuture, BlockFuture, ReceiverFuture, FramesFuture, OperandFuture, without_index, WantFuture, PostFuture, HaveFuture, ElementFuture, PlaceFuture, ArgumentsFuture, ValueFuture, hops, ReachedFuture, PathFuture, MakingFuture, NamedFuture, ModeFuture, MembersFuture, LengthFuture, EndFuture, StructFuture, OthersFuture, ParametersFuture, OwnFuture, ShapeFuture, HeadFuture, Future}
+use Rattle.ceal_grammar.proofs.Future.{AfterSign, AfterWord, AfterName, TopFuture, StarOr, TypeFuture, Each, BodyFuture}
+use Rattle.ceal_grammar.proofs.Future.{OtherFuture, OwnedFuture, CloseFuture, InBody, SemiFuture, ClosedFuture}
+use Rattle.ceal_grammar.proofs.Future.{BlockFuture, ReceiverFuture, FramesFuture, OperandFuture, without_index}
+use Rattle.ceal_grammar.proofs.Future.{WantFuture, PostFuture, HaveFuture, ElementFuture, PlaceFuture, ArgumentsFuture}
+use Rattle.ceal_grammar.proofs.Future.{ValueFuture, hops, ReachedFuture, PathFuture, MakingFuture, NamedFuture}
+use Rattle.ceal_grammar.proofs.Future.{ModeFuture, MembersFuture, LengthFuture, EndFuture, StructFuture, OthersFuture}
+use Rattle.ceal_grammar.proofs.Future.{ParametersFuture, OwnFuture, ShapeFuture, HeadFuture, Future}
 
 pub wanted : {A : Type 0} (b : Bool) (x y : A) → wants b x ≡ Some y → (b ≡ true) × (x ≡ y)
 wanted true x y h = (refl, cc)

@@ -7,8 +7,19 @@ use Rattle.ceal_lex.specs.declared.token.Sign.TheVariants as Signs
 use Rattle.ceal_lex.specs.declared.token.Token.{Token}
 use Rattle.ceal_lex.specs.declared.token.TokenKind.{TokenKind}
 use Rattle.ceal_lex.specs.declared.token.TokenKind.TheVariants.{Name, Number, Reserved, Sign, End}
-use Rattle.ceal_grammar.specs.Grammar.{Phrase, number, null, variable, own, parens, arrow, prefix, address, element, binary, Written, int, pointer, mod_int, mod_pointer, cell_int, cell_pointer, Arguments, no_arguments, arguments, Given, plainly, reading, allocation, modref_int, modref, Statement, declare, assign, set, store, call, branch, loop, exit, break, continue, Branch, when, Otherwise, nothing, otherwise, chained, Block, block, Statements, ended, followed, Parameter, Parameters, no_parameters, parameters, Signature, core, init, Size, single, row, Member, Part, structure, function, Program}
-use Rattle.ceal_grammar.specs.Spelled.{Mark, mark, plain, sign_of, prefix_sign, after, spelled, spelled_type, spelled_more, spelled_arguments, spelled_given, spelled_statement, spelled_branch, spelled_otherwise, spelled_block, spelled_statements, spelled_others, spelled_parameters, spelled_signature, counted, spelled_size, spelled_members, spelled_part, spelled_parts, spelled_program, tokens_of}
+use Rattle.ceal_grammar.specs.Grammar.{Phrase, number, null, variable, own, parens, arrow, prefix, address, element}
+use Rattle.ceal_grammar.specs.Grammar.{binary, Written, int, pointer, mod_int, mod_pointer, cell_int, cell_pointer}
+use Rattle.ceal_grammar.specs.Grammar.{Arguments, no_arguments, arguments, Given, plainly, reading, allocation}
+use Rattle.ceal_grammar.specs.Grammar.{modref_int, modref, Statement, declare, assign, set, store, call, branch, loop}
+use Rattle.ceal_grammar.specs.Grammar.{exit, break, continue, Branch, when, Otherwise, nothing, otherwise, chained}
+use Rattle.ceal_grammar.specs.Grammar.{Block, block, Statements, ended, followed, Parameter, Parameters, no_parameters}
+use Rattle.ceal_grammar.specs.Grammar.{parameters, Signature, core, init, Size, single, row, Member, Part, structure}
+use Rattle.ceal_grammar.specs.Grammar.{function, Program}
+use Rattle.ceal_grammar.specs.Spelled.{Mark, mark, plain, sign_of, prefix_sign, after, spelled, spelled_type}
+use Rattle.ceal_grammar.specs.Spelled.{spelled_more, spelled_arguments, spelled_given, spelled_statement}
+use Rattle.ceal_grammar.specs.Spelled.{spelled_branch, spelled_otherwise, spelled_block, spelled_statements}
+use Rattle.ceal_grammar.specs.Spelled.{spelled_others, spelled_parameters, spelled_signature, counted, spelled_size}
+use Rattle.ceal_grammar.specs.Spelled.{spelled_members, spelled_part, spelled_parts, spelled_program, tokens_of}
 
 abbrev pub word : TokenKind → Span → Token
 word k s = record { kind = k; span = s }

@@ -4,7 +4,8 @@ use Rattle.ceal_base.specs.declared.fault.Span.{Span}
 use Rattle.ceal_base.specs.declared.operators.Unary.{Unary as UnaryOp}
 use Rattle.ceal_base.specs.declared.operators.Unary.TheVariants.{Neg, Not}
 use Rattle.ceal_base.specs.declared.operators.Binary.{Binary as BinaryOp}
-use Rattle.ceal_base.specs.declared.operators.Binary.TheVariants.{Add, Sub, Mul, Div, Rem, Less, LessEq, More, MoreEq, Same, Differ, And, Or, Pick}
+use Rattle.ceal_base.specs.declared.operators.Binary.TheVariants.{Add, Sub, Mul, Div, Rem, Less, LessEq, More, MoreEq}
+use Rattle.ceal_base.specs.declared.operators.Binary.TheVariants.{Same, Differ, And, Or, Pick}
 use Rattle.ceal_base.specs.declared.syntax.Ident.{Ident}
 use Rattle.ceal_lex.specs.declared.token.Reserved.TheVariants as Words
 use Rattle.ceal_lex.specs.declared.token.Sign.{Sign as SignOf}
@@ -12,7 +13,14 @@ use Rattle.ceal_lex.specs.declared.token.Sign.TheVariants as Signs
 use Rattle.ceal_lex.specs.declared.token.Token.{Token}
 use Rattle.ceal_lex.specs.declared.token.TokenKind.{TokenKind}
 use Rattle.ceal_lex.specs.declared.token.TokenKind.TheVariants.{Name, Number, Reserved, Sign, End}
-use Rattle.ceal_grammar.specs.Grammar.{Phrase, number, null, variable, own, parens, arrow, prefix, address, element, binary, Written, int, pointer, mod_int, mod_pointer, cell_int, cell_pointer, Arguments, no_arguments, arguments, Given, plainly, reading, allocation, modref_int, modref, Statement, declare, assign, set, store, call, branch, loop, exit, break, continue, Branch, when, Otherwise, nothing, otherwise, chained, Block, block, Statements, ended, followed, Parameter, Parameters, no_parameters, parameters, Signature, core, init, Size, single, row, Member, Part, structure, function, Program}
+use Rattle.ceal_grammar.specs.Grammar.{Phrase, number, null, variable, own, parens, arrow, prefix, address, element}
+use Rattle.ceal_grammar.specs.Grammar.{binary, Written, int, pointer, mod_int, mod_pointer, cell_int, cell_pointer}
+use Rattle.ceal_grammar.specs.Grammar.{Arguments, no_arguments, arguments, Given, plainly, reading, allocation}
+use Rattle.ceal_grammar.specs.Grammar.{modref_int, modref, Statement, declare, assign, set, store, call, branch, loop}
+use Rattle.ceal_grammar.specs.Grammar.{exit, break, continue, Branch, when, Otherwise, nothing, otherwise, chained}
+use Rattle.ceal_grammar.specs.Grammar.{Block, block, Statements, ended, followed, Parameter, Parameters, no_parameters}
+use Rattle.ceal_grammar.specs.Grammar.{parameters, Signature, core, init, Size, single, row, Member, Part, structure}
+use Rattle.ceal_grammar.specs.Grammar.{function, Program}
 
 -- A token with the nesting at it, the number of the item of a list that begins with it (0: none), and the
 -- number of operators of its whole expression up to it. At a closing `)`, `]` or `}` the nesting is that outside.

@@ -12,10 +12,18 @@ use Rattle.ceal_base.specs.declared.syntax.Stmt.{Stmt, Declare, Assign, SetField
 use Rattle.ceal_base.specs.declared.syntax.Stmt.TheViews.{If, While}
 use Rattle.ceal_base.specs.declared.syntax.Tree.{Tree}
 use Rattle.ceal_base.specs.declared.syntax.TypeForm.{TypeForm}
-use Rattle.ceal_base.specs.declared.syntax.TypeForm.TheVariants.{Int, Ptr, ModInt, ModPtr, CellInt, CellPtr, CellRow, CellPtrRow}
+use Rattle.ceal_base.specs.declared.syntax.TypeForm.TheVariants.{Int, Ptr, ModInt, ModPtr, CellInt, CellPtr, CellRow}
+use Rattle.ceal_base.specs.declared.syntax.TypeForm.TheVariants.{CellPtrRow}
 use Rattle.ceal_base.specs.declared.syntax.Value.{Value}
 use Rattle.ceal_base.specs.declared.syntax.Value.TheVariants.{Plain, Read, Alloc, ModrefInt, Modref}
-use Rattle.ceal_grammar.specs.Grammar.{Phrase, number, null, variable, own, parens, arrow, prefix, address, element, binary, Written, int, pointer, mod_int, mod_pointer, cell_int, cell_pointer, Arguments, no_arguments, arguments, Given, plainly, reading, allocation, modref_int, modref, Statement, declare, assign, set, store, call, branch, loop, exit, break, continue, Branch, when, Otherwise, nothing, otherwise, chained, Block, block, Statements, ended, followed, Parameter, Parameters, no_parameters, parameters, Signature, core, init, Size, single, row, Member, Part, structure, function, Program}
+use Rattle.ceal_grammar.specs.Grammar.{Phrase, number, null, variable, own, parens, arrow, prefix, address, element}
+use Rattle.ceal_grammar.specs.Grammar.{binary, Written, int, pointer, mod_int, mod_pointer, cell_int, cell_pointer}
+use Rattle.ceal_grammar.specs.Grammar.{Arguments, no_arguments, arguments, Given, plainly, reading, allocation}
+use Rattle.ceal_grammar.specs.Grammar.{modref_int, modref, Statement, declare, assign, set, store, call, branch, loop}
+use Rattle.ceal_grammar.specs.Grammar.{exit, break, continue, Branch, when, Otherwise, nothing, otherwise, chained}
+use Rattle.ceal_grammar.specs.Grammar.{Block, block, Statements, ended, followed, Parameter, Parameters, no_parameters}
+use Rattle.ceal_grammar.specs.Grammar.{parameters, Signature, core, init, Size, single, row, Member, Part, structure}
+use Rattle.ceal_grammar.specs.Grammar.{function, Program}
 
 -- The span of the first token.
 unfoldable pub first : Phrase → Span

@@ -1,5 +1,6 @@
 -- What a change of the table and of the region makes of a heap.
-use Rattle.std.proofs.Common.{◌≡◌, ◌≢◌, ℕ, zero, suc, ◌+◌, ◌≤◌, List, [], ◌∷◌, ◌++◌, length, Option, Some, None, IsSome, refl, sym, ap, ◌∙◌, subst, inl, inr, ◌⊎◌, ⊎_elim, arith, slice_get, rules, IfSome, pos}
+use Rattle.std.proofs.Common.{◌≡◌, ◌≢◌, ℕ, zero, suc, ◌+◌, ◌≤◌, List, [], ◌∷◌, ◌++◌, length, Option, Some, None, IsSome}
+use Rattle.std.proofs.Common.{refl, sym, ap, ◌∙◌, subst, inl, inr, ◌⊎◌, ⊎_elim, arith, slice_get, rules, IfSome, pos}
 use Rattle.std.specs.Option.{option_map}
 use Rattle.std.proofs.lemmas.List.{get_or_past}
 use Rattle.std.proofs.lemmas.Option.{none-some, same_Some, slice_get_past}
@@ -16,7 +17,10 @@ use Rattle.ceal_words.specs.SizeClass.{SizeClass}
 use Rattle.ceal_words.specs.declared.slot.Slot.{Slot}
 use Rattle.ceal_heap.specs.Cells.{words_read, cells_held, cell_count}
 use Rattle.ceal_heap.specs.Table.{held_in, held_of, held_at, is_live, is_revoked, tally, IsLiveAt, NoneFree, NoneRevoked, Reuses, Adds, GivesOut, Revokes, Releases}
-use Rattle.ceal_heap.specs.Heap.{Contents, Known, Standing, Unused, Live, Revoked, Released, known_in, state_standing, number_standing, standing, known, block_of, plain_block, plain_of, word_at, revoked, released, IsLive, IsMade, NoneReleased, IsFree, KeepsBlocks, HasSlots, number_of, IsKept}
+use Rattle.ceal_heap.specs.Heap.{Contents, Known, Standing, Unused, Live, Revoked, Released, known_in, state_standing}
+use Rattle.ceal_heap.specs.Heap.{number_standing, standing, known, block_of, plain_block, plain_of, word_at, revoked}
+use Rattle.ceal_heap.specs.Heap.{released, IsLive, IsMade, NoneReleased, IsFree, KeepsBlocks, HasSlots, number_of}
+use Rattle.ceal_heap.specs.Heap.{IsKept}
 use Rattle.ceal_heap.specs.declared.number.Held.{Held}
 use Rattle.ceal_heap.specs.declared.number.Number.{Number}
 use Rattle.ceal_heap.specs.declared.number.State.{State}

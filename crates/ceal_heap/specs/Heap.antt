@@ -1,6 +1,7 @@
 -- A heap: the state of each block, and the slots of the region (for blocks that are revoked first and released later:
 -- Hammer and Acar, *Memory management for self-adjusting computation*, ISMM 2008).
-use Rattle.std.specs.Prelude.{◌≡◌, ◌≢◌, ℕ, ◌≤◌, List, length, Option, Some, None, IsSome, option_map, pos, slice_get, slice_index_or}
+use Rattle.std.specs.Prelude.{◌≡◌, ◌≢◌, ℕ, ◌≤◌, List, length, Option, Some, None, IsSome, option_map, pos, slice_get}
+use Rattle.std.specs.Prelude.{slice_index_or}
 use Rattle.ceal_base.specs.Block.{Block}
 use Rattle.ceal_base.specs.declared.kind.Shape.{Shape}
 use Rattle.ceal_base.specs.declared.word.BlockId.{BlockId}
@@ -15,7 +16,8 @@ use Rattle.ceal_heap.specs.Table.{tally, is_live, is_revoked}
 use Rattle.ceal_heap.specs.declared.number.Held.{Held}
 use Rattle.ceal_heap.specs.declared.number.Number.{Number}
 use Rattle.ceal_heap.specs.declared.number.State.{State}
-use Rattle.ceal_heap.specs.declared.number.State.TheVariants.{Live as LiveState, Revoked as RevokedState, Released as ReleasedState}
+use Rattle.ceal_heap.specs.declared.number.State.TheVariants.{Live as LiveState, Revoked as RevokedState}
+use Rattle.ceal_heap.specs.declared.number.State.TheVariants.{Released as ReleasedState}
 
 -- what a caller sees of a heap: the numbers that were given out, from 0 on, and the region of raw words
 pub record Contents : Type 0 where

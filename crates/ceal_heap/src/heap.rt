@@ -2,7 +2,9 @@
 
 ghost use Rattle.std.specs.Prelude.{◌≡◌, ◌+◌, ◌≤◌, false, None, length, IsSome, IfSome, IfOk, OnOk, OnErr, IsTrue};
 ghost use Rattle.ceal_code.specs.PlainWords.{block_shape, block_word};
-ghost use Rattle.ceal_heap.specs.Heap.{standing, block_of, plain_of, word_at, live_count, revoked_count, revoked, next, number_of, IsLive, IsMade, IsFree, KeepsBlocks, ReleasesRevoked, ReleasesAlike, IsUnchanged, HasSlots, IsNew};
+ghost use Rattle.ceal_heap.specs.Heap.{standing, block_of, plain_of, word_at, live_count, revoked_count, revoked, next};
+ghost use Rattle.ceal_heap.specs.Heap.{number_of, IsLive, IsMade, IsFree, KeepsBlocks, ReleasesRevoked, ReleasesAlike};
+ghost use Rattle.ceal_heap.specs.Heap.{IsUnchanged, HasSlots, IsNew};
 
 use crate::number::Held;
 use crate::pieces::Pieces;

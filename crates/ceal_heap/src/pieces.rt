@@ -1,6 +1,7 @@
 // The words of blocks, in the slots of a region.
 
-ghost use Rattle.std.specs.Prelude.{◌≡◌, ◌+◌, ◌*◌, ◌<◌, ◌≤◌, Some, None, length, slice_get, slice_set, IsSome, IfOk, OnErr};
+ghost use Rattle.std.specs.Prelude.{◌≡◌, ◌+◌, ◌*◌, ◌<◌, ◌≤◌, Some, None, length, slice_get, slice_set, IsSome, IfOk};
+ghost use Rattle.std.specs.Prelude.{OnErr};
 ghost use Rattle.ceal_words.specs.Region.{words_of, KeepsOthers, KeepsAll, IsEmpty};
 ghost use Rattle.ceal_heap.specs.Cells.{read_at, cells_at, cell_count};
 

@@ -1,7 +1,9 @@
 // The table of numbers.
 
-ghost use Rattle.std.specs.Prelude.{◌≡◌, ◌+◌, ◌-◌, ◌<◌, ◌≤◌, ◌↔◌, ◌∷◌, [], ◌++◌, Some, length, option_copied, option_map, slice_get, IsSome, IsTrue, IfSome, IfNone, OnOk, vec_len, vec_capacity};
-ghost use Rattle.ceal_heap.specs.Table.{held_at, IsReady, HasRoom, IsLiveAt, Revokes, GivesOut, Releases, NoneRevoked, tally, is_live};
+ghost use Rattle.std.specs.Prelude.{◌≡◌, ◌+◌, ◌-◌, ◌<◌, ◌≤◌, ◌↔◌, ◌∷◌, [], ◌++◌, Some, length, option_copied};
+ghost use Rattle.std.specs.Prelude.{option_map, slice_get, IsSome, IsTrue, IfSome, IfNone, OnOk, vec_len, vec_capacity};
+ghost use Rattle.ceal_heap.specs.Table.{held_at, IsReady, HasRoom, IsLiveAt, Revokes, GivesOut, Releases, NoneRevoked};
+ghost use Rattle.ceal_heap.specs.Table.{tally, is_live};
 
 use crate::number::{Held, Number, State};
 use crate::stack::Stack;
@@ -33,9 +35,21 @@ impl Model for Table {
 
     ghost Value = { Ledger };
 
-    ghost view = { λ t. record { numbers = t.numbers.items; room = vec_capacity t.numbers; limbo = t.limbo; free = t.free; live = t.live } };
+    ghost view = { λ t. record {
+      numbers = t.numbers.items;
+      room = vec_capacity t.numbers;
+      limbo = t.limbo;
+      free = t.free;
+      live = t.live;
+    } };
 
-    ghost invariant = { λ t. IsSound (record { numbers = t.numbers.items; room = vec_capacity t.numbers; limbo = t.limbo; free = t.free; live = t.live }) };
+    ghost invariant = { λ t. IsSound (record {
+      numbers = t.numbers.items;
+      room = vec_capacity t.numbers;
+      limbo = t.limbo;
+      free = t.free;
+      live = t.live;
+    }) };
 }
 
 impl Table {

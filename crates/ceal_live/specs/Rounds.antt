@@ -1,5 +1,6 @@
 -- Sets of variables on the way to the live ones.
-use Rattle.std.specs.Prelude.{◌≡◌, ℕ, ◌+◌, ◌-◌, ◌^◌, ◌≤◌, Bool, true, false, ◌||◌, ◌&&◌, not, Some, List, [], ◌∷◌, length, slice_get}
+use Rattle.std.specs.Prelude.{◌≡◌, ℕ, ◌+◌, ◌-◌, ◌^◌, ◌≤◌, Bool, true, false, ◌||◌, ◌&&◌, not, Some, List, [], ◌∷◌}
+use Rattle.std.specs.Prelude.{length, slice_get}
 use Rattle.ceal_flow.specs.Live.{stmt_assigns, uses_at, Live}
 use Rattle.ceal_flow.specs.Sets.{is_in, is_that, IsAscending, set_at}
 use Rattle.ceal_flow.specs.declared.block.GraphBlock.{GraphBlock}

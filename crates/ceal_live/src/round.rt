@@ -1,6 +1,7 @@
 // One round over the blocks.
 
-ghost use Rattle.std.specs.Prelude.{◌≡◌, ◌≢◌, ◌<◌, ◌≤◌, ◌^◌, ◌||◌, ◌&&◌, not, true, false, ℕ, length, slice_get, slice_set, [], Some, IfOk, OnOk};
+ghost use Rattle.std.specs.Prelude.{◌≡◌, ◌≢◌, ◌<◌, ◌≤◌, ◌^◌, ◌||◌, ◌&&◌, not, true, false, ℕ, length, slice_get};
+ghost use Rattle.std.specs.Prelude.{slice_set, [], Some, IfOk, OnOk};
 ghost use Rattle.ceal_flow.specs.Live.{assigns, stmt_assigns};
 ghost use Rattle.ceal_flow.specs.Sets.{is_in, is_that, set_at, IsAscending};
 ghost use Rattle.ceal_live.specs.Rounds.{comes, IsClosed, Underway, room};

@@ -1,6 +1,7 @@
 // The laws of replies, each the contract of a function that does nothing.
 
-ghost use Rattle.ceal_many.specs.Laws.{OwnRepliesLaw, RefusedLaw, NamesLaw, OneReplyLaw, AloneLaw, KeptLaw, SomeReplyLaw};
+ghost use Rattle.ceal_many.specs.Laws.{OwnRepliesLaw, RefusedLaw, NamesLaw, OneReplyLaw, AloneLaw, KeptLaw};
+ghost use Rattle.ceal_many.specs.Laws.{SomeReplyLaw};
 
 use crate::answerer::Answerer;
 

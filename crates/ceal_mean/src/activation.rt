@@ -1,6 +1,7 @@
 // A function that runs.
 
-ghost use Rattle.std.specs.Prelude.{◌≡◌, Some, ◌∷◌, ◌++◌, [], ◌-◌, length, map, replicate, slice_set, IfOk, OnOk, MatchOption};
+ghost use Rattle.std.specs.Prelude.{◌≡◌, Some, ◌∷◌, ◌++◌, [], ◌-◌, length, map, replicate, slice_set, IfOk, OnOk};
+ghost use Rattle.std.specs.Prelude.{MatchOption};
 ghost use Rattle.std.specs.Option.{option_to_list};
 ghost use Rattle.ceal_base.specs.declared.word.Word.{Word};
 ghost use Rattle.ceal_mean.specs.Exec.{first_env, entered};

@@ -1,6 +1,7 @@
 // What each statement does.
 
-ghost use Rattle.std.specs.Prelude.{◌≡◌, ◌<◌, ◌≤◌, ◌+◌, ◌^◌, ⊤, List, Some, None, false, if◌then◌else◌, [], ◌∷◌, ◌++◌, length, map, slice_set, IfOk, OnOk};
+ghost use Rattle.std.specs.Prelude.{◌≡◌, ◌<◌, ◌≤◌, ◌+◌, ◌^◌, ⊤, List, Some, None, false, if◌then◌else◌, [], ◌∷◌, ◌++◌};
+ghost use Rattle.std.specs.Prelude.{length, map, slice_set, IfOk, OnOk};
 ghost use Rattle.std.specs.Option.{option_to_list};
 ghost use Rattle.ceal_base.specs.Access.{holds};
 ghost use Rattle.ceal_base.specs.Shapes.{default_block};

@@ -1,6 +1,7 @@
 // A run of a program from nothing.
 
-ghost use Rattle.std.specs.Prelude.{◌≡◌, ◌<◌, ◌≤◌, ◌+◌, ◌^◌, ⊤, Some, None, true, false, if◌then◌else◌, [], length, reverse, IfOk, OnOk, MatchOption};
+ghost use Rattle.std.specs.Prelude.{◌≡◌, ◌<◌, ◌≤◌, ◌+◌, ◌^◌, ⊤, Some, None, true, false, if◌then◌else◌, [], length};
+ghost use Rattle.std.specs.Prelude.{reverse, IfOk, OnOk, MatchOption};
 ghost use Rattle.ceal_mean.specs.Exec.{settled, entered};
 ghost use Rattle.ceal_mean.specs.Fresh.{fresh, outcome_of, start};
 ghost use Rattle.ceal_mean.specs.Steps.{begun, advanced};

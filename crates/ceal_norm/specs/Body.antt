@@ -1,9 +1,12 @@
 -- A unit's body command by command: the command of each block, and the blocks whose code is still to come.
-use Rattle.std.specs.Prelude.{ℕ, ◌<◌, Bool, true, false, Option, Some, None, List, [], ◌∷◌, ◌++◌, length, map, slice_get, slice_set, slice_index_or}
+use Rattle.std.specs.Prelude.{ℕ, ◌<◌, Bool, true, false, Option, Some, None, List, [], ◌∷◌, ◌++◌, length, map}
+use Rattle.std.specs.Prelude.{slice_get, slice_set, slice_index_or}
 use Rattle.ceal_base.specs.declared.kind.Shape.TheVariants.{ModInt, ModPtr}
 use Rattle.ceal_base.specs.declared.typed.TypedStmt.{TypedStmt, Declare, Assign, Write, Call}
 use Rattle.ceal_base.specs.declared.typed.TypedValue.{TypedValue}
-use Rattle.ceal_base.specs.declared.typed.TypedValue.TheVariants.{Plain as PlainValue, Read as ReadValue, Alloc as AllocValue, ModrefInt as ModrefIntValue, Modref as ModrefValue}
+use Rattle.ceal_base.specs.declared.typed.TypedValue.TheVariants.{Plain as PlainValue, Read as ReadValue}
+use Rattle.ceal_base.specs.declared.typed.TypedValue.TheVariants.{Alloc as AllocValue, ModrefInt as ModrefIntValue}
+use Rattle.ceal_base.specs.declared.typed.TypedValue.TheVariants.{Modref as ModrefValue}
 use Rattle.ceal_code.specs.declared.command.Cmd.{Cmd}
 use Rattle.ceal_code.specs.declared.command.Cmd.TheVariants as command
 use Rattle.ceal_norm.specs.Expressions.{variable, expr_code}

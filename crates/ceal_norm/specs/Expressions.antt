@@ -2,8 +2,10 @@
 use Rattle.std.specs.Prelude.{ℕ, List, [], ◌∷◌, ◌++◌}
 use Rattle.ceal_base.specs.declared.typed.TypedExpr.{TypedExpr}
 use Rattle.ceal_base.specs.declared.typed.TypedForm.TheBlock.{Row_of-TypedExpr, end_of-TypedExpr, more_of-TypedExpr}
-use Rattle.ceal_base.specs.declared.typed.TypedForm.{TypedForm, Num as NumForm, Null as NullForm, Var as VarForm, Own, Unary', Binary', Field', Address'}
-use Rattle.ceal_base.specs.declared.typed.TypedStmt.{TypedStmt, SetField, If', Row_of-TypedStmt, end_of-TypedStmt, more_of-TypedStmt}
+use Rattle.ceal_base.specs.declared.typed.TypedForm.{TypedForm, Num as NumForm, Null as NullForm, Var as VarForm, Own}
+use Rattle.ceal_base.specs.declared.typed.TypedForm.{Unary', Binary', Field', Address'}
+use Rattle.ceal_base.specs.declared.typed.TypedStmt.{TypedStmt, SetField, If', Row_of-TypedStmt, end_of-TypedStmt}
+use Rattle.ceal_base.specs.declared.typed.TypedStmt.{more_of-TypedStmt}
 use Rattle.ceal_code.specs.declared.expr.CodeExpr.{CodeExpr, Num, Null, Var}
 use Rattle.ceal_code.specs.declared.expr.CodeExpr.TheViews as code
 use Rattle.ceal_code.specs.declared.expr.VarId.{VarId}

@@ -1,13 +1,16 @@
 -- The units of a graph (our own). Each entry heads a tree of blocks, of which its unit is made: a path ends
 -- where a jump leads to an entry, and at a read, a call and the end of the function.
-use Rattle.std.specs.Prelude.{ℕ, zero, suc, ◌+◌, ◌==◌, Bool, true, false, Option, Some, None, List, [], ◌∷◌, ◌++◌, length, map, take, slice_get, slice_index_or, unwrap_or, if◌then◌else◌}
+use Rattle.std.specs.Prelude.{ℕ, zero, suc, ◌+◌, ◌==◌, Bool, true, false, Option, Some, None, List, [], ◌∷◌, ◌++◌}
+use Rattle.std.specs.Prelude.{length, map, take, slice_get, slice_index_or, unwrap_or, if◌then◌else◌}
 use Rattle.ceal_base.specs.declared.forest.UnitId.{UnitId}
 use Rattle.ceal_base.specs.declared.kind.Kind.{Kind}
 use Rattle.ceal_base.specs.declared.kind.Shape.TheVariants.{ModInt, ModPtr}
 use Rattle.ceal_base.specs.declared.typed.TypedExpr.{TypedExpr}
 use Rattle.ceal_base.specs.declared.typed.TypedStmt.{TypedStmt, Declare, Assign, Write, Call}
 use Rattle.ceal_base.specs.declared.typed.TypedValue.{TypedValue}
-use Rattle.ceal_base.specs.declared.typed.TypedValue.TheVariants.{Plain as PlainValue, Read as ReadValue, Alloc as AllocValue, ModrefInt as ModrefIntValue, Modref as ModrefValue}
+use Rattle.ceal_base.specs.declared.typed.TypedValue.TheVariants.{Plain as PlainValue, Read as ReadValue}
+use Rattle.ceal_base.specs.declared.typed.TypedValue.TheVariants.{Alloc as AllocValue, ModrefInt as ModrefIntValue}
+use Rattle.ceal_base.specs.declared.typed.TypedValue.TheVariants.{Modref as ModrefValue}
 use Rattle.ceal_code.specs.Program.{Unit, Code}
 use Rattle.ceal_code.specs.declared.command.Cmd.{Cmd}
 use Rattle.ceal_code.specs.declared.command.Cmd.TheVariants as command

@@ -2,7 +2,8 @@
 
 ghost use Rattle.std.specs.Prelude.{◌≡◌, ◌<◌, ◌+◌, ◌++◌, ◌∷◌, Some, length, reverse, IfOk, OnOk};
 ghost use Rattle.ceal_flow.specs.declared.block.GraphBlock.TheVariants.{Test};
-ghost use Rattle.ceal_norm.specs.Body.{onward, with_second, with_second_at, with_second_here, whole_body, next_pending, parts, AllBelow};
+ghost use Rattle.ceal_norm.specs.Body.{onward, with_second, with_second_at, with_second_here, whole_body, next_pending};
+ghost use Rattle.ceal_norm.specs.Body.{parts, AllBelow};
 ghost use Rattle.ceal_norm.specs.Table.{JumpsBelow};
 ghost use Rattle.ceal_norm.specs.Units.{stmt_code, block_code, tree};
 ghost use Rattle.ceal_code.specs.declared.command.Cmd.TheVariants as Cmd;

@@ -1,6 +1,7 @@
 // The entries of a graph: the blocks at which a unit begins.
 
-ghost use Rattle.std.specs.Prelude.{◌≡◌, ◌<◌, ◌==◌, ◌||◌, ◌&&◌, ◌+◌, ◌++◌, [], ◌∷◌, ℕ, false, length, nat_le, replicate, if◌then◌else◌, IfOk, OnOk};
+ghost use Rattle.std.specs.Prelude.{◌≡◌, ◌<◌, ◌==◌, ◌||◌, ◌&&◌, ◌+◌, ◌++◌, [], ◌∷◌, ℕ, false, length, nat_le};
+ghost use Rattle.std.specs.Prelude.{replicate, if◌then◌else◌, IfOk, OnOk};
 ghost use Rattle.ceal_flow.specs.Laws.{firsts};
 ghost use Rattle.ceal_flow.specs.Paths.{jumps};
 ghost use Rattle.ceal_flow.specs.Sets.{is_in};

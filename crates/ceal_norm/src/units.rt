@@ -1,6 +1,7 @@
 // The units of a graph.
 
-ghost use Rattle.std.specs.Prelude.{◌≡◌, ◌<◌, ◌++◌, ◌∷◌, [], length, slice_get, slice_index_or, if◌then◌else◌, Some, IfOk, OnOk};
+ghost use Rattle.std.specs.Prelude.{◌≡◌, ◌<◌, ◌++◌, ◌∷◌, [], length, slice_get, slice_index_or, if◌then◌else◌, Some};
+ghost use Rattle.std.specs.Prelude.{IfOk, OnOk};
 ghost use Rattle.ceal_norm.specs.Entries.{is_entry};
 ghost use Rattle.ceal_norm.specs.Units.{core_numbers, is_done, owner, unit_code, units_before, variables};
 

@@ -1,5 +1,6 @@
 -- Stamps as a list of links.
-use Rattle.std.specs.Prelude.{◌≡◌, ◌≢◌, ◌<◌, ◌≤◌, ◌^◌, ◌+◌, ℕ, List, [], ◌∷◌, ◌++◌, length, slice_index_or, suc, zero, ◌==◌, if◌then◌else◌}
+use Rattle.std.specs.Prelude.{◌≡◌, ◌≢◌, ◌<◌, ◌≤◌, ◌^◌, ◌+◌, ℕ, List, [], ◌∷◌, ◌++◌, length, slice_index_or, suc, zero}
+use Rattle.std.specs.Prelude.{◌==◌, if◌then◌else◌}
 use Rattle.ceal_order.specs.declared.link.Link.{Link}
 use Rattle.ceal_order.specs.Stamps.{Distinct, AllBelow}
 

@@ -1,6 +1,7 @@
 -- A list of distinct stamps, and what is asked of it (order maintenance: Dietz and Sleator, STOC 1987; Bender, Cole,
 -- Demaine, Farach-Colton and Zito, ESA 2002).
-use Rattle.std.specs.Prelude.{◌≡◌, ◌≢◌, ◌↔◌, ◌<◌, ℕ, ◌+◌, ◌^◌, List, [], ◌∷◌, length, Option, None, Some, Bool, true, false, ◌==◌, if◌then◌else◌}
+use Rattle.std.specs.Prelude.{◌≡◌, ◌≢◌, ◌↔◌, ◌<◌, ℕ, ◌+◌, ◌^◌, List, [], ◌∷◌, length, Option, None, Some, Bool, true}
+use Rattle.std.specs.Prelude.{false, ◌==◌, if◌then◌else◌}
 
 -- what a caller sees of an order: its stamps, the first one first, and how many may be inserted without taking memory
 pub record Listing : Type 0 where

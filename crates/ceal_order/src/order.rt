@@ -1,7 +1,9 @@
 // Stamps in an order.
 
-ghost use Rattle.std.specs.Prelude.{◌≡◌, ◌≢◌, ◌+◌, ◌<◌, ◌≤◌, ◌↔◌, [], ◌∷◌, length, max, false, Some, None, IfSome, IfNone, IfOk, OnOk, OnErr, IsTrue};
-ghost use Rattle.ceal_order.specs.Stamps.{is_in, head_of, IsOrder, place, successor, with_after, without, OneMore, room_beyond};
+ghost use Rattle.std.specs.Prelude.{◌≡◌, ◌≢◌, ◌+◌, ◌<◌, ◌≤◌, ◌↔◌, [], ◌∷◌, length, max, false, Some, None, IfSome};
+ghost use Rattle.std.specs.Prelude.{IfNone, IfOk, OnOk, OnErr, IsTrue};
+ghost use Rattle.ceal_order.specs.Stamps.{is_in, head_of, IsOrder, place, successor, with_after, without, OneMore};
+ghost use Rattle.ceal_order.specs.Stamps.{room_beyond};
 
 use crate::labels::fresh_label;
 use crate::link::{FIRST, Link, NO_LINK, add_spares, label_at, next_at, splice, unlink};

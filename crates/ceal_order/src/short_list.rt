@@ -1,6 +1,7 @@
 // Items of which there are mostly two at most.
 
-ghost use Rattle.std.specs.Prelude.{◌≡◌, ◌<◌, ◌≤◌, [], ◌∷◌, length, insert, remove, slice_index_or, IfOk, IfSome, IfNone, OnOk, OnErr, IsTrue};
+ghost use Rattle.std.specs.Prelude.{◌≡◌, ◌<◌, ◌≤◌, [], ◌∷◌, length, insert, remove, slice_index_or, IfOk, IfSome};
+ghost use Rattle.std.specs.Prelude.{IfNone, OnOk, OnErr, IsTrue};
 ghost use Rattle.ceal_order.specs.Stamps.{is_in};
 ghost use Rattle.ceal_order.specs.Rising.{numbers, count_before, IsRising, IsFirstAfter, NoneAfter};
 ghost use Rattle.ceal_order.specs.ShortList.{listed};

@@ -43,7 +43,12 @@ use Rattle.ceal_grammar.specs.declared.state.Typing.{Typing}
 use Rattle.ceal_grammar.specs.declared.state.Typing.TheVariants.{More as MoreType, Named as NamedType}
 use Rattle.ceal_grammar.specs.declared.state.Whole.{Whole}
 use Rattle.ceal_grammar.specs.Trees.{row_form}
-use Rattle.ceal_grammar.specs.Machine.{same_sign, same_word, is_sign, is_word, wants, operator_of, at_name, reduced, within, placed, with_statement, received, closes, at_sign_after, accesses, at_index, at_after, at_element, at_place, type_starts, at_type, block_closed, opened_by, at_body, typed, chained_in, moved, begun_type, widened, is_cell, length_of, at_length, length_item, struct_item, at_struct, with_member, body_of, at_head, at_top, step, item_of}
+use Rattle.ceal_grammar.specs.Machine.{same_sign, same_word, is_sign, is_word, wants, operator_of, at_name, reduced}
+use Rattle.ceal_grammar.specs.Machine.{within, placed, with_statement, received, closes, at_sign_after, accesses}
+use Rattle.ceal_grammar.specs.Machine.{at_index, at_after, at_element, at_place, type_starts, at_type, block_closed}
+use Rattle.ceal_grammar.specs.Machine.{opened_by, at_body, typed, chained_in, moved, begun_type, widened, is_cell}
+use Rattle.ceal_grammar.specs.Machine.{length_of, at_length, length_item, struct_item, at_struct, with_member, body_of}
+use Rattle.ceal_grammar.specs.Machine.{at_head, at_top, step, item_of}
 use Rattle.ceal_grammar.proofs.Viable.{wanted, got}
 use Rattle.ceal_parse.specs.Reading.{fields_with, PlaceFits, Fits}
 

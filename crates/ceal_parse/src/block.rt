@@ -1,7 +1,8 @@
 // Blocks: where one opens, what follows a statement in it, and where it closes.
 
 ghost use Rattle.std.specs.Prelude.{◌≡◌, ◌∷◌, ◌<◌, ◌^◌, [], Some, true, IfOk};
-ghost use Rattle.ceal_grammar.specs.Machine.{with_statement, owned, block_closed, chained_in, at_body, at_ends, at_opens, at_closed, at_otherwise};
+ghost use Rattle.ceal_grammar.specs.Machine.{with_statement, owned, block_closed, chained_in, at_body, at_ends};
+ghost use Rattle.ceal_grammar.specs.Machine.{at_opens, at_closed, at_otherwise};
 ghost use Rattle.ceal_parse.specs.Reading.{is_name, turn_state};
 
 use crate::head::no_head;

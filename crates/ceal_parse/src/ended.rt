@@ -1,7 +1,8 @@
 // The end of a whole expression: what was read for it continues after the sign that ends it.
 
 ghost use Rattle.std.specs.Prelude.{◌≡◌, ◌∷◌, ◌++◌, ◌<◌, [], true, IfOk};
-ghost use Rattle.ceal_grammar.specs.Machine.{same_sign as same_signs, wants, placed, given, begun, ends_at, at_argument, received};
+ghost use Rattle.ceal_grammar.specs.Machine.{same_sign as same_signs, wants, placed, given, begun, ends_at};
+ghost use Rattle.ceal_grammar.specs.Machine.{at_argument, received};
 ghost use Rattle.ceal_parse.specs.Reading.{is_plain, mode_ended, turn_state};
 
 use crate::expression::begin;

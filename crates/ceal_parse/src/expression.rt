@@ -1,8 +1,11 @@
 // Whole expressions. A `take_..` takes one token: it moves the place within the expression, or answers that no program
 // continues this way.
 
-ghost use Rattle.std.specs.Prelude.{◌≡◌, ◌∷◌, ◌<◌, ◌^◌, Some, None, false, true, IsTrue, IfOk, IfSome, MatchOption, if◌then◌else◌};
-ghost use Rattle.ceal_grammar.specs.Machine.{element_of, begun, reduced, same_sign as same_signs, wants, within, operator_of, closes, at_operand, at_sign_after, at_index, at_after, at_element, at_place, placed};
+ghost use Rattle.std.specs.Prelude.{◌≡◌, ◌∷◌, ◌<◌, ◌^◌, Some, None, false, true, IsTrue, IfOk, IfSome, MatchOption};
+ghost use Rattle.std.specs.Prelude.{if◌then◌else◌};
+ghost use Rattle.ceal_grammar.specs.Machine.{element_of, begun, reduced, same_sign as same_signs, wants, within};
+ghost use Rattle.ceal_grammar.specs.Machine.{operator_of, closes, at_operand, at_sign_after, at_index, at_after};
+ghost use Rattle.ceal_grammar.specs.Machine.{at_element, at_place, placed};
 ghost use Rattle.ceal_grammar.specs.declared.state.Frame.TheVariants.{Address};
 ghost use Rattle.ceal_grammar.specs.declared.state.Inside.{Inside};
 ghost use Rattle.ceal_grammar.specs.declared.state.Piece.{Piece as PieceOf};

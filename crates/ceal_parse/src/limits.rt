@@ -1,7 +1,10 @@
 // What the limits count, at a state.
 
 ghost use Rattle.std.specs.Prelude.{◌≡◌, ◌<◌, ◌^◌, if◌then◌else◌};
-ghost use Rattle.ceal_grammar.specs.Machine.{is_sign as is_sign_kind, making_nesting, mode_nesting, struct_nesting, head_nesting, nesting_of, operators_in, operators_of, argument_number, argument_begun, place_item, mode_item, length_of, length_item, struct_item, head_item, item_of};
+ghost use Rattle.ceal_grammar.specs.Machine.{is_sign as is_sign_kind, making_nesting, mode_nesting, struct_nesting};
+ghost use Rattle.ceal_grammar.specs.Machine.{head_nesting, nesting_of, operators_in, operators_of, argument_number};
+ghost use Rattle.ceal_grammar.specs.Machine.{argument_begun, place_item, mode_item, length_of, length_item};
+ghost use Rattle.ceal_grammar.specs.Machine.{struct_item, head_item, item_of};
 
 use crate::marks::{is_sign, length};
 use ceal_grammar::state::{

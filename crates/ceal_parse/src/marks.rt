@@ -1,7 +1,8 @@
 // What a token is, and which operator a sign is.
 
 ghost use Rattle.std.specs.Prelude.{◌≡◌, ◌<◌, ◌^◌, IfSome};
-ghost use Rattle.ceal_grammar.specs.Machine.{same_sign as same_signs, same_word as same_words, is_sign as is_sign_kind, is_word as is_word_kind, operator_of, length_of, ident_of};
+ghost use Rattle.ceal_grammar.specs.Machine.{same_sign as same_signs, same_word as same_words, is_sign as is_sign_kind};
+ghost use Rattle.ceal_grammar.specs.Machine.{is_word as is_word_kind, operator_of, length_of, ident_of};
 
 use ceal_base::operators::Binary;
 use ceal_base::syntax::Ident;

@@ -2,7 +2,8 @@
 // (operator precedence; Floyd, JACM 1963).
 
 ghost use Rattle.std.specs.Prelude.{◌≡◌, ◌∷◌, ◌<◌, ◌^◌, Some, None, IfOk};
-ghost use Rattle.ceal_grammar.specs.Machine.{single as single_piece, prefixed, addressed, element_of, joined, accessed, operated, reduced};
+ghost use Rattle.ceal_grammar.specs.Machine.{single as single_piece, prefixed, addressed, element_of, joined, accessed};
+ghost use Rattle.ceal_grammar.specs.Machine.{operated, reduced};
 ghost use Rattle.ceal_grammar.specs.declared.state.Frame.TheVariants.{Address};
 
 use crate::marks::operator;

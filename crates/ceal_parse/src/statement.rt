@@ -3,7 +3,10 @@
 
 ghost use Rattle.std.specs.Prelude.{◌≡◌, ◌∷◌, ◌<◌, ◌^◌, [], IfOk};
 ghost use Rattle.ceal_base.specs.declared.syntax.Stmt.TheViews.{If};
-ghost use Rattle.ceal_grammar.specs.Machine.{placed, begun, at_operand, type_begin, wrapped, with_statement, ends_at, opened_by, at_word, at_statement, at_typing, at_declared, at_owned, at_path, at_calls, at_before, at_named, at_reached, at_first, path_of, field_of};
+ghost use Rattle.ceal_grammar.specs.Machine.{placed, begun, at_operand, type_begin, wrapped, with_statement, ends_at};
+ghost use Rattle.ceal_grammar.specs.Machine.{opened_by, at_word, at_statement, at_typing, at_declared, at_owned};
+ghost use Rattle.ceal_grammar.specs.Machine.{at_path, at_calls, at_before, at_named, at_reached, at_first, path_of};
+ghost use Rattle.ceal_grammar.specs.Machine.{field_of};
 ghost use Rattle.ceal_parse.specs.Reading.{turn_state};
 
 use crate::expression::{begin, take_whole};

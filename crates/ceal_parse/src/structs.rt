@@ -3,7 +3,8 @@
 
 ghost use Rattle.std.specs.Prelude.{◌≡◌, ◌≤◌, List, false, true, IfOk};
 ghost use Rattle.ceal_base.specs.declared.syntax.Entry.{Entry as EntryOf};
-ghost use Rattle.ceal_grammar.specs.Machine.{at_struct, at_member, at_member_end, at_length, at_sized, widened, with_member, is_cell, length_of, wants};
+ghost use Rattle.ceal_grammar.specs.Machine.{at_struct, at_member, at_member_end, at_length, at_sized, widened};
+ghost use Rattle.ceal_grammar.specs.Machine.{with_member, is_cell, length_of, wants};
 ghost use Rattle.ceal_grammar.specs.Trees.{row_form};
 ghost use Rattle.ceal_parse.specs.Reading.{is_closed, PlaceFits};
 

@@ -8,7 +8,10 @@ use Rattle.ceal_lex.specs.declared.token.Reserved.TheVariants as Words
 use Rattle.ceal_lex.specs.declared.token.Sign.TheVariants as Signs
 use Rattle.ceal_lex.specs.declared.token.TokenKind.{TokenKind}
 use Rattle.ceal_lex.specs.declared.token.TokenKind.TheVariants.{Name, Number, Reserved, Sign, End}
-use Rattle.ceal_grammar.specs.Grammar.{Written, int, pointer, mod_int, mod_pointer, cell_int, cell_pointer, Allowed, Parameter, Parameters, no_parameters, parameters, core, init, Size, single, row, Member, Part, structure, function, Program, MoreProper, ParametersProper, IsCell, SizeProper, MembersProper, PartProper, PartsProper}
+use Rattle.ceal_grammar.specs.Grammar.{Written, int, pointer, mod_int, mod_pointer, cell_int, cell_pointer, Allowed}
+use Rattle.ceal_grammar.specs.Grammar.{Parameter, Parameters, no_parameters, parameters, core, init, Size, single, row}
+use Rattle.ceal_grammar.specs.Grammar.{Member, Part, structure, function, Program, MoreProper, ParametersProper, IsCell}
+use Rattle.ceal_grammar.specs.Grammar.{SizeProper, MembersProper, PartProper, PartsProper}
 use Rattle.ceal_print.specs.Print.{nowhere, bare_name, bare_type, bare_field, bare_fields, bare_entry, bare_entries, bare_tree}
 use Rattle.ceal_print.specs.PrintWords.{type_kinds, row_length_kinds, size_kinds, braced, stmts_kinds, field_kinds, other_kinds, parameter_kinds, member_kinds, entry_kinds, entries_kinds, tree_kinds}
 use Rattle.ceal_grammar.specs.Spelled.{Mark, spelled_parameter, spelled_others, spelled_parameters, counted, spelled_size, spelled_members, spelled_part, spelled_parts, spelled_program, tokens_of}

@@ -12,10 +12,18 @@ use Rattle.ceal_lex.specs.declared.token.Sign.TheVariants as Signs
 use Rattle.ceal_lex.specs.declared.token.Token.{Token}
 use Rattle.ceal_lex.specs.declared.token.TokenKind.{TokenKind}
 use Rattle.ceal_lex.specs.declared.token.TokenKind.TheVariants.{Name, Reserved, Sign}
-use Rattle.ceal_grammar.specs.Grammar.{Phrase, variable, own, arrow, level_of, Grouped, IsPath, Written, int, pointer, mod_int, mod_pointer, cell_int, cell_pointer, Allowed, IsCell, Arguments, no_arguments, arguments, AllGrouped, ArgumentsGrouped, Given, plainly, reading, allocation, modref_int, modref, GivenGrouped, Statement, declare, assign, set, store, call, branch, loop, exit, break, continue, Branch, when, Otherwise, nothing, otherwise, chained, Block, block, Statements, ended, followed, StatementProper, BranchProper, OtherwiseProper, BlockProper, StatementsProper}
+use Rattle.ceal_grammar.specs.Grammar.{Phrase, variable, own, arrow, level_of, Grouped, IsPath, Written, int, pointer}
+use Rattle.ceal_grammar.specs.Grammar.{mod_int, mod_pointer, cell_int, cell_pointer, Allowed, IsCell, Arguments}
+use Rattle.ceal_grammar.specs.Grammar.{no_arguments, arguments, AllGrouped, ArgumentsGrouped, Given, plainly, reading}
+use Rattle.ceal_grammar.specs.Grammar.{allocation, modref_int, modref, GivenGrouped, Statement, declare, assign, set}
+use Rattle.ceal_grammar.specs.Grammar.{store, call, branch, loop, exit, break, continue, Branch, when, Otherwise}
+use Rattle.ceal_grammar.specs.Grammar.{nothing, otherwise, chained, Block, block, Statements, ended, followed}
+use Rattle.ceal_grammar.specs.Grammar.{StatementProper, BranchProper, OtherwiseProper, BlockProper, StatementsProper}
 use Rattle.ceal_print.specs.Print.{nowhere, bare_name, bare_expr, bare_exprs, bare_type, bare_value, bare_stmt, bare_stmt_row, bare_stmts}
 use Rattle.ceal_print.specs.PrintWords.{expr_kinds, more_kinds, argument_kinds, type_kinds, value_kinds, is_branch, is_chain, braced, after_else, stmt_kinds, stmts_kinds, second_kinds}
-use Rattle.ceal_grammar.specs.Spelled.{Mark, plain, spelled, spelled_type, spelled_more, spelled_arguments, spelled_given, spelled_statement, spelled_branch, spelled_otherwise, spelled_block, spelled_statements}
+use Rattle.ceal_grammar.specs.Spelled.{Mark, plain, spelled, spelled_type, spelled_more, spelled_arguments}
+use Rattle.ceal_grammar.specs.Spelled.{spelled_given, spelled_statement, spelled_branch, spelled_otherwise}
+use Rattle.ceal_grammar.specs.Spelled.{spelled_block, spelled_statements}
 use Rattle.ceal_grammar.specs.Trees.{expression, first, type_form, expressions, argument_trees, value_tree, statement_tree, branch_tree, otherwise_trees, block_trees, statement_trees}
 use Rattle.ceal_print.proofs.PrintMarks.{Thinner, kept, same, dropped}
 use Rattle.ceal_print.proofs.PrintPhrase.{spanned, placed, Printed, printed}

@@ -25,7 +25,11 @@ use Rattle.ceal_lex.specs.declared.token.TokenKind.TheVariants.{Name, Number, Re
 use Rattle.ceal_lex.specs.Spelling.{sign_text}
 use Rattle.ceal_grammar.specs.Grammar.{level}
 use Rattle.ceal_grammar.specs.Spelled.{sign_of, prefix_sign}
-use Rattle.ceal_print.specs.PrintWords.{kind_text, gap, sign_gap, texts, form_level, raised, form_kinds, expr_kinds, more_kinds, argument_kinds, type_kinds, row_length_kinds, size_kinds, value_kinds, braced, after_else, stmt_kinds, row_kinds, else_kinds, stmts_kinds, second_kinds, field_kinds, other_kinds, parameter_kinds, member_kinds, entry_kinds, entries_kinds}
+use Rattle.ceal_print.specs.PrintWords.{kind_text, gap, sign_gap, texts, form_level, raised, form_kinds, expr_kinds}
+use Rattle.ceal_print.specs.PrintWords.{more_kinds, argument_kinds, type_kinds, row_length_kinds, size_kinds}
+use Rattle.ceal_print.specs.PrintWords.{value_kinds, braced, after_else, stmt_kinds, row_kinds, else_kinds, stmts_kinds}
+use Rattle.ceal_print.specs.PrintWords.{second_kinds, field_kinds, other_kinds, parameter_kinds, member_kinds}
+use Rattle.ceal_print.specs.PrintWords.{entry_kinds, entries_kinds}
 
 -- one list of tokens after another
 pub texts-nil : texts [] ≡ []

@@ -1,7 +1,8 @@
 // Structs and functions of a text.
 
 ghost use Rattle.std.specs.Prelude.{◌≡◌, ◌++◌, ◌∷◌, [], codes, IfOk};
-ghost use Rattle.ceal_print.specs.PrintWords.{texts, field_kinds, other_kinds, parameter_kinds, member_kinds, head_kinds, entry_kinds, entries_kinds};
+ghost use Rattle.ceal_print.specs.PrintWords.{texts, field_kinds, other_kinds, parameter_kinds, member_kinds};
+ghost use Rattle.ceal_print.specs.PrintWords.{head_kinds, entry_kinds, entries_kinds};
 
 use crate::expressions::{put_size, put_type};
 use crate::statements::put_block;

@@ -2,7 +2,8 @@
 
 ghost use Rattle.std.specs.Prelude.{◌≡◌, ◌++◌, ◌∷◌, [], codes, IfOk};
 ghost use Rattle.ceal_lex.specs.declared.token.TokenKind.TheVariants.{Name};
-ghost use Rattle.ceal_print.specs.PrintWords.{texts, expr_kinds, form_level, raised, more_kinds, argument_kinds, type_kinds, size_kinds, value_kinds};
+ghost use Rattle.ceal_print.specs.PrintWords.{texts, expr_kinds, form_level, raised, more_kinds, argument_kinds};
+ghost use Rattle.ceal_print.specs.PrintWords.{type_kinds, size_kinds, value_kinds};
 
 use crate::text::{put_binary, put_length, put_name, put_named, put_number, put_unary};
 use ceal_base::no_memory::NoMemory;

@@ -2,7 +2,8 @@
 
 ghost use Rattle.std.specs.Prelude.{◌≡◌, ◌++◌, ◌∷◌, [], codes, if◌then◌else◌, IfOk};
 ghost use Rattle.ceal_lex.specs.declared.token.TokenKind.TheVariants.{Name};
-ghost use Rattle.ceal_print.specs.PrintWords.{texts, value_kinds, is_branch, is_chain, braced, stmt_kinds, stmts_kinds, second_kinds};
+ghost use Rattle.ceal_print.specs.PrintWords.{texts, value_kinds, is_branch, is_chain, braced, stmt_kinds, stmts_kinds};
+ghost use Rattle.ceal_print.specs.PrintWords.{second_kinds};
 
 use crate::expressions::{put_applied, put_expr, put_type, put_value, put_within};
 use crate::text::{put_name, put_named};

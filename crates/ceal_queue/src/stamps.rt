@@ -1,6 +1,7 @@
 // Stamps in a list that has room for more.
 
-ghost use Rattle.std.specs.Prelude.{◌≡◌, ◌<◌, ◌≤◌, [], false, length, insert, remove, slice_index_or, option_map, vec_capacity, IfSome, IfOk, IfErr, OnOk, IsTrue};
+ghost use Rattle.std.specs.Prelude.{◌≡◌, ◌<◌, ◌≤◌, [], false, length, insert, remove, slice_index_or, option_map};
+ghost use Rattle.std.specs.Prelude.{vec_capacity, IfSome, IfOk, IfErr, OnOk, IsTrue};
 ghost use Rattle.ceal_order.specs.Stamps.{is_in, head_of, place};
 ghost use Rattle.ceal_order.specs.Rising.{numbers, count_before, IsRising};
 ghost use Rattle.ceal_order.specs.declared.stamp.Stamp.{Stamp as StampOf};

@@ -9,7 +9,9 @@ use Rattle.ceal_base.specs.Digits.{number_of}
 use Rattle.ceal_script.specs.Characters.{is_gap}
 use Rattle.ceal_script.specs.Keywords.{keyword_text}
 use Rattle.ceal_script.specs.Lines.{is_comment, Says, IsLineOf}
-use Rattle.ceal_script.specs.Spelling.{DOT, MINUS, are_digits, is_identifier, IsIdentifier, is_name, IsName, IsTextOf, IsField, SpellsKind, SpellsPositive, SpellsNegative, SpellsNumber, SpellsPlace, SpellsReads, SpellsValue}
+use Rattle.ceal_script.specs.Spelling.{DOT, MINUS, are_digits, is_identifier, IsIdentifier, is_name, IsName, IsTextOf}
+use Rattle.ceal_script.specs.Spelling.{IsField, SpellsKind, SpellsPositive, SpellsNegative, SpellsNumber, SpellsPlace}
+use Rattle.ceal_script.specs.Spelling.{SpellsReads, SpellsValue}
 use Rattle.ceal_script.specs.Words.{IsWord, HasWord, HasWords}
 use Rattle.ceal_script.specs.declared.command.Command.{Command}
 use Rattle.ceal_script.specs.declared.command.Command.TheVariants.{Blank, Mod, New, Set, Run, Propagate, Slice, Get, Show, Blocks, Steps, Work, Bound}

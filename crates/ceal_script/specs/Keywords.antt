@@ -1,7 +1,8 @@
 -- The words that commands begin with.
 use Rattle.std.specs.Prelude.{ℕ, List, codes}
 use Rattle.ceal_script.specs.declared.keyword.Keyword.{Keyword}
-use Rattle.ceal_script.specs.declared.keyword.Keyword.TheVariants.{Mod, New, Set, Run, Propagate, Get, Show, Blocks, Steps, Work, Bound}
+use Rattle.ceal_script.specs.declared.keyword.Keyword.TheVariants.{Mod, New, Set, Run, Propagate, Get, Show, Blocks}
+use Rattle.ceal_script.specs.declared.keyword.Keyword.TheVariants.{Steps, Work, Bound}
 
 -- how a keyword is spelled
 abbrev pub keyword_text : Keyword → List ℕ

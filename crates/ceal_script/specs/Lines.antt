@@ -4,7 +4,8 @@ use Rattle.std.specs.List.{AllZip}
 use Rattle.ceal_script.specs.Spelling.{IsIdentifier, IsName, SpellsKind, SpellsPlace, SpellsReads, SpellsValue}
 use Rattle.ceal_script.specs.Words.{HasWords}
 use Rattle.ceal_script.specs.declared.command.Command.{Command}
-use Rattle.ceal_script.specs.declared.command.Command.TheVariants.{Blank, Mod, New, Set, Run, Propagate, Slice, Get, Show, Blocks, Steps, Work, Bound}
+use Rattle.ceal_script.specs.declared.command.Command.TheVariants.{Blank, Mod, New, Set, Run, Propagate, Slice, Get}
+use Rattle.ceal_script.specs.declared.command.Command.TheVariants.{Show, Blocks, Steps, Work, Bound}
 
 abbrev pub SLASH : ℕ
 SLASH = 47

@@ -1,5 +1,6 @@
 -- What a word of a line spells.
-use Rattle.std.specs.Prelude.{◌≡◌, ◌≢◌, ℕ, Bool, false, not, ◌&&◌, bytes_eq, ◌^◌, ◌<◌, ◌≤◌, ℤ, pos, neg_ℤ, ◌⊎◌, Option, Some, None, List, [], ◌∷◌, ◌++◌, length, IsTrue, codes}
+use Rattle.std.specs.Prelude.{◌≡◌, ◌≢◌, ℕ, Bool, false, not, ◌&&◌, bytes_eq, ◌^◌, ◌<◌, ◌≤◌, ℤ, pos, neg_ℤ, ◌⊎◌, Option}
+use Rattle.std.specs.Prelude.{Some, None, List, [], ◌∷◌, ◌++◌, length, IsTrue, codes}
 use Rattle.std.specs.Fmt.{decimal}
 use Rattle.std.specs.List.{list_all}
 use Rattle.ceal_base.specs.Digits.{is_digit, number_of}

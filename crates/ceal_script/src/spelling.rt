@@ -5,7 +5,8 @@ ghost use Rattle.std.specs.List.{list_all, AllZip};
 ghost use Rattle.ceal_script.specs.Answers.{Reads};
 ghost use Rattle.ceal_script.specs.Characters as characters;
 ghost use Rattle.ceal_script.specs.Spelling as spelling;
-ghost use Rattle.ceal_script.specs.Spelling.{DOT, OPENING_BRACKET, IsElement, IsField, IsIdentifier, IsName, SpellsKind, SpellsPlace, SpellsValue, IsTextOf};
+ghost use Rattle.ceal_script.specs.Spelling.{DOT, OPENING_BRACKET, IsElement, IsField, IsIdentifier, IsName};
+ghost use Rattle.ceal_script.specs.Spelling.{SpellsKind, SpellsPlace, SpellsValue, IsTextOf};
 ghost use Rattle.ceal_script.specs.Words.{texts};
 
 use crate::bytes::{is_letter, is_name_byte};

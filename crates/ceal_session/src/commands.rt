@@ -6,8 +6,10 @@ ghost use Rattle.ceal_session.specs.Asking.{HasReads};
 ghost use Rattle.ceal_session.specs.Following.{Keeps, Goes, IsLeftBy};
 ghost use Rattle.ceal_session.specs.Keeping.{situation};
 ghost use Rattle.ceal_session.specs.Naming.{IsNamed};
-ghost use Rattle.ceal_session.specs.Senses.{mod_shape as shape_of_mod, struct_shape as shape_of_struct, struct_named, function_named, value_sense as sense_of_value};
-ghost use Rattle.ceal_session.specs.Steps.{IsQuiet, IsFirst, runs, runs_part, called, called_again, call_of, reads_of, made_of, answered};
+ghost use Rattle.ceal_session.specs.Senses.{mod_shape as shape_of_mod, struct_shape as shape_of_struct, struct_named};
+ghost use Rattle.ceal_session.specs.Senses.{function_named, value_sense as sense_of_value};
+ghost use Rattle.ceal_session.specs.Steps.{IsQuiet, IsFirst, runs, runs_part, called, called_again, call_of, reads_of};
+ghost use Rattle.ceal_session.specs.Steps.{made_of, answered};
 ghost use Rattle.ceal_theory.specs.Pasts.{goes};
 
 use crate::refusal::Refusal;

@@ -1,7 +1,8 @@
 // The laws of replies, each the contract of a function that does nothing but call the laws on which it rests.
 
 ghost use Rattle.ceal_session.specs.Bounded.{BoundedLaw};
-ghost use Rattle.ceal_session.specs.Laws.{OneCommandLaw, OneAnswerLaw, OneReplyLaw, OneStateLaw, OneScriptLaw, JoinedLaw, BegunLaw, SomeReplyLaw, SomeScriptLaw, DroppedLaw, KeptLaw};
+ghost use Rattle.ceal_session.specs.Laws.{OneCommandLaw, OneAnswerLaw, OneReplyLaw, OneStateLaw, OneScriptLaw};
+ghost use Rattle.ceal_session.specs.Laws.{JoinedLaw, BegunLaw, SomeReplyLaw, SomeScriptLaw, DroppedLaw, KeptLaw};
 ghost use Rattle.ceal_session.specs.Entries.{EntriesLaw, OneTextLaw};
 ghost use Rattle.ceal_session.specs.Saves.{AlikeLaw, HeldLaw, OneSavedLaw, ResavedLaw, ResumedLaw, SavedLaw};
 ghost use Rattle.ceal_session.specs.Strangers.{StrangerLaw};

@@ -2,7 +2,12 @@
 
 ghost use Rattle.std.specs.Prelude.{◌≡◌, map, IfOk, slice_get};
 ghost use Rattle.std.specs.List.{list_any};
-ghost use Rattle.ceal_session.specs.Senses.{modifiable as modifiable_sense, shape_at, fields_of, block_sense, kind_sense, field_sense, member_sense, part_sense, input_sense, found_sense, place_sense as sense_of_place, value_sense as sense_of_value, is_unknown as is_unknown_sense, words_of as words_of_senses, mod_shape as shape_of_mod, pointer_shape as shape_of_pointer, struct_named, struct_shape as shape_of_struct, field_named};
+ghost use Rattle.ceal_session.specs.Senses.{modifiable as modifiable_sense, shape_at, fields_of, block_sense};
+ghost use Rattle.ceal_session.specs.Senses.{kind_sense, field_sense, member_sense, part_sense, input_sense};
+ghost use Rattle.ceal_session.specs.Senses.{found_sense, place_sense as sense_of_place, value_sense as sense_of_value};
+ghost use Rattle.ceal_session.specs.Senses.{is_unknown as is_unknown_sense, words_of as words_of_senses};
+ghost use Rattle.ceal_session.specs.Senses.{mod_shape as shape_of_mod, pointer_shape as shape_of_pointer, struct_named};
+ghost use Rattle.ceal_session.specs.Senses.{struct_shape as shape_of_struct, field_named};
 
 use crate::numbers::field_number;
 use crate::sense::Sense;

@@ -1,6 +1,7 @@
 // The state between two lines.
 
-ghost use Rattle.std.specs.Prelude.{◌≡◌, ◌≢◌, ◌≤◌, ◌<◌, true, false, Some, None, Ok as OkOf, length, is_some, bytes_eq, IfOk, IfSome, OnOk, OnErr};
+ghost use Rattle.std.specs.Prelude.{◌≡◌, ◌≢◌, ◌≤◌, ◌<◌, true, false, Some, None, Ok as OkOf, length, is_some, bytes_eq};
+ghost use Rattle.std.specs.Prelude.{IfOk, IfSome, OnOk, OnErr};
 ghost use Rattle.std.specs.List.{list_any};
 ghost use Rattle.ceal_base.specs.Fitting.{block_fits, kind_at};
 ghost use Rattle.ceal_compile.specs.Compiled.{IsCompiled};
@@ -13,7 +14,8 @@ ghost use Rattle.ceal_session.specs.Keeping.{situation, held_of, Holds};
 ghost use Rattle.ceal_session.specs.Naming.{AreSpelled};
 ghost use Rattle.ceal_session.specs.Runs.{memory_of};
 ghost use Rattle.ceal_session.specs.Senses.{input_named, struct_named, function_named};
-ghost use Rattle.ceal_session.specs.Steps.{IsFirst, with_input, with_base, block_of, fits_cell, has_no_run, runs, runs_part, called_again};
+ghost use Rattle.ceal_session.specs.Steps.{IsFirst, with_input, with_base, block_of, fits_cell, has_no_run, runs};
+ghost use Rattle.ceal_session.specs.Steps.{runs_part, called_again};
 ghost use Rattle.ceal_session.specs.Standing.{HasTrace};
 ghost use Rattle.ceal_theory.specs.Pasts.{goes};
 

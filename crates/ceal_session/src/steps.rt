@@ -7,7 +7,9 @@ ghost use Rattle.ceal_session.specs.Asking.{IsCellOf, IsCellSense};
 ghost use Rattle.ceal_session.specs.Following.{Keeps};
 ghost use Rattle.ceal_session.specs.Keeping.{situation};
 ghost use Rattle.ceal_session.specs.Senses.{function_named};
-ghost use Rattle.ceal_session.specs.Steps.{IsQuiet, made, made_of, made_with, set as set_of, set_base as based, fits_function, called_with, called_function, called as called_of, asked, has_no_run, got, shown as shown_of, fits_cell};
+ghost use Rattle.ceal_session.specs.Steps.{IsQuiet, made, made_of, made_with, set as set_of, set_base as based};
+ghost use Rattle.ceal_session.specs.Steps.{fits_function, called_with, called_function, called as called_of, asked};
+ghost use Rattle.ceal_session.specs.Steps.{has_no_run, got, shown as shown_of, fits_cell};
 
 use crate::refusal::Refusal;
 use crate::reply::{Query, Reply};

@@ -1,7 +1,8 @@
 // The line of a block.
 
 ghost use Rattle.std.specs.Prelude.{◌≡◌, ◌++◌, ℕ, Some, IsSome, IsTrue, IfOk, slice_get};
-ghost use Rattle.ceal_show.specs.Graph.{Scene, struct_name, kind_text, field_name, field_in, label_text, suffix_text, word_text, field_word_text, fields_text, block_text, lines_text};
+ghost use Rattle.ceal_show.specs.Graph.{Scene, struct_name, kind_text, field_name, field_in, label_text, suffix_text};
+ghost use Rattle.ceal_show.specs.Graph.{word_text, field_word_text, fields_text, block_text, lines_text};
 ghost use Rattle.ceal_show.specs.Paths.{is_in};
 ghost use Rattle.ceal_show.specs.Search.{AreAmong, AreClosed};
 ghost use Rattle.ceal_show.specs.Shown.{IsThere, IsWhole, shape_at, words_at, target};

@@ -18,7 +18,10 @@ use Rattle.ceal_base.specs.declared.word.BlockId.TheVariants.{Input, Core}
 use Rattle.ceal_base.specs.declared.word.Place.{Place}
 use Rattle.ceal_base.specs.declared.word.Word.{Word}
 use Rattle.ceal_base.specs.declared.word.Word.TheVariants.{Num, Null, Block as BlockWord, At}
-use Rattle.ceal_dump.specs.DumpText.{block_text, place_text, word_text, words_text, shape_text, block_line, block_lines, key_text, item_line, item_lines, inputs_text, call_text, trace_text, memory_text, dump_text, HasDump, Small, SmallBlock, SmallPlace, SmallWord, SmallWords, SmallShape, SmallBlocks, SmallKey, SmallItem, SmallItems, InRange}
+use Rattle.ceal_dump.specs.DumpText.{block_text, place_text, word_text, words_text, shape_text, block_line, block_lines}
+use Rattle.ceal_dump.specs.DumpText.{key_text, item_line, item_lines, inputs_text, call_text, trace_text, memory_text}
+use Rattle.ceal_dump.specs.DumpText.{dump_text, HasDump, Small, SmallBlock, SmallPlace, SmallWord, SmallWords}
+use Rattle.ceal_dump.specs.DumpText.{SmallShape, SmallBlocks, SmallKey, SmallItem, SmallItems, InRange}
 use Rattle.ceal_script.specs.Characters.{is_letter, is_name_byte}
 use Rattle.ceal_script.specs.Spelling.{is_identifier, IsName}
 use Rattle.ceal_snap.proofs.ReadBack.{name-bytes}

@@ -26,7 +26,8 @@ use Rattle.ceal_theory.specs.Repair.{State, clears, puts, works, grows, resumed}
 use Rattle.ceal_theory.specs.SliceLaws.{unit_alone}
 use Rattle.ceal_theory.specs.Slices.{Repair, starting, repair_at, Slices, sliced, Sound}
 use Rattle.ceal_theory.specs.Take.{TakenAlloc, TakenRead, take_alloc, take_read}
-use Rattle.ceal_theory.specs.Turns.{Mode, Fixing, Running, Frames, Bottom, AfterFix, AfterMend, AfterRun, Machine, Ended, turn, Finishes, Leads}
+use Rattle.ceal_theory.specs.Turns.{Mode, Fixing, Running, Frames, Bottom, AfterFix, AfterMend, AfterRun, Machine}
+use Rattle.ceal_theory.specs.Turns.{Ended, turn, Finishes, Leads}
 use Rattle.ceal_theory.specs.Walk.{with_store, store_after, AgreesAll}
 
 -- what waits for the end of a read: kept items around it, a stack with the old items after it, or a stack

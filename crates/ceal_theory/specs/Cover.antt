@@ -1,5 +1,6 @@
 -- What the queue of a repair in progress has to hold, over the items in the order of time, each with its stamp.
-use Rattle.std.specs.Prelude.{◌≡◌, ℕ, ◌==◌, ◌||◌, Bool, true, false, if◌then◌else◌, Option, Some, None, List, [], ◌∷◌, ◌++◌, ◌⊎◌, ⊤}
+use Rattle.std.specs.Prelude.{◌≡◌, ℕ, ◌==◌, ◌||◌, Bool, true, false, if◌then◌else◌, Option, Some, None, List, [], ◌∷◌}
+use Rattle.std.specs.Prelude.{◌++◌, ◌⊎◌, ⊤}
 use Rattle.ceal_base.specs.Operators.{same_place}
 use Rattle.ceal_base.specs.Trace.{Trace, Stepped, Allocated, Wrote, WasRead, flat}
 use Rattle.ceal_base.specs.declared.forest.Item.{Item}

@@ -13,9 +13,11 @@ use Rattle.ceal_code.specs.Init.{pointer}
 use Rattle.ceal_code.specs.Program.{Code}
 use Rattle.ceal_code.specs.Step.{Stack, Run, Over, Quiet, Makes, Writes, Reads, next}
 use Rattle.ceal_code.specs.Value.{Variables, set}
-use Rattle.ceal_theory.specs.Levels.{first, around, levels, loose, beyond, skipped, FoundAlloc, find_alloc, FoundRead, find_read}
+use Rattle.ceal_theory.specs.Levels.{first, around, levels, loose, beyond, skipped, FoundAlloc, find_alloc, FoundRead}
+use Rattle.ceal_theory.specs.Levels.{find_read}
 use Rattle.ceal_theory.specs.Repair.{State, clears, puts, works, grows, resumed}
-use Rattle.ceal_theory.specs.Turns.{Machine, Fixing, Running, Frames, Bottom, AfterFix, AfterMend, AfterRun, Ended, turn, Leads}
+use Rattle.ceal_theory.specs.Turns.{Machine, Fixing, Running, Frames, Bottom, AfterFix, AfterMend, AfterRun, Ended}
+use Rattle.ceal_theory.specs.Turns.{turn, Leads}
 use Rattle.ceal_theory.specs.Walk.{store_after, AgreesAll, with_store}
 
 -- items are walked, or a stack runs with `levels` levels left over

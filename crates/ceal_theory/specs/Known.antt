@@ -21,7 +21,8 @@ use Rattle.ceal_theory.specs.Chosen.{repair_begins, first_begins}
 use Rattle.ceal_theory.specs.FlatMachine.{GoesThrough, FlatFrame, flat_machine, passes_all}
 use Rattle.ceal_theory.specs.Laws.{Edited}
 use Rattle.ceal_theory.specs.Repair.{State, resumed}
-use Rattle.ceal_theory.specs.Turns.{Mode, Fixing, Running, Frames, Bottom, AfterFix, AfterMend, AfterRun, Machine, Went, turn}
+use Rattle.ceal_theory.specs.Turns.{Mode, Fixing, Running, Frames, Bottom, AfterFix, AfterMend, AfterRun, Machine, Went}
+use Rattle.ceal_theory.specs.Turns.{turn}
 use Rattle.ceal_theory.specs.Walk.{store_after, AgreesAll, with_store}
 
 -- what a stack yields, by what its next step is

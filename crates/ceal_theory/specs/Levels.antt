@@ -1,6 +1,7 @@
 -- A part of flat items as traces: what is left over of old items is a part of their flat list. An `End` whose `Read`
 -- is before the part closes a level of it.
-use Rattle.std.specs.Prelude.{◌≡◌, ℕ, zero, suc, pred, ◌==◌, ◌&&◌, Bool, if◌then◌else◌, Option, Some, None, List, [], ◌∷◌, ◌++◌}
+use Rattle.std.specs.Prelude.{◌≡◌, ℕ, zero, suc, pred, ◌==◌, ◌&&◌, Bool, if◌then◌else◌, Option, Some, None, List, []}
+use Rattle.std.specs.Prelude.{◌∷◌, ◌++◌}
 use Rattle.ceal_base.specs.Operators.{same_place}
 use Rattle.ceal_base.specs.Trace.{Trace, Nothing, Stepped, Allocated, Wrote, WasRead, followed, flat}
 use Rattle.ceal_base.specs.declared.forest.Item.{Item}

@@ -1,5 +1,6 @@
 -- What the lines of a script so far have left of runs, and what a slice leaves.
-use Rattle.std.specs.Prelude.{◌≡◌, ℕ, suc, max, ◌≤◌, Bool, Option, Some, None, List, [], ◌∷◌, if◌then◌else◌, true, false, ⊤, IfSome}
+use Rattle.std.specs.Prelude.{◌≡◌, ℕ, suc, max, ◌≤◌, Bool, Option, Some, None, List, [], ◌∷◌, if◌then◌else◌, true}
+use Rattle.std.specs.Prelude.{false, ⊤, IfSome}
 use Rattle.ceal_base.specs.Block.{Block}
 use Rattle.ceal_base.specs.Trace.{blocks_of}
 use Rattle.ceal_base.specs.declared.word.Word.{Word}

@@ -1,5 +1,6 @@
 -- The laws of slices. A repair here is one of a call: a core function of the code, with arguments and inputs that fit.
-use Rattle.std.specs.Prelude.{◌≡◌, ◌↔◌, ℕ, zero, suc, ◌+◌, ◌≤◌, ◌<◌, true, false, Option, Some, None, List, [], ◌∷◌, ◌++◌, length, ◌⊎◌, ⊤}
+use Rattle.std.specs.Prelude.{◌≡◌, ◌↔◌, ℕ, zero, suc, ◌+◌, ◌≤◌, ◌<◌, true, false, Option, Some, None, List, [], ◌∷◌}
+use Rattle.std.specs.Prelude.{◌++◌, length, ◌⊎◌, ⊤}
 use Rattle.ceal_base.specs.Block.{Block}
 use Rattle.ceal_base.specs.Fitting.{inputs_fit}
 use Rattle.ceal_base.specs.Trace.{Trace, Nothing, Stepped, Allocated, Wrote, WasRead, blocks_of, flat}
@@ -16,16 +17,19 @@ use Rattle.ceal_code.specs.Determined.{Determined}
 use Rattle.ceal_code.specs.Fitting.{Fits}
 use Rattle.ceal_code.specs.Known.{Holds, KnownStack}
 use Rattle.ceal_code.specs.Program.{Code}
-use Rattle.ceal_code.specs.Replay.{Yields, In, KnownBlock, KnownWord, KnownWords, count, core_numbers, Replays, IsHonest, Store, bases, plain_of}
+use Rattle.ceal_code.specs.Replay.{Yields, In, KnownBlock, KnownWord, KnownWords, count, core_numbers, Replays}
+use Rattle.ceal_code.specs.Replay.{IsHonest, Store, bases, plain_of}
 use Rattle.ceal_code.specs.Value.{Plain}
 use Rattle.ceal_theory.specs.Adjust.{Extended, Above, AdjustsAs}
 use Rattle.ceal_theory.specs.Computed.{Repaired, adjusted}
 use Rattle.ceal_theory.specs.Laws.{Edited}
 use Rattle.ceal_theory.specs.Repair.{Single, own, State, resumed, Anew}
 use Rattle.ceal_theory.specs.Turns.{Machine, Running, Bottom, Finishes}
-use Rattle.ceal_theory.specs.Cover.{known_after, Nodes, Nil, Node, items_of, before, Queue, none_waits, Covered, first_read, NoneQueued, waits_after, Queued, MoreOn, At}
+use Rattle.ceal_theory.specs.Cover.{known_after, Nodes, Nil, Node, items_of, before, Queue, none_waits, Covered}
+use Rattle.ceal_theory.specs.Cover.{first_read, NoneQueued, waits_after, Queued, MoreOn, At}
 use Rattle.ceal_theory.specs.Walk.{store_after, AgreesAll}
-use Rattle.ceal_theory.specs.Slices.{NamesApart, Repair, with_inputs, starting, Runs, repair_at, goes_on, Slices, sliced, Sound, beginning, AlikeRepairs, RenamedSlices, is_done}
+use Rattle.ceal_theory.specs.Slices.{NamesApart, Repair, with_inputs, starting, Runs, repair_at, goes_on, Slices}
+use Rattle.ceal_theory.specs.Slices.{sliced, Sound, beginning, AlikeRepairs, RenamedSlices, is_done}
 
 -- how often a core block occurs among the items
 abbrev pub held : ℕ → Trace → ℕ

@@ -1,5 +1,6 @@
 -- The repair of a trace in slices: a repair in progress, what a slice of it does, and what holds of it.
-use Rattle.std.specs.Prelude.{◌≡◌, ℕ, zero, suc, ◌+◌, ◌≤◌, pos, nat_le, Bool, true, false, Option, Some, None, List, length, slice_get, if◌then◌else◌, ⊤, is_some}
+use Rattle.std.specs.Prelude.{◌≡◌, ℕ, zero, suc, ◌+◌, ◌≤◌, pos, nat_le, Bool, true, false, Option, Some, None, List}
+use Rattle.std.specs.Prelude.{length, slice_get, if◌then◌else◌, ⊤, is_some}
 use Rattle.ceal_base.specs.Block.{Block}
 use Rattle.ceal_base.specs.Operators.{same_word}
 use Rattle.ceal_base.specs.Trace.{Trace, Nothing, Stepped, Allocated, Wrote, WasRead, blocks_of}
@@ -14,7 +15,9 @@ use Rattle.ceal_base.specs.declared.word.Word.TheVariants.{Num}
 use Rattle.ceal_code.specs.Alike.{Pairs, Tied, PlainAlike, TraceAlike, Within, OneToOne}
 use Rattle.ceal_code.specs.Known.{Holds}
 use Rattle.ceal_code.specs.Program.{Code}
-use Rattle.ceal_code.specs.Replay.{Yields, Store, In, KnownBlock, KnownWord, KnownWords, KnownKey, Distinct, count, core_numbers, input_plain, content_in, cell_default, plain_of, cleared, stored, bases}
+use Rattle.ceal_code.specs.Replay.{Yields, Store, In, KnownBlock, KnownWord, KnownWords, KnownKey, Distinct, count}
+use Rattle.ceal_code.specs.Replay.{core_numbers, input_plain, content_in, cell_default, plain_of, cleared, stored}
+use Rattle.ceal_code.specs.Replay.{bases}
 use Rattle.ceal_code.specs.Step.{started}
 use Rattle.ceal_code.specs.Value.{Plain, field_kind}
 use Rattle.ceal_theory.specs.Computed.{Runner, Ran, Fixed, fix_by, anew}

@@ -1,6 +1,7 @@
 // The laws of repair, each the contract of a function that does nothing.
 
-ghost use Rattle.ceal_theory.specs.Laws.{EndLaw, FirstLaw, FunctionLaw, RenamedLaw, RenamedRepairLaw, RepairLaw, UnchangedLaw, UniqueLaw};
+ghost use Rattle.ceal_theory.specs.Laws.{EndLaw, FirstLaw, FunctionLaw, RenamedLaw, RenamedRepairLaw, RepairLaw};
+ghost use Rattle.ceal_theory.specs.Laws.{UnchangedLaw, UniqueLaw};
 
 /// What a repair gives is a trace of the call on the new inputs: it replays and is honest, its blocks are distinct, and
 /// those that the old trace has not have numbers from the next one on. (Change propagation is consistent, as Acar and

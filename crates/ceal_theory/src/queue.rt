@@ -1,6 +1,7 @@
 // Laws of the queue of an unfinished repair, each the contract of a function that does nothing.
 
-ghost use Rattle.ceal_theory.specs.Cover.{NodeChangesLaw, FirstQueuedLaw, PopLaw, FrontLaw, ChangeLaw, CoverLaw, ReplaceLaw};
+ghost use Rattle.ceal_theory.specs.Cover.{NodeChangesLaw, FirstQueuedLaw, PopLaw, FrontLaw, ChangeLaw, CoverLaw};
+ghost use Rattle.ceal_theory.specs.Cover.{ReplaceLaw};
 ghost use Rattle.ceal_theory.specs.SliceLaws.{KeepLaw};
 
 /// The first queued read, if it is stale, is the first stale one; where nothing is queued all is honest.

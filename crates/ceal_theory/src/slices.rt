@@ -1,7 +1,10 @@
 // Laws of repairs in slices, each the contract of a function that does nothing.
 
 ghost use Rattle.ceal_theory.specs.Listed.{ListedLaw};
-ghost use Rattle.ceal_theory.specs.SliceLaws.{StartLaw, OtherNamesLaw, NamedBeginningLaw, BeginLaw, MoreLaw, SliceLaw, DoneLaw, IsDoneLaw, WholeLaw, StaysLaw, BegunLaw, BegunAdjustedLaw, SlicesLaw, FollowLaw, SplitLaw, BasesLaw, TurnLaw, ReadyLaw, TurnsLaw, TurnsOverLaw, RenamedSliceLaw, RenamedSoundLaw, HistoryLaw};
+ghost use Rattle.ceal_theory.specs.SliceLaws.{StartLaw, OtherNamesLaw, NamedBeginningLaw, BeginLaw, MoreLaw, SliceLaw};
+ghost use Rattle.ceal_theory.specs.SliceLaws.{DoneLaw, IsDoneLaw, WholeLaw, StaysLaw, BegunLaw, BegunAdjustedLaw};
+ghost use Rattle.ceal_theory.specs.SliceLaws.{SlicesLaw, FollowLaw, SplitLaw, BasesLaw, TurnLaw, ReadyLaw, TurnsLaw};
+ghost use Rattle.ceal_theory.specs.SliceLaws.{TurnsOverLaw, RenamedSliceLaw, RenamedSoundLaw, HistoryLaw};
 
 /// A repair that begins from a trace of the call holds.
 pub fn begin_law()

@@ -1,5 +1,7 @@
 -- Blocks and their words, one by one.
-use Rattle.std.proofs.Common.{◌≡◌, ℕ, zero, suc, ◌+◌, ◌<◌, ◌≤◌, ◌==◌, Bool, true, false, not, is_some, Option, Some, None, List, [], ◌∷◌, length, map, drop, slice_get, IsTrue, IfOk, Result, Ok, Err, ◌⊎◌, inl, inr, refl, sym, ap, ap₂, ◌∙◌, arith}
+use Rattle.std.proofs.Common.{◌≡◌, ℕ, zero, suc, ◌+◌, ◌<◌, ◌≤◌, ◌==◌, Bool, true, false, not, is_some, Option, Some}
+use Rattle.std.proofs.Common.{None, List, [], ◌∷◌, length, map, drop, slice_get, IsTrue, IfOk, Result, Ok, Err, ◌⊎◌}
+use Rattle.std.proofs.Common.{inl, inr, refl, sym, ap, ap₂, ◌∙◌, arith}
 use Rattle.std.specs.Prelude.{◌↔◌, IfNone, IfSome}
 use Rattle.std.specs.Option.{option_map}
 use Rattle.std.proofs.lemmas.Bool.{false≢true}

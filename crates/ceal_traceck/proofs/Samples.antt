@@ -8,7 +8,9 @@ use Rattle.ceal_base.specs.declared.word.Word.TheVariants.{Num}
 use Rattle.ceal_code.proofs.Replay.Increment.{inc, place, inputs, args, items}
 use Rattle.ceal_code.specs.Replay.{Store, Yields, Honest, Mentions, bases, stored}
 use Rattle.ceal_code.specs.Step.{first_word, settled, next, chosen, bound, woven}
-use Rattle.ceal_code.specs.Valid.{valid, structs_ok, functions_ok, units_ok, unit_ok, is_prefix, kinds_ok, below, all_forward, is_tree, reached, all_followers, all_true, paths_ok, with_params, type_of, params_fit, others}
+use Rattle.ceal_code.specs.Valid.{valid, structs_ok, functions_ok, units_ok, unit_ok, is_prefix, kinds_ok, below}
+use Rattle.ceal_code.specs.Valid.{all_forward, is_tree, reached, all_followers, all_true, paths_ok, with_params}
+use Rattle.ceal_code.specs.Valid.{type_of, params_fit, others}
 use Rattle.ceal_code.specs.Value.{expr_value, values, set, unset}
 use Rattle.ceal_code.specs.declared.expr.CodeExpr.TheBlock.{hidden-the_row-CodeExpr-0, shape-the_row-CodeExpr-0}
 use Rattle.ceal_traceck.specs.Verdicts.{CallFits, Replayed, IsHonestRecord, Means}

@@ -1,6 +1,7 @@
 // Whether a memory is the one after items.
 
-ghost use Rattle.std.specs.Prelude.{◌≡◌, ◌∷◌, ◌+◌, ◌<◌, ◌↔◌, ℕ, Some, List, length, slice_get, IsTrue, IfNone, IfSome, IfOk};
+ghost use Rattle.std.specs.Prelude.{◌≡◌, ◌∷◌, ◌+◌, ◌<◌, ◌↔◌, ℕ, Some, List, length, slice_get, IsTrue, IfNone, IfSome};
+ghost use Rattle.std.specs.Prelude.{IfOk};
 ghost use Rattle.ceal_base.specs.Block.{Block};
 ghost use Rattle.ceal_base.specs.declared.forest.Item.{Item as AnyItem};
 ghost use Rattle.ceal_base.specs.declared.word.BlockId.TheVariants.{Input as InputBlock};

@@ -1,8 +1,11 @@
 // Whether items are those of a run of the code.
 
-ghost use Rattle.std.specs.Prelude.{◌≡◌, ◌<◌, ◌↔◌, ◌∷◌, [], ℕ, List, ⊤, length, IsTrue, IfNone, IfSome, IfOk, OnOk, MatchOption};
+ghost use Rattle.std.specs.Prelude.{◌≡◌, ◌<◌, ◌↔◌, ◌∷◌, [], ℕ, List, ⊤, length, IsTrue, IfNone, IfSome, IfOk, OnOk};
+ghost use Rattle.std.specs.Prelude.{MatchOption};
 ghost use Rattle.ceal_base.specs.declared.forest.Item.{Item as AnyItem};
-ghost use Rattle.ceal_base.specs.declared.forest.Item.TheVariants.{Step as StepItem, Alloc as AllocItem, Write as WriteItem, Read as ReadItem, End as EndItem};
+ghost use Rattle.ceal_base.specs.declared.forest.Item.TheVariants.{Step as StepItem, Alloc as AllocItem};
+ghost use Rattle.ceal_base.specs.declared.forest.Item.TheVariants.{Write as WriteItem, Read as ReadItem};
+ghost use Rattle.ceal_base.specs.declared.forest.Item.TheVariants.{End as EndItem};
 ghost use Rattle.ceal_base.specs.declared.word.BlockId.TheVariants.{Core as CoreBlock};
 ghost use Rattle.ceal_base.specs.declared.word.Word.{Word as AnyWord};
 ghost use Rattle.ceal_code.specs.Init.{arguments};

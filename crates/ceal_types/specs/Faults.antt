@@ -1,6 +1,7 @@
 -- All faults of names and types of a tree, in their order: those of the heads, then those of the bodies, each in text
 -- order, parts before the whole. One fault brings no other: where it hides a type, nothing is asked of that type.
-use Rattle.std.specs.Prelude.{ℕ, zero, suc, false, ◌==◌, ◌||◌, Bool, Option, Some, None, is_some, List, [], ◌∷◌, ◌++◌, map, length, if◌then◌else◌}
+use Rattle.std.specs.Prelude.{ℕ, zero, suc, false, ◌==◌, ◌||◌, Bool, Option, Some, None, is_some, List, [], ◌∷◌, ◌++◌}
+use Rattle.std.specs.Prelude.{map, length, if◌then◌else◌}
 use Rattle.std.specs.List.{list_any}
 use Rattle.std.specs.Map.{lookup}
 use Rattle.std.specs.Option.{option_map, option_flatten}
@@ -18,11 +19,13 @@ use Rattle.ceal_base.specs.declared.syntax.Entry.{Entry}
 use Rattle.ceal_base.specs.declared.syntax.Entry.TheVariants.{Struct, Function}
 use Rattle.ceal_base.specs.declared.syntax.Expr.{Expr}
 use Rattle.ceal_base.specs.declared.syntax.ExprForm.TheBlock.{Row_of-Expr, end_of-Expr, more_of-Expr}
-use Rattle.ceal_base.specs.declared.syntax.ExprForm.{ExprForm, Num, Null, Var, Own, Unary', Binary', Field', Address', Pick'}
+use Rattle.ceal_base.specs.declared.syntax.ExprForm.{ExprForm, Num, Null, Var, Own, Unary', Binary', Field', Address'}
+use Rattle.ceal_base.specs.declared.syntax.ExprForm.{Pick'}
 use Rattle.ceal_base.specs.declared.syntax.FieldDecl.{FieldDecl}
 use Rattle.ceal_base.specs.declared.syntax.FunctionDecl.{FunctionDecl}
 use Rattle.ceal_base.specs.declared.syntax.Ident.{Ident}
-use Rattle.ceal_base.specs.declared.syntax.Stmt.{Stmt, Declare, Assign, SetField, Write, Call, If', While', Return, Break, Continue}
+use Rattle.ceal_base.specs.declared.syntax.Stmt.{Stmt, Declare, Assign, SetField, Write, Call, If', While', Return}
+use Rattle.ceal_base.specs.declared.syntax.Stmt.{Break, Continue}
 use Rattle.ceal_base.specs.declared.syntax.Stmt.{Row_of-Stmt, end_of-Stmt, more_of-Stmt}
 use Rattle.ceal_base.specs.declared.syntax.Tree.{Tree}
 use Rattle.ceal_base.specs.declared.syntax.TypeForm.{TypeForm}
@@ -32,7 +35,9 @@ use Rattle.ceal_base.specs.declared.syntax.Value.TheVariants.{Plain, Read, Alloc
 use Rattle.ceal_base.specs.declared.typed.FieldInfo.{FieldInfo}
 use Rattle.ceal_types.specs.Heads.{row_of}
 use Rattle.ceal_types.specs.Kinds.{suits, comparable}
-use Rattle.ceal_types.specs.Known.{Known, variable_type, pointer_type, fields_in, structs_in, functions_in, Declared, declared_in, TypingContext, member_known, operand_span, operand_type, type_of, type_of_field}
+use Rattle.ceal_types.specs.Known.{Known, variable_type, pointer_type, fields_in, structs_in, functions_in, Declared}
+use Rattle.ceal_types.specs.Known.{declared_in, TypingContext, member_known, operand_span, operand_type, type_of}
+use Rattle.ceal_types.specs.Known.{type_of_field}
 use Rattle.ceal_types.specs.Tables.{Name, has, element_name}
 
 -- this one fault

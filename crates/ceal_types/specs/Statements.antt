@@ -12,16 +12,22 @@ use Rattle.ceal_base.specs.declared.kind.Kind.{Kind}
 use Rattle.ceal_base.specs.declared.kind.Kind.TheVariants.{Ptr, ModInt, ModPtr}
 use Rattle.ceal_base.specs.declared.syntax.Expr.{Expr}
 use Rattle.ceal_base.specs.declared.syntax.Ident.{Ident}
-use Rattle.ceal_base.specs.declared.syntax.Stmt.{Stmt, Declare, Assign, SetField, Write, Call, If', While', Return, Break, Continue}
+use Rattle.ceal_base.specs.declared.syntax.Stmt.{Stmt, Declare, Assign, SetField, Write, Call, If', While', Return}
+use Rattle.ceal_base.specs.declared.syntax.Stmt.{Break, Continue}
 use Rattle.ceal_base.specs.declared.syntax.Stmt.{Row_of-Stmt, end_of-Stmt, more_of-Stmt}
 use Rattle.ceal_base.specs.declared.syntax.Value.{Value}
 use Rattle.ceal_base.specs.declared.syntax.Value.TheVariants.{Plain, Read, Alloc, ModrefInt, Modref}
 use Rattle.ceal_base.specs.declared.typed.TypedExpr.{TypedExpr}
 use Rattle.ceal_base.specs.declared.typed.TypedStmt.{TypedStmt}
-use Rattle.ceal_base.specs.declared.typed.TypedStmt.{Declare as DeclareTyped, Assign as AssignTyped, SetField as SetTyped, Write as WriteTyped, Call as CallTyped, Return as ReturnTyped, Break as BreakTyped, Continue as ContinueTyped}
+use Rattle.ceal_base.specs.declared.typed.TypedStmt.{Declare as DeclareTyped, Assign as AssignTyped}
+use Rattle.ceal_base.specs.declared.typed.TypedStmt.{SetField as SetTyped, Write as WriteTyped, Call as CallTyped}
+use Rattle.ceal_base.specs.declared.typed.TypedStmt.{Return as ReturnTyped, Break as BreakTyped}
+use Rattle.ceal_base.specs.declared.typed.TypedStmt.{Continue as ContinueTyped}
 use Rattle.ceal_base.specs.declared.typed.TypedStmt.TheViews as typed
 use Rattle.ceal_base.specs.declared.typed.TypedValue.{TypedValue}
-use Rattle.ceal_base.specs.declared.typed.TypedValue.TheVariants.{Plain as PlainTyped, Read as ReadTyped, Alloc as AllocTyped, ModrefInt as ModrefIntTyped, Modref as ModrefTyped}
+use Rattle.ceal_base.specs.declared.typed.TypedValue.TheVariants.{Plain as PlainTyped, Read as ReadTyped}
+use Rattle.ceal_base.specs.declared.typed.TypedValue.TheVariants.{Alloc as AllocTyped, ModrefInt as ModrefIntTyped}
+use Rattle.ceal_base.specs.declared.typed.TypedValue.TheVariants.{Modref as ModrefTyped}
 use Rattle.ceal_types.specs.Expressions.{Scope, typed_expr, typed_exprs, condition, member}
 use Rattle.ceal_types.specs.Heads.{kind_of, struct_number, with_variable}
 use Rattle.ceal_base.specs.Kinds.{same_kind}

@@ -1,5 +1,6 @@
 -- Names, and the value of each name.
-use Rattle.std.specs.Prelude.{ℕ, Bool, Option, Some, None, List, ◌∷◌, [], ◌++◌, is_some, position, slice_get, codes, if◌then◌else◌}
+use Rattle.std.specs.Prelude.{ℕ, Bool, Option, Some, None, List, ◌∷◌, [], ◌++◌, is_some, position, slice_get, codes}
+use Rattle.std.specs.Prelude.{if◌then◌else◌}
 use Rattle.std.specs.Fmt.{decimal}
 use Rattle.std.specs.List.{list_any}
 use Rattle.std.specs.Map.{keys_of, lookup}

@@ -4,7 +4,8 @@ ghost use Rattle.std.specs.Prelude.{◌≡◌, Option, IfOk};
 ghost use Rattle.std.specs.Map.{lookup};
 ghost use Rattle.std.specs.Str.{bytes_eq};
 ghost use Rattle.ceal_base.specs.Answers.{Gives};
-ghost use Rattle.ceal_types.specs.Expressions.{expression, variable_at, own_at, unary_at, unary_of, binary_at, comparison, int_operation, no_pick, typed_expr, typed_exprs, condition};
+ghost use Rattle.ceal_types.specs.Expressions.{expression, variable_at, own_at, unary_at, unary_of, binary_at};
+ghost use Rattle.ceal_types.specs.Expressions.{comparison, int_operation, no_pick, typed_expr, typed_exprs, condition};
 
 use crate::kinds::{comparable, suits};
 use crate::members::{both, fault, type_address, type_field, type_pick};

@@ -4,7 +4,9 @@ ghost use Rattle.std.specs.Prelude.{◌≡◌, IfOk};
 ghost use Rattle.ceal_base.specs.Answers.{Gives};
 ghost use Rattle.ceal_types.specs.Tables.{find, value_at};
 ghost use Rattle.ceal_types.specs.Tables.{element_name as element_name_of};
-ghost use Rattle.ceal_types.specs.Expressions.{expression, member, member_with, field_or_row, field_named, field_of_struct, field_of, field_at, address_of, address_at, element_of, element_of_row, pick_of, pick_at};
+ghost use Rattle.ceal_types.specs.Expressions.{expression, member, member_with, field_or_row, field_named};
+ghost use Rattle.ceal_types.specs.Expressions.{field_of_struct, field_of, field_at, address_of, address_at, element_of};
+ghost use Rattle.ceal_types.specs.Expressions.{element_of_row, pick_of, pick_at};
 
 use crate::kinds::suits;
 use crate::program::{Access, Field, Member};

@@ -1,6 +1,7 @@
 // The values of names.
 
-ghost use Rattle.std.specs.Prelude.{◌≡◌, ◌<◌, ◌^◌, ◌++◌, Some, ◌∷◌, [], length, take, slice_get, OnOk, OnErr, false, position, option_to_list, IfNone};
+ghost use Rattle.std.specs.Prelude.{◌≡◌, ◌<◌, ◌^◌, ◌++◌, Some, ◌∷◌, [], length, take, slice_get, OnOk, OnErr, false};
+ghost use Rattle.std.specs.Prelude.{position, option_to_list, IfNone};
 ghost use Rattle.std.specs.Map.{keys_of, lookup};
 ghost use Rattle.std.specs.Option.{option_map};
 ghost use Rattle.std.specs.Str.{bytes_eq};

@@ -13,7 +13,9 @@ use Rattle.ceal_base.specs.declared.typed.TypedStmt.{TypedStmt, Declare, Assign,
 use Rattle.ceal_base.specs.declared.typed.TypedStmt.{Row_of-TypedStmt, end_of-TypedStmt, more_of-TypedStmt}
 use Rattle.ceal_base.specs.declared.typed.TypedValue.{TypedValue}
 use Rattle.ceal_base.specs.declared.typed.TypedValue.TheVariants.{Plain, Read, Alloc, ModrefInt, Modref}
-use Rattle.ceal_usage.specs.Faults.{one, form_mentions, operand_mentions, is_core, is_initialiser, value_faults, core_faults, row_core_faults, faults_unless_own, init_faults, row_init_faults, function_faults, usage_faults}
+use Rattle.ceal_usage.specs.Faults.{one, form_mentions, operand_mentions, is_core, is_initialiser, value_faults}
+use Rattle.ceal_usage.specs.Faults.{core_faults, row_core_faults, faults_unless_own, init_faults, row_init_faults}
+use Rattle.ceal_usage.specs.Faults.{function_faults, usage_faults}
 use Rattle.ceal_usage.specs.Verdict.{verdict, faults_of_each}
 
 abbrev nothing : List Fault

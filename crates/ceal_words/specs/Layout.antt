@@ -1,7 +1,8 @@
 -- How a size class lies in its chunk. Piece i has `size` words from word i * size on. A piece that a slot has
 -- is marked with the slot's length, a free one with 0. The first word of a free piece is the number of the
 -- next free piece.
-use Rattle.std.specs.Prelude.{◌≡◌, ◌≢◌, ℕ, zero, suc, ◌*◌, ◌<◌, ◌≤◌, List, [], ◌∷◌, length, take, drop, Option, Some, None, slice_index}
+use Rattle.std.specs.Prelude.{◌≡◌, ◌≢◌, ℕ, zero, suc, ◌*◌, ◌<◌, ◌≤◌, List, [], ◌∷◌, length, take, drop, Option, Some}
+use Rattle.std.specs.Prelude.{None, slice_index}
 use Rattle.ceal_words.specs.Lengths.{RoundsTo}
 use Rattle.ceal_words.specs.SizeClass.{SizeClass}
 

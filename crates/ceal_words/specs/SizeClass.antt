@@ -1,5 +1,6 @@
 -- What a contract sees of a size class, and of a region: one size class for each power of two.
-use Rattle.std.specs.Prelude.{ℕ, ◌+◌, ◌-◌, List, ◌++◌, replicate, Option, Some, None, slice_get, slice_set, slice_index_or}
+use Rattle.std.specs.Prelude.{ℕ, ◌+◌, ◌-◌, List, ◌++◌, replicate, Option, Some, None, slice_get, slice_set}
+use Rattle.std.specs.Prelude.{slice_index_or}
 
 -- the pieces of one length: of each the words of the slot that has it, or None where it is free; and how many are free
 pub record SizeClass : Type 0 where

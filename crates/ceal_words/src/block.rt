@@ -1,6 +1,7 @@
 // Raw memory, and the right to give it back.
 
-ghost use Rattle.std.specs.Prelude.{◌≡◌, ℕ, ◌*◌, ◌^◌, ◌<◌, List, Option, Some, None, length, replicate, slice_index_or, slice_set, IfSome, IsSome};
+ghost use Rattle.std.specs.Prelude.{◌≡◌, ℕ, ◌*◌, ◌^◌, ◌<◌, List, Option, Some, None, length, replicate, slice_index_or};
+ghost use Rattle.std.specs.Prelude.{slice_set, IfSome, IsSome};
 ghost use denote.RawPtr.{Ptr};
 ghost use Rattle.ceal_words.specs.Memory.{block_owns, block_lends, words_type};
 

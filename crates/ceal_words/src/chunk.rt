@@ -1,6 +1,7 @@
 // The memory of one size class.
 
-ghost use Rattle.std.specs.Prelude.{◌≡◌, ◌<◌, ◌≤◌, ℕ, List, ◌++◌, Some, length, drop, replicate, slice_index, slice_set, IfOk, OnOk};
+ghost use Rattle.std.specs.Prelude.{◌≡◌, ◌<◌, ◌≤◌, ℕ, List, ◌++◌, Some, length, drop, replicate, slice_index};
+ghost use Rattle.std.specs.Prelude.{slice_set, IfOk, OnOk};
 
 use crate::block::{Block, Deed};
 use ceal_base::no_memory::NoMemory;
@@ -26,7 +27,8 @@ impl Model for Chunk {
 
     ghost view = { λ c. held c.block.words };
 
-    ghost invariant = { λ c. IsWritten c.block.words c.count × (c.deed.at ≡ c.block.at) × (c.deed.count ≡ c.count) × (c.deed.heap ≡ c.alloc) };
+    ghost invariant = { λ c. IsWritten c.block.words c.count × (c.deed.at ≡ c.block.at)
+        × (c.deed.count ≡ c.count) × (c.deed.heap ≡ c.alloc) };
 }
 
 impl Drop for Chunk {

@@ -1,6 +1,7 @@
 // One size class: its chunk, its pieces and its free list.
 
-ghost use Rattle.std.specs.Prelude.{◌≡◌, ◌<◌, ◌≤◌, ℕ, ◌+◌, ◌-◌, ◌*◌, ◌^◌, List, [], Some, None, length, replicate, slice_get, IsSome, IfSome, IfOk, OnOk, OnErr};
+ghost use Rattle.std.specs.Prelude.{◌≡◌, ◌<◌, ◌≤◌, ℕ, ◌+◌, ◌-◌, ◌*◌, ◌^◌, List, [], Some, None, length, replicate};
+ghost use Rattle.std.specs.Prelude.{slice_get, IsSome, IfSome, IfOk, OnOk, OnErr};
 ghost use Rattle.ceal_words.specs.Lengths.{RoundsTo};
 ghost use Rattle.ceal_words.specs.Layout.{IsLaidOut, class_of};
 ghost use Rattle.ceal_words.specs.SizeClass.{words_at, word_in, taken, given, with_word, grown};

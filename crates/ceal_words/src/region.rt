@@ -2,7 +2,8 @@
 
 ghost use Rattle.std.specs.Prelude.{◌≡◌, ◌<◌, ◌≤◌, ◌+◌, ◌-◌, Some, None, replicate, IsSome, IfOk, OnOk, OnErr};
 ghost use Rattle.ceal_words.specs.SizeClass.{changed};
-ghost use Rattle.ceal_words.specs.Region.{words_of, word_of, slot_len, spare, KeepsOthers, KeepsAll, KeepsOtherSpares, KeepsSpares, IsEmpty};
+ghost use Rattle.ceal_words.specs.Region.{words_of, word_of, slot_len, spare, KeepsOthers, KeepsAll, KeepsOtherSpares};
+ghost use Rattle.ceal_words.specs.Region.{KeepsSpares, IsEmpty};
 
 use crate::lengths::{CLASSES, size_class};
 use crate::pool::Pool;

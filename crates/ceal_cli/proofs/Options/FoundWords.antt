@@ -1,15 +1,21 @@
 -- What the parser has found at the end of the words that it takes.
-use Rattle.std.proofs.Common.{◌≡◌, ◌∙◌, ◌||◌, ◌&&◌, ◌⊎◌, inl, inr, Bool, cond, true, false, refl, sym, ap, subst, List, [], ◌∷◌, ◌++◌, Option, Some, None, is_some, unwrap_or, true≢false, append-nil, append_assoc, fold}
+use Rattle.std.proofs.Common.{◌≡◌, ◌∙◌, ◌||◌, ◌&&◌, ◌⊎◌, inl, inr, Bool, cond, true, false, refl, sym, ap, subst, List}
+use Rattle.std.proofs.Common.{[], ◌∷◌, ◌++◌, Option, Some, None, is_some, unwrap_or, true≢false, append-nil}
+use Rattle.std.proofs.Common.{append_assoc, fold}
 use Rattle.std.specs.Str.{bytes_eq}
 use Rattle.std.proofs.lemmas.Slice.Eq.{bytes_eq-Decides}
-use Rattle.clap.specs.Walk.{Held, Row, Text, Waiting, Walk, all_of, finished, has_row, idle, is_pending, nothing_held, option, plain_word, positional, reading_by, settled, settled_rows, subcommand_met, to_positional, used, value, values_or_missing, walked, with_default, with_values, without}
+use Rattle.clap.specs.Walk.{Held, Row, Text, Waiting, Walk, all_of, finished, has_row, idle, is_pending, nothing_held}
+use Rattle.clap.specs.Walk.{option, plain_word, positional, reading_by, settled, settled_rows, subcommand_met}
+use Rattle.clap.specs.Walk.{to_positional, used, value, values_or_missing, walked, with_default, with_values, without}
 use Rattle.clap.specs.Faults.{fault_of, settle_fault, walk_fault}
 use Rattle.clap.specs.Simple.{built, matches_of}
 use Rattle.clap.proofs.FaultLemmas.{leaf_fault}
 use Rattle.clap.specs.declared.parser.matches.ValueSource.TheVariants.{CommandLine}
 use Rattle.ceal_cli.specs.CommandLine.{ceal_command}
 use Rattle.ceal_cli.proofs.Options.ParseRows.{has_row_all, more_of, others_kept, without_none}
-use Rattle.ceal_cli.proofs.Options.OneWord.{S, F, W, C, FUEL, WORDS, DASHES, OPTION, JOINED, Pending, at, held, settles, turn_of, or_first, or_second, not_repeated, Turn, IsDashes, IsJoined, IsApart, IsPlain}
+use Rattle.ceal_cli.proofs.Options.OneWord.{S, F, W, C, FUEL, WORDS, DASHES, OPTION, JOINED, Pending, at, held, settles}
+use Rattle.ceal_cli.proofs.Options.OneWord.{turn_of, or_first, or_second, not_repeated, Turn, IsDashes, IsJoined}
+use Rattle.ceal_cli.proofs.Options.OneWord.{IsApart, IsPlain}
 
 -- ---- the rows of the words and of the values of the option
 

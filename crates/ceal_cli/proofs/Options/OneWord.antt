@@ -6,7 +6,9 @@ use Rattle.std.specs.Str.{bytes_eq, chars}
 use Rattle.std.proofs.lemmas.Slice.Eq.{bytes_eq-Decides}
 use Rattle.clap.specs.Lexer.{long_of, short_of}
 use Rattle.clap.specs.Kinds.{Kinds, or_else}
-use Rattle.clap.specs.Walk.{Held, Row, Rule, Step, Text, Waiting, Walk, after_flag, after_step, bundle_met, bundle_step, has_row, idle, long_met, long_or_other, option, plain, plain_word, settled_rows, short_or_plain, subcommand_met, subcommand_or_other, trailing, used, walked, word_met}
+use Rattle.clap.specs.Walk.{Held, Row, Rule, Step, Text, Waiting, Walk, after_flag, after_step, bundle_met, bundle_step}
+use Rattle.clap.specs.Walk.{has_row, idle, long_met, long_or_other, option, plain, plain_word, settled_rows}
+use Rattle.clap.specs.Walk.{short_or_plain, subcommand_met, subcommand_or_other, trailing, used, walked, word_met}
 use Rattle.clap.specs.Faults.{bundle_fault, bundle_step_fault, flag_word_fault, flags_fault, long_fault, other_fault, settle_fault, step_fault, turn_fault, word_fault}
 use Rattle.clap.specs.Simple.{Shape, built, filled, with_index}
 use Rattle.clap.specs.declared.error.kind.ErrorKind.{ErrorKind}

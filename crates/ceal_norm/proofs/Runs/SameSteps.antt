@@ -1,5 +1,7 @@
 -- One block is one step of its unit.
-use Rattle.std.proofs.Common.{◌≡◌, inl, inr, ℕ, ◌+◌, ◌<◌, ◌≤◌, ◌==◌, not, Bool, true, false, if◌then◌else◌, Option, Some, None, IsSome, IsSomeAnd, IsNone, List, [], ◌∷◌, ◌++◌, length, map, slice_get, slice_set, unwrap_or, Contains, All, refl, sym, ap, ap₂, ◌∙◌, subst, arith}
+use Rattle.std.proofs.Common.{◌≡◌, inl, inr, ℕ, ◌+◌, ◌<◌, ◌≤◌, ◌==◌, not, Bool, true, false, if◌then◌else◌, Option}
+use Rattle.std.proofs.Common.{Some, None, IsSome, IsSomeAnd, IsNone, List, [], ◌∷◌, ◌++◌, length, map, slice_get}
+use Rattle.std.proofs.Common.{slice_set, unwrap_or, Contains, All, refl, sym, ap, ap₂, ◌∙◌, subst, arith}
 use Rattle.std.proofs.lemmas.Bool.Decides.{eqb_tells}
 use Rattle.std.proofs.lemmas.List.Elements.{Contains-push, Contains-append_left, Contains-append_right}
 use Rattle.ceal_base.specs.Access.{content_of, written, holds}
@@ -50,7 +52,9 @@ use Rattle.ceal_norm.specs.Laws.{IsClosed, IsForward, source_of}
 use Rattle.ceal_norm.specs.Units.{Source, Placed, block_code, code_of, unit_of, args_of, without, closure_args, arg_at, call_args, entry_set, value_code, stmt_code, function_code}
 use Rattle.ceal_norm.proofs.Validity.KnownVariables.{get-map, in-left, in-right}
 use Rattle.ceal_norm.proofs.Validity.LiveVariablesInScope.{match, used-live, jump-live}
-use Rattle.ceal_norm.proofs.Runs.SameFrames.{PartAt, command-is, part-behind, part-left, part-right, code as code_for, T, J, over, entry_unit, T-is, params-are, spot-there, unit-kinds, Along, AllAlong, enter-along, called_point, call-along}
+use Rattle.ceal_norm.proofs.Runs.SameFrames.{PartAt, command-is, part-behind, part-left, part-right, code as code_for}
+use Rattle.ceal_norm.proofs.Runs.SameFrames.{T, J, over, entry_unit, T-is, params-are, spot-there, unit-kinds, Along}
+use Rattle.ceal_norm.proofs.Runs.SameFrames.{AllAlong, enter-along, called_point, call-along}
 use Rattle.ceal_norm.proofs.Runs.SameInitialBlocks.{all-init}
 use Rattle.ceal_norm.proofs.Runs.SameValues.{expr-same, exprs-same, arg-same}
 use Rattle.ceal_norm.proofs.Runs.WordsOfVariables.{instead, woven-map, values-map, values-own, set-word, set-long}

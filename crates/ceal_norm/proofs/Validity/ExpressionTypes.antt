@@ -1,10 +1,14 @@
 -- The variables that a well typed expression mentions are in scope, and the expression of trace code has its type.
-use Rattle.std.proofs.Common.{◌≡◌, inl, inr, ℕ, ◌<◌, ◌&&◌, Bool, true, false, Option, Some, None, IsSome, if◌then◌else◌, List, [], ◌∷◌, length, map, slice_get, unwrap_or, Contains, All, refl, sym, ap, ap₂, ◌∙◌, subst}
+use Rattle.std.proofs.Common.{◌≡◌, inl, inr, ℕ, ◌<◌, ◌&&◌, Bool, true, false, Option, Some, None, IsSome, if◌then◌else◌}
+use Rattle.std.proofs.Common.{List, [], ◌∷◌, length, map, slice_get, unwrap_or, Contains, All, refl, sym, ap, ap₂, ◌∙◌}
+use Rattle.std.proofs.Common.{subst}
 use Rattle.std.proofs.lemmas.Bool.{lt-ltb}
 use Rattle.std.proofs.lemmas.List.Elements.{All-head, All-tail}
 use Rattle.ceal_base.specs.Kinds.{same_kind, is_pointer}
 use Rattle.ceal_base.specs.Usage.{WithoutOwn, OperandWithoutOwn}
-use Rattle.ceal_base.specs.WellTyped.{Context, FormTyped, OperandTyped, ExprTyped, OperandsSuit, LeftSuits, StartsRow, FormStartsRow, kind_given, Comparable, Suits, IsPointer, operand_kind, plain_kind, address_kind, ArgsSuit}
+use Rattle.ceal_base.specs.WellTyped.{Context, FormTyped, OperandTyped, ExprTyped, OperandsSuit, LeftSuits, StartsRow}
+use Rattle.ceal_base.specs.WellTyped.{FormStartsRow, kind_given, Comparable, Suits, IsPointer, operand_kind, plain_kind}
+use Rattle.ceal_base.specs.WellTyped.{address_kind, ArgsSuit}
 use Rattle.ceal_base.specs.declared.kind.FieldKind.{FieldKind}
 use Rattle.ceal_base.specs.declared.kind.FieldKind.TheVariants.{Plain as PlainField, CellInt, CellPtr}
 use Rattle.ceal_base.specs.declared.kind.Kind.{Kind}

@@ -1,6 +1,8 @@
 -- The commands of a block of a core function are right: the variables of each target and the expressions of a statement
 -- have the types that are asked.
-use Rattle.std.proofs.Common.{◌≡◌, inl, inr, ℕ, zero, suc, ◌<◌, ◌≤◌, ◌==◌, Bool, true, Option, Some, None, IsSome, IsNone, IsSomeAnd, List, [], ◌∷◌, length, map, take, slice_get, unwrap_or, Contains, All, refl, sym, ap, ap₂, ◌∙◌, subst, arith}
+use Rattle.std.proofs.Common.{◌≡◌, inl, inr, ℕ, zero, suc, ◌<◌, ◌≤◌, ◌==◌, Bool, true, Option, Some, None, IsSome}
+use Rattle.std.proofs.Common.{IsNone, IsSomeAnd, List, [], ◌∷◌, length, map, take, slice_get, unwrap_or, Contains, All}
+use Rattle.std.proofs.Common.{refl, sym, ap, ap₂, ◌∙◌, subst, arith}
 use Rattle.std.proofs.lemmas.Bool.Decides.{eqb_tells}
 use Rattle.std.proofs.lemmas.List.{length-take-le}
 use Rattle.std.proofs.lemmas.List.Elements.{All-head, All-tail}

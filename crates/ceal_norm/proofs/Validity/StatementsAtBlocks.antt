@@ -9,15 +9,24 @@ use Rattle.ceal_base.specs.declared.typed.TypedExpr.{TypedExpr}
 use Rattle.ceal_base.specs.declared.typed.TypedFunction.{TypedFunction}
 use Rattle.ceal_base.specs.declared.typed.TypedStmt.{TypedStmt, Row_of-TypedStmt, end_of-TypedStmt, more_of-TypedStmt, If', While', out-TypedStmt, roll-TypedStmt, roll-out-TypedStmt}
 use Rattle.ceal_base.specs.declared.typed.TypedStmt.TheBlock.{hidden-the_row-TypedStmt-0, shape-the_row-TypedStmt-0}
-use Rattle.ceal_base.specs.declared.typed.TypedStmt.TheOpen.{TypedStmt-F, Declare as OpenDeclare, Assign as OpenAssign, SetField as OpenSetField, Write as OpenWrite, Call as OpenCall, If as OpenIf, While as OpenWhile, Return as OpenReturn, Break as OpenBreak, Continue as OpenContinue}
-use Rattle.ceal_base.specs.declared.typed.TypedStmt.TheVariants.{Declare, Assign, SetField, Write, Call, Return, Break, Continue, rolls-Declare, rolls-Assign, rolls-SetField, rolls-Write, rolls-Call, rolls-If, rolls-While, rolls-Return, rolls-Break, rolls-Continue}
+use Rattle.ceal_base.specs.declared.typed.TypedStmt.TheOpen.{TypedStmt-F, Declare as OpenDeclare, Assign as OpenAssign}
+use Rattle.ceal_base.specs.declared.typed.TypedStmt.TheOpen.{SetField as OpenSetField, Write as OpenWrite}
+use Rattle.ceal_base.specs.declared.typed.TypedStmt.TheOpen.{Call as OpenCall, If as OpenIf, While as OpenWhile}
+use Rattle.ceal_base.specs.declared.typed.TypedStmt.TheOpen.{Return as OpenReturn, Break as OpenBreak}
+use Rattle.ceal_base.specs.declared.typed.TypedStmt.TheOpen.{Continue as OpenContinue}
+use Rattle.ceal_base.specs.declared.typed.TypedStmt.TheVariants.{Declare, Assign, SetField, Write, Call, Return, Break}
+use Rattle.ceal_base.specs.declared.typed.TypedStmt.TheVariants.{Continue, rolls-Declare, rolls-Assign, rolls-SetField}
+use Rattle.ceal_base.specs.declared.typed.TypedStmt.TheVariants.{rolls-Write, rolls-Call, rolls-If, rolls-While}
+use Rattle.ceal_base.specs.declared.typed.TypedStmt.TheVariants.{rolls-Return, rolls-Break, rolls-Continue}
 use Rattle.ceal_base.specs.declared.typed.TypedStmt.TheViews.{If, While}
 use Rattle.ceal_flow.specs.Blocks.{size, sizes, goes_on, all_go_on, in_loop, target, entry, blocks_of, all_blocks}
 use Rattle.ceal_flow.specs.Laws.{IsSimple}
 use Rattle.ceal_flow.specs.declared.block.GraphBlock.{GraphBlock}
 use Rattle.ceal_flow.specs.declared.block.GraphBlock.TheVariants.{Done, Test, Act}
 use Rattle.ceal_flow.specs.declared.exits.Exits.{Exits}
-use Rattle.ceal_flow.proofs.BlockSteps.{on-declare, on-assign, on-write, on-call, on-if, on-while, on-nil, on-cons, blocks-declare, blocks-assign, blocks-write, blocks-call, blocks-if, blocks-while, all-length, sizes-cons, size-if, size-while}
+use Rattle.ceal_flow.proofs.BlockSteps.{on-declare, on-assign, on-write, on-call, on-if, on-while, on-nil, on-cons}
+use Rattle.ceal_flow.proofs.BlockSteps.{blocks-declare, blocks-assign, blocks-write, blocks-call, blocks-if}
+use Rattle.ceal_flow.proofs.BlockSteps.{blocks-while, all-length, sizes-cons, size-if, size-while}
 use Rattle.ceal_flow.proofs.Placing.{Placed, placed-head, placed-left, placed-right, placed-tail, placed-first, placed-rest}
 
 -- each variable of the first list is in the second

@@ -16,7 +16,8 @@ use Rattle.ceal_base.specs.declared.typed.TypedFunction.{TypedFunction}
 use Rattle.ceal_code.proofs.Words.SameIsEqual.{both-true, nat-refl}
 use Rattle.ceal_code.specs.Program.{Code}
 use Rattle.ceal_code.specs.Value.{is_cell}
-use Rattle.ceal_code.specs.Valid.{kind_ok, kinds_ok, field_ok, fields_ok, same_field, row_goes_on, row_whole, rows_ok, structs_ok, is_prefix, entry_ok, function_ok, functions_ok, units_ok, valid, stmts_ok}
+use Rattle.ceal_code.specs.Valid.{kind_ok, kinds_ok, field_ok, fields_ok, same_field, row_goes_on, row_whole, rows_ok}
+use Rattle.ceal_code.specs.Valid.{structs_ok, is_prefix, entry_ok, function_ok, functions_ok, units_ok, valid, stmts_ok}
 use Rattle.ceal_flow.specs.Live.{AreLiveSets}
 use Rattle.ceal_flow.specs.Lowering.{core_at, graph_of}
 use Rattle.ceal_flow.specs.Sets.{is_in, set_at}

@@ -1,6 +1,8 @@
 -- What an engine shows of a finished run: its blocks are those of the run from scratch up to the numbers of core
 -- blocks.
-use Rattle.std.proofs.Common.{◌≡◌, ℕ, zero, suc, ◌+◌, ◌<◌, ◌==◌, Bool, true, false, Option, Some, None, List, [], ◌∷◌, map, length, is_some, unwrap_or, refl, sym, ap, ap₂, ◌∙◌, subst, slice_get, slice_index, arith}
+use Rattle.std.proofs.Common.{◌≡◌, ℕ, zero, suc, ◌+◌, ◌<◌, ◌==◌, Bool, true, false, Option, Some, None, List, [], ◌∷◌}
+use Rattle.std.proofs.Common.{map, length, is_some, unwrap_or, refl, sym, ap, ap₂, ◌∙◌, subst, slice_get, slice_index}
+use Rattle.std.proofs.Common.{arith}
 use Rattle.std.specs.Option.{option_map}
 use Rattle.std.specs.Prelude.{IsSome}
 use Rattle.std.proofs.lemmas.Option.{slice_get-map}

@@ -1,5 +1,6 @@
 -- Which questions are answered, and about what.
-use Rattle.std.proofs.Common.{◌≡◌, ℕ, ◌<◌, ◌||◌, Bool, true, false, Option, Some, None, Result, Ok, Err, List, [], ◌∷◌, length, map, is_some, if◌then◌else◌, position, refl, ap, subst, slice_get, arith}
+use Rattle.std.proofs.Common.{◌≡◌, ℕ, ◌<◌, ◌||◌, Bool, true, false, Option, Some, None, Result, Ok, Err, List, [], ◌∷◌}
+use Rattle.std.proofs.Common.{length, map, is_some, if◌then◌else◌, position, refl, ap, subst, slice_get, arith}
 use Rattle.std.specs.List.{list_any}
 use Rattle.std.specs.Option.{option_map}
 use Rattle.std.specs.Prelude.{bytes_eq}
@@ -25,9 +26,14 @@ use Rattle.ceal_script.specs.declared.command.Command.TheVariants.{Blank, Mod, N
 use Rattle.ceal_script.specs.declared.command.PlaceWord.{PlaceWord}
 use Rattle.ceal_session.specs.Asking.{IsCellSense, IsFor, CanTell, HasReads}
 use Rattle.ceal_session.specs.Runs.{memory_of, run_of}
-use Rattle.ceal_session.specs.Senses.{fields_of, fields_numbered, field_named, input_named, block_sense, kind_sense, field_sense, member_sense, part_sense, shape_in, found_sense, place_sense, value_sense, is_unknown, words_of, mod_shape, struct_shape, struct_named, function_named}
+use Rattle.ceal_session.specs.Senses.{fields_of, fields_numbered, field_named, input_named, block_sense, kind_sense}
+use Rattle.ceal_session.specs.Senses.{field_sense, member_sense, part_sense, shape_in, found_sense, place_sense}
+use Rattle.ceal_session.specs.Senses.{value_sense, is_unknown, words_of, mod_shape, struct_shape, struct_named}
+use Rattle.ceal_session.specs.Senses.{function_named}
 use Rattle.ceal_session.specs.State.{State}
-use Rattle.ceal_session.specs.Steps.{Step, refuses, made_with, made_of, fits_cell, set_word, set, fits_function, IsFirst, called_with, called_function, called, called_again, run_reply, runs, part_reply, runs_part, has_no_run, asked, got, shown, answered, block_of}
+use Rattle.ceal_session.specs.Steps.{Step, refuses, made_with, made_of, fits_cell, set_word, set, fits_function}
+use Rattle.ceal_session.specs.Steps.{IsFirst, called_with, called_function, called, called_again, run_reply, runs}
+use Rattle.ceal_session.specs.Steps.{part_reply, runs_part, has_no_run, asked, got, shown, answered, block_of}
 use Rattle.ceal_session.specs.declared.refusal.Refusal.{Refusal}
 use Rattle.ceal_session.specs.declared.refusal.Refusal.TheVariants.{C2, C3, C4, C5, C6, C7, C8}
 use Rattle.ceal_session.specs.declared.reply.Query.{Query}

@@ -1,5 +1,7 @@
 -- In a situation that a session reaches each line has a reply, and the situation after it is such a one.
-use Rattle.std.proofs.Common.{◌≡◌, ◌⊎◌, inl, inr, ℕ, ◌<◌, ◌||◌, Bool, true, false, Option, Some, None, Result, Ok, Err, List, [], ◌∷◌, ◌++◌, length, map, is_none, is_some, if◌then◌else◌, refl, sym, ap, ◌∙◌, subst, slice_get, take, length-append, arith}
+use Rattle.std.proofs.Common.{◌≡◌, ◌⊎◌, inl, inr, ℕ, ◌<◌, ◌||◌, Bool, true, false, Option, Some, None, Result, Ok, Err}
+use Rattle.std.proofs.Common.{List, [], ◌∷◌, ◌++◌, length, map, is_none, is_some, if◌then◌else◌, refl, sym, ap, ◌∙◌}
+use Rattle.std.proofs.Common.{subst, slice_get, take, length-append, arith}
 use Rattle.std.specs.List.{list_any, IsDistinct}
 use Rattle.std.proofs.lemmas.Map.Keys.{IsDistinct-push}
 use Rattle.std.proofs.lemmas.Cmp.{nat_list_eq_equiv}
@@ -32,7 +34,9 @@ use Rattle.ceal_code.specs.Value.{is_cell}
 use Rattle.ceal_script.specs.Lines.{IsLineOf}
 use Rattle.ceal_script.specs.Spelling.{IsName}
 use Rattle.ceal_script.specs.declared.command.Command.{Command}
-use Rattle.ceal_script.specs.declared.command.Command.TheVariants.{Blank, Mod, New, Set, Run, Propagate, Slice, Get, Show, Blocks as BlocksCommand, Steps as StepsCommand, Work as WorkCommand, Bound as BoundCommand}
+use Rattle.ceal_script.specs.declared.command.Command.TheVariants.{Blank, Mod, New, Set, Run, Propagate, Slice, Get}
+use Rattle.ceal_script.specs.declared.command.Command.TheVariants.{Show, Blocks as BlocksCommand, Steps as StepsCommand}
+use Rattle.ceal_script.specs.declared.command.Command.TheVariants.{Work as WorkCommand, Bound as BoundCommand}
 use Rattle.ceal_session.proofs.Replies.QuestionsAnswered.{called-first, can-tell, cell-sense}
 use Rattle.ceal_session.proofs.Engine.ProgramAndCode.{call-fits, same-structs}
 use Rattle.ceal_session.proofs.Inputs.ExtendedInputs.{extended-same, extended-longer, extended-edited, extended-on, extended-both, same-bases, shapes-back}
@@ -49,7 +53,9 @@ use Rattle.ceal_session.specs.Runs.{memory_of, present_run, run_of, with_run, wi
 use Rattle.ceal_session.specs.Senses.{is_unknown, words_of, mod_shape, struct_shape, struct_named, function_named, place_sense, value_sense}
 use Rattle.ceal_session.specs.Standing.{IsRepairIn, IsPastIn, Stands}
 use Rattle.ceal_session.specs.State.{State, Situation, numbers_in}
-use Rattle.ceal_session.specs.Steps.{Step, stays, refuses, with_input, block_of, made_with, made_of, with_base, fits_cell, set_word, set, is_call_of, IsCall, called, called_again, run_reply, runs, part_reply, runs_part, call_of, answered, answered_line}
+use Rattle.ceal_session.specs.Steps.{Step, stays, refuses, with_input, block_of, made_with, made_of, with_base}
+use Rattle.ceal_session.specs.Steps.{fits_cell, set_word, set, is_call_of, IsCall, called, called_again, run_reply}
+use Rattle.ceal_session.specs.Steps.{runs, part_reply, runs_part, call_of, answered, answered_line}
 use Rattle.ceal_session.specs.Texts.{input_name, TellsOf, IsText}
 use Rattle.ceal_session.specs.Works.{call_in, past_in, past_left, bound_in}
 use Rattle.ceal_theory.proofs.Store.MoreInputs.{inputs-law}

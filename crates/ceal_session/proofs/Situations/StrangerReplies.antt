@@ -19,7 +19,9 @@ use Rattle.ceal_code.specs.Program.{Code}
 use Rattle.ceal_code.specs.Replay.{Replays, IsHonest, core_numbers}
 use Rattle.ceal_cost.proofs.Firsts.{first-of}
 use Rattle.ceal_script.specs.declared.command.Command.{Command}
-use Rattle.ceal_script.specs.declared.command.Command.TheVariants.{Blank, Mod, New, Set, Run, Propagate, Slice, Get, Show, Blocks as BlocksCommand, Steps as StepsCommand, Work as WorkCommand, Bound as BoundCommand}
+use Rattle.ceal_script.specs.declared.command.Command.TheVariants.{Blank, Mod, New, Set, Run, Propagate, Slice, Get}
+use Rattle.ceal_script.specs.declared.command.Command.TheVariants.{Show, Blocks as BlocksCommand, Steps as StepsCommand}
+use Rattle.ceal_script.specs.declared.command.Command.TheVariants.{Work as WorkCommand, Bound as BoundCommand}
 use Rattle.ceal_session.proofs.Situations.AlikeReplies.{CallLaw}
 use Rattle.ceal_session.proofs.Situations.SituationFollowsSession.{CallFacts, DoneAs, NextAs, begin-traces, past-as, slice-as}
 use Rattle.ceal_session.proofs.Replies.LineKeepsSituation.{FactsLaw}
@@ -34,7 +36,10 @@ use Rattle.ceal_session.specs.Saving.{saved_state, resumed}
 use Rattle.ceal_session.specs.Senses.{is_unknown, words_of, mod_shape, struct_shape, struct_named, function_named, place_sense, value_sense, input_named}
 use Rattle.ceal_session.specs.Standing.{IsPastIn, IsSamePast, IsIn, Stands}
 use Rattle.ceal_session.specs.State.{State, Situation, Numbers, completed, latest_work, numbers_in}
-use Rattle.ceal_session.specs.Steps.{Step, stays, refuses, block_of, made_with, made_of, with_base, with_input, fits_cell, set_base, set_word, set, called, called_again, run_reply, runs, part_reply, runs_part, has_no_run, asked, got, shown, call_of, answered, answered_line}
+use Rattle.ceal_session.specs.Steps.{Step, stays, refuses, block_of, made_with, made_of, with_base, with_input}
+use Rattle.ceal_session.specs.Steps.{fits_cell, set_base, set_word, set, called, called_again, run_reply, runs}
+use Rattle.ceal_session.specs.Steps.{part_reply, runs_part, has_no_run, asked, got, shown, call_of, answered}
+use Rattle.ceal_session.specs.Steps.{answered_line}
 use Rattle.ceal_session.specs.Strangers.{AsksNumbers, Completes, LineAlike, AreOne, AreAlike, StrangerLaw}
 use Rattle.ceal_session.specs.Texts.{IsText}
 use Rattle.ceal_session.specs.Works.{call_in, reads_in, past_in, bound_in, past_left, bound_left, bound_by, first_trace}

@@ -11,7 +11,9 @@ use Rattle.ceal_code.proofs.Words.SameIsEqual.{place-same, place-refl, nat-refl}
 use Rattle.ceal_code.specs.Program.{Code}
 use Rattle.ceal_code.specs.Replay.{Store, cleared, stored}
 use Rattle.ceal_theory.proofs.Store.EqualContents.{stored-equal, cleared-equal}
-use Rattle.ceal_theory.specs.Cover.{waits_after, Queued, MoreOn, Nodes, Nil, Node, items_of, before, Queue, Waiting, none_waits, closed, opened, Covered, first_read, with_queued, without, NoneQueued, Absent}
+use Rattle.ceal_theory.specs.Cover.{waits_after, Queued, MoreOn, Nodes, Nil, Node, items_of, before, Queue, Waiting}
+use Rattle.ceal_theory.specs.Cover.{none_waits, closed, opened, Covered, first_read, with_queued, without, NoneQueued}
+use Rattle.ceal_theory.specs.Cover.{Absent}
 use Rattle.ceal_theory.specs.Walk.{store_after, AgreesAll}
 
 -- at each place the same content and no less waiting, or a queued read waits

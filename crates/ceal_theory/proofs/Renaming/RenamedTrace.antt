@@ -21,7 +21,9 @@ use Rattle.ceal_code.specs.Fitting.{Fits}
 use Rattle.ceal_code.specs.Init.{made}
 use Rattle.ceal_code.specs.Known.{Held, Holds}
 use Rattle.ceal_code.specs.Program.{Code}
-use Rattle.ceal_code.specs.Replay.{Yields, In, here, there, KnownBlock, KnownWord, KnownWords, KnownKey, Mentions, Store, Honest, learnt, Distinct, core_numbers, cleared, stored, bases, input_plain, plain_after, plain_of, Replays, IsHonest}
+use Rattle.ceal_code.specs.Replay.{Yields, In, here, there, KnownBlock, KnownWord, KnownWords, KnownKey, Mentions}
+use Rattle.ceal_code.specs.Replay.{Store, Honest, learnt, Distinct, core_numbers, cleared, stored, bases, input_plain}
+use Rattle.ceal_code.specs.Replay.{plain_after, plain_of, Replays, IsHonest}
 use Rattle.ceal_code.specs.Step.{Stack, Act, started, next}
 use Rattle.ceal_code.specs.Value.{Plain}
 use Rattle.ceal_theory.proofs.Repair.DistinctBlocks.{uses, one_at, times-cons, times-append}

@@ -10,11 +10,16 @@ use Rattle.ceal_base.specs.declared.word.BlockId.TheVariants.{Input, Core}
 use Rattle.ceal_base.specs.declared.word.Place.{Place}
 use Rattle.ceal_base.specs.declared.word.Word.{Word}
 use Rattle.ceal_code.proofs.Alike.AlikeActs.{QuietToo, MakesToo, WritesToo, ReadsToo, over-too, quiet-too, makes-too, writes-too, reads-too}
-use Rattle.ceal_code.proofs.Alike.AlikeSteps.{id-wider, place-wider, word-wider, words-wider, key-wider, variables-wider, stack-wider, block-wider, maybe-wider, trace-wider, place-both, word-both, set-alike, given-alike, pointer-alike, made-alike, next-alike}
+use Rattle.ceal_code.proofs.Alike.AlikeSteps.{id-wider, place-wider, word-wider, words-wider, key-wider}
+use Rattle.ceal_code.proofs.Alike.AlikeSteps.{variables-wider, stack-wider, block-wider, maybe-wider, trace-wider}
+use Rattle.ceal_code.proofs.Alike.AlikeSteps.{place-both, word-both, set-alike, given-alike, pointer-alike, made-alike}
+use Rattle.ceal_code.proofs.Alike.AlikeSteps.{next-alike}
 use Rattle.ceal_code.proofs.Alike.AlikeStores.{cleared-alike, cleared-tied, stored-alike}
 use Rattle.ceal_code.proofs.Alike.BlockPairs.{within-trans, more-pair, tied-case}
 use Rattle.ceal_code.proofs.Words.SameIsEqual.{nat-same, word-same, word-refl}
-use Rattle.ceal_code.specs.Alike.{Pairs, Tied, IdAlike, PlaceAlike, WordAlike, WordsAlike, KeyAlike, VariablesAlike, StackAlike, ActAlike, BlockAlike, MaybeAlike, PlainAlike, StoreAlike, TraceAlike, Within, OneToOne}
+use Rattle.ceal_code.specs.Alike.{Pairs, Tied, IdAlike, PlaceAlike, WordAlike, WordsAlike, KeyAlike, VariablesAlike}
+use Rattle.ceal_code.specs.Alike.{StackAlike, ActAlike, BlockAlike, MaybeAlike, PlainAlike, StoreAlike, TraceAlike}
+use Rattle.ceal_code.specs.Alike.{Within, OneToOne}
 use Rattle.ceal_code.specs.Init.{made, pointer}
 use Rattle.ceal_code.specs.Program.{Code}
 use Rattle.ceal_code.specs.Replay.{learnt}

@@ -15,7 +15,9 @@ use Rattle.ceal_code.proofs.Alike.AlikeStores.{cleared-alike, stored-alike, plai
 use Rattle.ceal_code.proofs.Words.StepLocality.{given-known}
 use Rattle.ceal_code.proofs.Alike.BlockPairs.{one_if, lefts, rights, left-count, pairs-one, within-trans, more-pair}
 use Rattle.ceal_code.proofs.Words.SameIsEqual.{word-same, word-refl}
-use Rattle.ceal_code.specs.Alike.{Pairs, Tied, IdAlike, PlaceAlike, WordAlike, WordsAlike, KeyAlike, VariablesAlike, StackAlike, ActAlike, BlockAlike, MaybeAlike, PlainAlike, StoreAlike, Within, OneToOne}
+use Rattle.ceal_code.specs.Alike.{Pairs, Tied, IdAlike, PlaceAlike, WordAlike, WordsAlike, KeyAlike, VariablesAlike}
+use Rattle.ceal_code.specs.Alike.{StackAlike, ActAlike, BlockAlike, MaybeAlike, PlainAlike, StoreAlike, Within}
+use Rattle.ceal_code.specs.Alike.{OneToOne}
 use Rattle.ceal_code.specs.Init.{made, pointer}
 use Rattle.ceal_code.specs.Known.{Holds, KnownAct}
 use Rattle.ceal_code.specs.Program.{Code}

@@ -1,5 +1,7 @@
 -- A run from scratch that ends leaves a trace: the first one.
-use Rattle.std.proofs.Common.{◌≡◌, ℕ, pos, zero, suc, ◌+◌, ◌≤◌, ◌<◌, ◌==◌, ◌&&◌, Bool, true, false, if◌then◌else◌, Option, Some, None, List, [], ◌∷◌, length, slice_get, slice_set, is_some, refl, sym, ap, ◌∙◌, subst, arith}
+use Rattle.std.proofs.Common.{◌≡◌, ℕ, pos, zero, suc, ◌+◌, ◌≤◌, ◌<◌, ◌==◌, ◌&&◌, Bool, true, false, if◌then◌else◌}
+use Rattle.std.proofs.Common.{Option, Some, None, List, [], ◌∷◌, length, slice_get, slice_set, is_some, refl, sym, ap}
+use Rattle.std.proofs.Common.{◌∙◌, subst, arith}
 use Rattle.std.specs.Option.{option_map}
 use Rattle.ceal_base.specs.Access.{of_struct, is_struct, place_in, content_of}
 use Rattle.ceal_base.specs.Block.{Block, Blocks, block_at, written_at}
@@ -23,7 +25,10 @@ use Rattle.ceal_code.proofs.Words.Closed.{OfStack, OfKey, OfAct, Equal, next-of,
 use Rattle.ceal_code.proofs.Words.ClosedInit.{made-equal}
 use Rattle.ceal_code.proofs.Replay.DeterminedRun.{over-on, one-step, no-step}
 use Rattle.ceal_code.proofs.TypedCode.FittingWords.{begun-placed, input-full, args-placed}
-use Rattle.ceal_code.proofs.Replay.MemoryChanges.{contents, CellThere, content-read, altered, got, get-set_other, get-push_other, length-set, written-here, written-other, written-count, written-contents, grown-here, grown-count, grown-contents, made-full}
+use Rattle.ceal_code.proofs.Replay.MemoryChanges.{contents, CellThere, content-read, altered, got, get-set_other}
+use Rattle.ceal_code.proofs.Replay.MemoryChanges.{get-push_other, length-set, written-here, written-other}
+use Rattle.ceal_code.proofs.Replay.MemoryChanges.{written-count, written-contents, grown-here, grown-count}
+use Rattle.ceal_code.proofs.Replay.MemoryChanges.{grown-contents, made-full}
 use Rattle.ceal_code.proofs.Words.ValidPicks.{Starts, picks-valid}
 use Rattle.ceal_code.proofs.TypedCode.TypedBlocks.{rows-valid}
 use Rattle.ceal_code.specs.Valid.{valid}

@@ -16,7 +16,9 @@ use Rattle.ceal_code.specs.Step.{Stack, Run, Act, Over, Quiet, Makes, Writes, Re
 use Rattle.ceal_code.specs.Value.{Variables, set}
 use Rattle.ceal_theory.proofs.Repair.Honesty.{fix-rises, mend-rises, anew-rises}
 use Rattle.ceal_theory.specs.Adjust.{Adjusts, Firsts}
-use Rattle.ceal_theory.specs.Computed.{Fixed, Ran, Runner, ran_with, fixed_with, and_fix, and_run, and_ran, kept_items, mend_if, fix_by, mend_by, make_by, read_by, perform, anew, Repaired, fixed_within, adjusted, ran_within, first_of}
+use Rattle.ceal_theory.specs.Computed.{Fixed, Ran, Runner, ran_with, fixed_with, and_fix, and_run, and_ran, kept_items}
+use Rattle.ceal_theory.specs.Computed.{mend_if, fix_by, mend_by, make_by, read_by, perform, anew, Repaired}
+use Rattle.ceal_theory.specs.Computed.{fixed_within, adjusted, ran_within, first_of}
 use Rattle.ceal_theory.specs.Repair.{own, State, begins, clears, puts, works, grows, resumed, Fix, Mend, Anew}
 use Rattle.ceal_theory.specs.Take.{TakenAlloc, TakenRead, take_alloc, take_read}
 

@@ -6,7 +6,9 @@ use Rattle.ceal_base.specs.Trace.{Trace, blocks_of, steps_of}
 use Rattle.ceal_base.specs.declared.word.BlockId.{BlockId}
 use Rattle.ceal_base.specs.declared.word.BlockId.TheVariants.{Core}
 use Rattle.ceal_base.specs.declared.word.Word.{Word}
-use Rattle.ceal_code.proofs.Alike.AlikeSteps.{place-wider, word-wider, words-wider, key-wider, variables-wider, stack-wider, trace-wider, steps-alike, set-alike, given-alike, pointer-alike, made-alike, next-alike}
+use Rattle.ceal_code.proofs.Alike.AlikeSteps.{place-wider, word-wider, words-wider, key-wider, variables-wider}
+use Rattle.ceal_code.proofs.Alike.AlikeSteps.{stack-wider, trace-wider, steps-alike, set-alike, given-alike}
+use Rattle.ceal_code.proofs.Alike.AlikeSteps.{pointer-alike, made-alike, next-alike}
 use Rattle.ceal_code.proofs.Alike.AlikeStores.{cleared-alike, stored-alike, plain-with}
 use Rattle.ceal_code.proofs.Replay.DeterminedRun.{cores-append}
 use Rattle.ceal_code.proofs.TypedCode.FittingWords.{args-known}

@@ -1,5 +1,6 @@
 -- To take from old items is to find in a part of their flat list.
-use Rattle.std.proofs.Common.{◌≡◌, ℕ, zero, suc, ◌<◌, ◌≤◌, length, arith, Bool, true, false, if◌then◌else◌, Option, Some, None, List, [], ◌∷◌, ◌++◌, append_assoc, append-nil, refl, sym, ap, ◌∙◌, subst}
+use Rattle.std.proofs.Common.{◌≡◌, ℕ, zero, suc, ◌<◌, ◌≤◌, length, arith, Bool, true, false, if◌then◌else◌, Option}
+use Rattle.std.proofs.Common.{Some, None, List, [], ◌∷◌, ◌++◌, append_assoc, append-nil, refl, sym, ap, ◌∙◌, subst}
 use Rattle.ceal_base.specs.Trace.{Trace, Nothing, Stepped, Allocated, Wrote, WasRead, flat, followed}
 use Rattle.ceal_base.specs.declared.forest.Item.{Item}
 use Rattle.ceal_base.specs.declared.forest.Item.TheVariants.{Step, Alloc, Write, Read, End}
@@ -10,7 +11,9 @@ use Rattle.ceal_base.specs.declared.word.Place.{Place}
 use Rattle.ceal_base.specs.declared.word.Word.{Word}
 use Rattle.ceal_code.proofs.Words.SameIsEqual.{some-same, none-some}
 use Rattle.ceal_theory.specs.Take.{same_key, TakenAlloc, TakenRead, alloc_then, take_alloc, read_then, take_read}
-use Rattle.ceal_theory.specs.Levels.{first, around, levels, loose, beyond, after_item, block_of_key, value_of_read, skipped, FoundAlloc, alloc_or, find_alloc, FoundRead, read_or, same_read, find_read, taken_alloc, taken_read}
+use Rattle.ceal_theory.specs.Levels.{first, around, levels, loose, beyond, after_item, block_of_key, value_of_read}
+use Rattle.ceal_theory.specs.Levels.{skipped, FoundAlloc, alloc_or, find_alloc, FoundRead, read_or, same_read}
+use Rattle.ceal_theory.specs.Levels.{find_read, taken_alloc, taken_read}
 
 pub followed-nothing : (f : Trace) → followed f Nothing ≡ f
 followed-nothing Nothing = refl

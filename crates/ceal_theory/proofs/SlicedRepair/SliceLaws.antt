@@ -40,7 +40,11 @@ use Rattle.ceal_theory.proofs.SlicedRepair.Soundness.{low, at-core, begin-sound,
 use Rattle.ceal_theory.proofs.SlicedRepair.AddedBlocks.{part-adds, part-uses}
 use Rattle.ceal_theory.proofs.SlicedRepair.PartYields.{AsPart, part-fix, fix-part}
 use Rattle.ceal_theory.proofs.Renaming.RenamedSlice.{slice-renamed, done-too}
-use Rattle.ceal_theory.specs.SliceLaws.{StartLaw, OtherNamesLaw, BeginLaw, MoreLaw, Sliced, SliceLaw, DoneLaw, WholeLaw, StaysLaw, BegunLaw, BegunAdjustedLaw, IsNamed, RenamedSliceLaw, and_more, FollowLaw, SlicesLaw, IsDoneLaw, BasesLaw, unit_alone, FirstStale, TurnLaw, KnownThere, ReadyLaw, Turns, TurnsLaw, History, HeldUp, HistoryLaw, RenamedSoundLaw, KeepLaw, SplitLaw, TurnedOver, TurnsOverLaw}
+use Rattle.ceal_theory.specs.SliceLaws.{StartLaw, OtherNamesLaw, BeginLaw, MoreLaw, Sliced, SliceLaw, DoneLaw, WholeLaw}
+use Rattle.ceal_theory.specs.SliceLaws.{StaysLaw, BegunLaw, BegunAdjustedLaw, IsNamed, RenamedSliceLaw, and_more}
+use Rattle.ceal_theory.specs.SliceLaws.{FollowLaw, SlicesLaw, IsDoneLaw, BasesLaw, unit_alone, FirstStale, TurnLaw}
+use Rattle.ceal_theory.specs.SliceLaws.{KnownThere, ReadyLaw, Turns, TurnsLaw, History, HeldUp, HistoryLaw}
+use Rattle.ceal_theory.specs.SliceLaws.{RenamedSoundLaw, KeepLaw, SplitLaw, TurnedOver, TurnsOverLaw}
 use Rattle.ceal_theory.specs.Cover.{before, items_of, waits_after, CoverLaw, ReplaceLaw, known_after, Waiting, none_waits, closed, opened, ChangeLaw, PopLaw, FirstQueuedLaw, FrontLaw}
 use Rattle.ceal_theory.specs.Walk.{store_after, AgreesAll, with_store}
 use Rattle.ceal_theory.specs.Slices.{Repair, with_inputs, starting, goes_on, Part, Runs, repair_at, Slices, sliced, Sound, Follows}

@@ -18,7 +18,9 @@ use Rattle.ceal_theory.specs.Turns.{Goes}
 use Rattle.ceal_theory.proofs.Repair.Honesty.{fix-rises, anew-rises}
 use Rattle.ceal_theory.specs.Repair.{State, clears, puts, works, grows, resumed, Fix, Mend, Anew}
 use Rattle.ceal_theory.specs.Take.{TakenAlloc, TakenRead, take_alloc, take_read}
-use Rattle.ceal_theory.specs.Turns.{Mode, Fixing, Running, Frames, Bottom, AfterFix, AfterMend, AfterRun, Machine, Turn, Ended, Went, closed, opened, fixing, making, reading, acting, moving, turn, Resumes, Finishes}
+use Rattle.ceal_theory.specs.Turns.{Mode, Fixing, Running, Frames, Bottom, AfterFix, AfterMend, AfterRun, Machine, Turn}
+use Rattle.ceal_theory.specs.Turns.{Ended, Went, closed, opened, fixing, making, reading, acting, moving, turn, Resumes}
+use Rattle.ceal_theory.specs.Turns.{Finishes}
 
 abbrev pub at : State → Mode → Frames → Machine
 at s mode fs = record { state = s; mode = mode; frames = fs }

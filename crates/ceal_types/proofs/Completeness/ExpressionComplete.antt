@@ -1,5 +1,7 @@
 -- An expression that agrees with one of the source and is well typed is what the walk gives.
-use Rattle.std.proofs.Common.{◌≡◌, ℕ, suc, ◌<◌, ◌==◌, arith, append_assoc, append-nil, true, false, Option, Some, None, Result, Ok, List, [], ◌∷◌, ◌++◌, All, map, slice_get, refl, sym, subst, ap, ◌∙◌, if◌then◌else◌}
+use Rattle.std.proofs.Common.{◌≡◌, ℕ, suc, ◌<◌, ◌==◌, arith, append_assoc, append-nil, true, false, Option, Some, None}
+use Rattle.std.proofs.Common.{Result, Ok, List, [], ◌∷◌, ◌++◌, All, map, slice_get, refl, sym, subst, ap, ◌∙◌}
+use Rattle.std.proofs.Common.{if◌then◌else◌}
 use Rattle.std.specs.Prelude.{IfSome, IsSome}
 use Rattle.std.specs.Map.{lookup}
 use Rattle.std.specs.Option.{option_map}
@@ -28,7 +30,12 @@ use Rattle.ceal_base.specs.declared.typed.TypedForm.TheViews as typed
 use Rattle.ceal_base.specs.declared.typed.TypedForm.TheBlock.{hidden-the_row-TypedExpr-0, shape-the_row-TypedExpr-0}
 use Rattle.ceal_base.specs.declared.typed.TypedFunction.{TypedFunction}
 use Rattle.ceal_types.specs.Checked.{struct_info}
-use Rattle.ceal_types.specs.Expressions.{Scope, Fields, typed_form, typed_operand, typed_expr, typed_exprs, with_expr, condition, variable_at, own_at, int_asked, unary_at, unary_of, binary_at, binary_of, comparison, int_operation, expression, field_or_row, element_of, element_of_row, pick_of_kind, pick_of, pick_at, field_named, field_of_struct, member_of, member, value_of_field, field_of, field_at, place_of_field, address_of, address_at}
+use Rattle.ceal_types.specs.Expressions.{Scope, Fields, typed_form, typed_operand, typed_expr, typed_exprs, with_expr}
+use Rattle.ceal_types.specs.Expressions.{condition, variable_at, own_at, int_asked, unary_at, unary_of, binary_at}
+use Rattle.ceal_types.specs.Expressions.{binary_of, comparison, int_operation, expression, field_or_row, element_of}
+use Rattle.ceal_types.specs.Expressions.{element_of_row, pick_of_kind, pick_of, pick_at, field_named, field_of_struct}
+use Rattle.ceal_types.specs.Expressions.{member_of, member, value_of_field, field_of, field_at, place_of_field}
+use Rattle.ceal_types.specs.Expressions.{address_of, address_at}
 use Rattle.ceal_types.specs.Kinds.{suits, comparable}
 use Rattle.ceal_types.specs.Resolves.{IsSign, IsForm, IsMember, FormResolves, OperandResolves, ExprResolves, ExprsResolve, field_names, member_number}
 use Rattle.ceal_types.specs.Tables.{Name, value_at}
@@ -40,7 +47,9 @@ use Rattle.ceal_types.specs.declared.program.Variable.{Variable}
 use Rattle.ceal_types.proofs.Resolution.ExpressionResolved.{Whole}
 use Rattle.ceal_types.proofs.Typing.ExpressionTyped.{around, MemberGood, member-good}
 use Rattle.ceal_types.proofs.Walks.WalkKeeps.{ok-at}
-use Rattle.ceal_types.proofs.Resolution.NumbersOfNames.{numbers, number_of, lookup-numbers, first, member-place, names-there, none-there, some-same, after-at, mapped-at, both-at, if-true, if-false, same-expr, comparable-true}
+use Rattle.ceal_types.proofs.Resolution.NumbersOfNames.{numbers, number_of, lookup-numbers, first, member-place}
+use Rattle.ceal_types.proofs.Resolution.NumbersOfNames.{names-there, none-there, some-same, after-at, mapped-at}
+use Rattle.ceal_types.proofs.Resolution.NumbersOfNames.{both-at, if-true, if-false, same-expr, comparable-true}
 
 -- the variables in scope have these kinds
 abbrev pub VariableKind : List Kind → Variable → Type 0

@@ -1,5 +1,7 @@
 -- A program that agrees with a tree and is well typed is what the walk gives.
-use Rattle.std.proofs.Common.{◌≡◌, ℕ, zero, suc, ◌+◌, ◌||◌, arith, Bool, false, Option, Some, None, Ok, List, [], ◌∷◌, ◌++◌, All, map, slice_get, length, take, refl, sym, subst, ap, ◌∙◌, append_assoc, append-nil}
+use Rattle.std.proofs.Common.{◌≡◌, ℕ, zero, suc, ◌+◌, ◌||◌, arith, Bool, false, Option, Some, None, Ok, List, [], ◌∷◌}
+use Rattle.std.proofs.Common.{◌++◌, All, map, slice_get, length, take, refl, sym, subst, ap, ◌∙◌, append_assoc}
+use Rattle.std.proofs.Common.{append-nil}
 use Rattle.std.specs.List.{AllByRecursion, IsDistinct, list_any}
 use Rattle.std.specs.Cmp.Lexicographic.{nat_list_eq_equiv}
 use Rattle.std.specs.Map.{keys_of}
@@ -27,8 +29,14 @@ use Rattle.ceal_base.specs.declared.typed.Typed.{Typed}
 use Rattle.ceal_base.specs.declared.typed.TypedFunction.{TypedFunction}
 use Rattle.ceal_types.specs.Checked.{field_info, struct_info, function_of, function_body, typed_function, with_body, program_of, bodies, checked}
 use Rattle.ceal_types.specs.Expressions.{Fields}
-use Rattle.ceal_types.specs.Heads.{number_or_fault, struct_number, kind_of, plain_pointer, plain_place, field_kind_of, row_of, has_member, with_element, with_elements, added_field, new_field, with_field, with_variable, new_parameter, with_parameter, own_of, no_variables, head, with_parameters, head_of, with_struct, with_function, with_entry, struct_names, no_entries, heads}
-use Rattle.ceal_types.specs.Resolves.{Environment, IsNew, IsKind, IsFieldKind, IsStruct, StmtsResolve, elements, member_fields, MembersResolve, StructResolves, declared_name, numbered_from, ParametersResolve, OwnResolves, FunctionResolves, EntriesResolve, Resolves}
+use Rattle.ceal_types.specs.Heads.{number_or_fault, struct_number, kind_of, plain_pointer, plain_place, field_kind_of}
+use Rattle.ceal_types.specs.Heads.{row_of, has_member, with_element, with_elements, added_field, new_field, with_field}
+use Rattle.ceal_types.specs.Heads.{with_variable, new_parameter, with_parameter, own_of, no_variables, head}
+use Rattle.ceal_types.specs.Heads.{with_parameters, head_of, with_struct, with_function, with_entry, struct_names}
+use Rattle.ceal_types.specs.Heads.{no_entries, heads}
+use Rattle.ceal_types.specs.Resolves.{Environment, IsNew, IsKind, IsFieldKind, IsStruct, StmtsResolve, elements}
+use Rattle.ceal_types.specs.Resolves.{member_fields, MembersResolve, StructResolves, declared_name, numbered_from}
+use Rattle.ceal_types.specs.Resolves.{ParametersResolve, OwnResolves, FunctionResolves, EntriesResolve, Resolves}
 use Rattle.ceal_types.specs.Statements.{block, inner_block, typed_stmts}
 use Rattle.ceal_types.specs.Tables.{Name, has, with_name, element_name}
 use Rattle.ceal_types.specs.Walk.{fault, result_map, in_turn, at_end}

@@ -1,5 +1,7 @@
 -- A statement that agrees with one of the source and is well typed is what the walk gives.
-use Rattle.std.proofs.Common.{◌≡◌, ℕ, ◌+◌, ◌==◌, arith, true, false, Option, Some, None, Result, Ok, List, [], ◌∷◌, ◌++◌, All, map, position, slice_get, length, refl, sym, subst, ap, ◌∙◌, append_assoc, append-nil, if◌then◌else◌}
+use Rattle.std.proofs.Common.{◌≡◌, ℕ, ◌+◌, ◌==◌, arith, true, false, Option, Some, None, Result, Ok, List, [], ◌∷◌}
+use Rattle.std.proofs.Common.{◌++◌, All, map, position, slice_get, length, refl, sym, subst, ap, ◌∙◌, append_assoc}
+use Rattle.std.proofs.Common.{append-nil, if◌then◌else◌}
 use Rattle.std.specs.Prelude.{IfSome, MatchOption, is_some}
 use Rattle.std.specs.Map.{keys_of, lookup}
 use Rattle.std.specs.Option.{option_map}
@@ -8,7 +10,9 @@ use Rattle.std.proofs.lemmas.List.{length_push}
 use Rattle.std.proofs.lemmas.List.Elements.{All-push}
 use Rattle.std.proofs.lemmas.Map.Entries.{All-lookup}
 use Rattle.std.proofs.lemmas.Bool.Decides.{Decides-eqb}
-use Rattle.ceal_base.specs.WellTyped.{Context, ExprTyped, ExprSuits, ArgsSuit, CallSuits, AllocSuits, ValueTyped, StmtTyped, RowTyped, StmtsTyped, kind_held, field_kind, param_kinds, declarations, row_declarations, all_declarations, seen_after, struct_name, function_name}
+use Rattle.ceal_base.specs.WellTyped.{Context, ExprTyped, ExprSuits, ArgsSuit, CallSuits, AllocSuits, ValueTyped}
+use Rattle.ceal_base.specs.WellTyped.{StmtTyped, RowTyped, StmtsTyped, kind_held, field_kind, param_kinds, declarations}
+use Rattle.ceal_base.specs.WellTyped.{row_declarations, all_declarations, seen_after, struct_name, function_name}
 use Rattle.ceal_base.specs.WellTyped.{plain_kind as kind_of_plain}
 use Rattle.ceal_base.specs.declared.fault.Fault.{Fault}
 use Rattle.ceal_base.specs.declared.fault.FaultCode.TheVariants.{N2, T1, T2}
@@ -28,7 +32,10 @@ use Rattle.ceal_base.specs.declared.syntax.Value.TheVariants.{Plain, Read, Alloc
 use Rattle.ceal_base.specs.declared.typed.TypedExpr.{TypedExpr}
 use Rattle.ceal_base.specs.declared.typed.TypedFunction.{TypedFunction}
 use Rattle.ceal_base.specs.declared.typed.TypedStmt.{TypedStmt}
-use Rattle.ceal_base.specs.declared.typed.TypedStmt.{Declare as DeclareTyped, Assign as AssignTyped, SetField as SetTyped, Write as WriteTyped, Call as CallTyped, Return as ReturnTyped, Break as BreakTyped, Continue as ContinueTyped}
+use Rattle.ceal_base.specs.declared.typed.TypedStmt.{Declare as DeclareTyped, Assign as AssignTyped}
+use Rattle.ceal_base.specs.declared.typed.TypedStmt.{SetField as SetTyped, Write as WriteTyped, Call as CallTyped}
+use Rattle.ceal_base.specs.declared.typed.TypedStmt.{Return as ReturnTyped, Break as BreakTyped}
+use Rattle.ceal_base.specs.declared.typed.TypedStmt.{Continue as ContinueTyped}
 use Rattle.ceal_base.specs.declared.typed.TypedStmt.TheBlock.{hidden-the_row-TypedStmt-0, shape-the_row-TypedStmt-0}
 use Rattle.ceal_base.specs.declared.typed.TypedStmt.TheViews as statements
 use Rattle.ceal_base.specs.declared.typed.TypedValue.{TypedValue}
@@ -39,7 +46,14 @@ use Rattle.ceal_types.specs.Heads.{number_or_fault, struct_number, kind_of, with
 use Rattle.ceal_base.specs.Kinds.{same_kind}
 use Rattle.ceal_types.specs.Kinds.{suits}
 use Rattle.ceal_types.specs.Resolves.{Environment, IsStruct, IsFunction, IsKind, IsVariable, IsMember, ExprResolves, ExprsResolve, ValueResolves, StmtResolves, RowResolves, StmtsResolve, in_scope}
-use Rattle.ceal_types.specs.Statements.{Block, step, block, still, empty_block, block_end, inner_block, with_step, declaration, declare, assignment, assign_if_found, assign, plain_kind, set_suited, set_value, set_member, set_left, set_field, write_held, write_of, write, call_of, call_checked, call_if_found, call, call_suits, call_by_own, arguments_suit, if_step, choose, branch, while_step, loop, asked_for, plain_value, held_value, read_value, modref_value, block_value, alloc_suits, alloc_by_own, alloc_value, alloc_by, alloc_of, typed_value, typed_stmt, typed_row, typed_stmts}
+use Rattle.ceal_types.specs.Statements.{Block, step, block, still, empty_block, block_end, inner_block, with_step}
+use Rattle.ceal_types.specs.Statements.{declaration, declare, assignment, assign_if_found, assign, plain_kind}
+use Rattle.ceal_types.specs.Statements.{set_suited, set_value, set_member, set_left, set_field, write_held, write_of}
+use Rattle.ceal_types.specs.Statements.{write, call_of, call_checked, call_if_found, call, call_suits, call_by_own}
+use Rattle.ceal_types.specs.Statements.{arguments_suit, if_step, choose, branch, while_step, loop, asked_for}
+use Rattle.ceal_types.specs.Statements.{plain_value, held_value, read_value, modref_value, block_value, alloc_suits}
+use Rattle.ceal_types.specs.Statements.{alloc_by_own, alloc_value, alloc_by, alloc_of, typed_value, typed_stmt}
+use Rattle.ceal_types.specs.Statements.{typed_row, typed_stmts}
 use Rattle.ceal_types.specs.Tables.{Name, has, find, value_at}
 use Rattle.ceal_types.specs.Walk.{fault, after, result_map, in_turn}
 use Rattle.ceal_types.specs.declared.program.Head.{Head}
@@ -52,7 +66,9 @@ use Rattle.ceal_types.proofs.Resolution.ExpressionResolved.{Whole}
 use Rattle.ceal_types.proofs.Typing.ExpressionTyped.{around}
 use Rattle.ceal_types.proofs.Walks.LongerList.{Grows, grows-same, grows-more, grows-on, grows-take}
 use Rattle.ceal_types.proofs.NameNumbers.FoundPlace.{find-place}
-use Rattle.ceal_types.proofs.Resolution.NumbersOfNames.{numbers, numbers-added, number_of, lookup-numbers, first, find-number, some-same, after-at, mapped-at, both-at, if-true, if-false, same-true, suits-true}
+use Rattle.ceal_types.proofs.Resolution.NumbersOfNames.{numbers, numbers-added, number_of, lookup-numbers, first}
+use Rattle.ceal_types.proofs.Resolution.NumbersOfNames.{find-number, some-same, after-at, mapped-at, both-at, if-true}
+use Rattle.ceal_types.proofs.Resolution.NumbersOfNames.{if-false, same-true, suits-true}
 use Rattle.ceal_types.proofs.Typing.StatementTyped.{row-declarations}
 use Rattle.ceal_types.proofs.Typing.ValueTyped.{HasHead, HeadsMatch}
 

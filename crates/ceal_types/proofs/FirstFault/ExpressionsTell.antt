@@ -1,5 +1,6 @@
 -- The first fault of an expression, and its type where it has none.
-use Rattle.std.proofs.Common.{◌≡◌, ℕ, Bool, true, false, Option, Some, None, Result, Ok, List, [], ◌∷◌, ◌++◌, position, slice_get, refl, sym, subst, ap, ◌∙◌, append_assoc, append-nil, cond, if◌then◌else◌}
+use Rattle.std.proofs.Common.{◌≡◌, ℕ, Bool, true, false, Option, Some, None, Result, Ok, List, [], ◌∷◌, ◌++◌, position}
+use Rattle.std.proofs.Common.{slice_get, refl, sym, subst, ap, ◌∙◌, append_assoc, append-nil, cond, if◌then◌else◌}
 use Rattle.std.specs.Prelude.{is_some}
 use Rattle.std.specs.Map.{lookup}
 use Rattle.std.specs.Option.{option_map, option_and_then, option_flatten}
@@ -17,8 +18,13 @@ use Rattle.ceal_base.specs.declared.syntax.ExprForm.TheBlock.{Row_of-Expr, end_o
 use Rattle.ceal_base.specs.declared.syntax.FunctionDecl.{FunctionDecl}
 use Rattle.ceal_base.specs.declared.syntax.Ident.{Ident}
 use Rattle.ceal_base.specs.declared.typed.TypedExpr.{TypedExpr}
-use Rattle.ceal_types.specs.Expressions.{Scope, typed_form, typed_operand, typed_expr, typed_exprs, with_expr, condition, variable_at, own_at, int_asked, unary_at, unary_of, binary_at, binary_of, comparison, int_operation, no_pick, field_of, field_at, address_of, address_at, pick_of, pick_at, no_address, member}
-use Rattle.ceal_types.specs.Faults.{one, one_unless, misfit, mismatch, operation_faults, arrow_faults, use_faults, address_faults, element_faults, form_faults, operand_faults, expr_faults, condition_faults, faults_of_each}
+use Rattle.ceal_types.specs.Expressions.{Scope, typed_form, typed_operand, typed_expr, typed_exprs, with_expr}
+use Rattle.ceal_types.specs.Expressions.{condition, variable_at, own_at, int_asked, unary_at, unary_of, binary_at}
+use Rattle.ceal_types.specs.Expressions.{binary_of, comparison, int_operation, no_pick, field_of, field_at, address_of}
+use Rattle.ceal_types.specs.Expressions.{address_at, pick_of, pick_at, no_address, member}
+use Rattle.ceal_types.specs.Faults.{one, one_unless, misfit, mismatch, operation_faults, arrow_faults, use_faults}
+use Rattle.ceal_types.specs.Faults.{address_faults, element_faults, form_faults, operand_faults, expr_faults}
+use Rattle.ceal_types.specs.Faults.{condition_faults, faults_of_each}
 use Rattle.ceal_types.specs.Kinds.{suits, comparable}
 use Rattle.ceal_types.specs.Known.{Known, TypingContext, pointer_type, member_known, operation_type, value_type, place_type, operand_span, form_type, operand_type, type_of}
 use Rattle.ceal_types.specs.Tables.{Name, has}

@@ -20,8 +20,13 @@ use Rattle.ceal_base.specs.declared.syntax.TypeForm.TheVariants as forms
 use Rattle.ceal_base.specs.declared.typed.FieldInfo.{FieldInfo}
 use Rattle.ceal_types.specs.Checked.{field_info}
 use Rattle.ceal_types.specs.Expressions.{Fields}
-use Rattle.ceal_types.specs.Faults.{one_if, type_faults, is_taken, element_names, element_taken, row_taken, member_faults, parameter_name, parameter_faults, own_faults, head_faults, faults_after, parameter_in_scope}
-use Rattle.ceal_types.specs.Heads.{struct_number, kind_of, plain_pointer, plain_place, field_kind_of, row_of, row_at, has_member, with_element, with_elements, added_field, new_field, with_field, with_variable, new_parameter, with_parameter, own_of, no_variables, head, with_parameters, head_of, with_struct, with_function, with_entry}
+use Rattle.ceal_types.specs.Faults.{one_if, type_faults, is_taken, element_names, element_taken, row_taken}
+use Rattle.ceal_types.specs.Faults.{member_faults, parameter_name, parameter_faults, own_faults, head_faults}
+use Rattle.ceal_types.specs.Faults.{faults_after, parameter_in_scope}
+use Rattle.ceal_types.specs.Heads.{struct_number, kind_of, plain_pointer, plain_place, field_kind_of, row_of, row_at}
+use Rattle.ceal_types.specs.Heads.{has_member, with_element, with_elements, added_field, new_field, with_field}
+use Rattle.ceal_types.specs.Heads.{with_variable, new_parameter, with_parameter, own_of, no_variables, head}
+use Rattle.ceal_types.specs.Heads.{with_parameters, head_of, with_struct, with_function, with_entry}
 use Rattle.ceal_types.specs.Known.{variable_type, fields_of_member, fields_in, structs_in, functions_in}
 use Rattle.ceal_types.specs.Resolves.{member_fields}
 use Rattle.ceal_types.specs.Tables.{Name, has, element_name}
@@ -32,7 +37,9 @@ use Rattle.ceal_types.specs.declared.program.Variables.{Variables}
 use Rattle.ceal_types.proofs.FirstFault.ExpressionsTell.{OwnAs, known_variables, variables-added}
 use Rattle.ceal_types.proofs.FirstFault.MembersTell.{known_structs}
 use Rattle.ceal_types.proofs.FirstFault.StatementsTell.{Any, struct-tells, pointer-tells, form-tells, KindsKnown, HeadKnown, HeadsKnown, has-heads}
-use Rattle.ceal_types.proofs.FirstFault.WalkTells.{Tells, after-tells, mapped-tells, where-tells, where-first, where-either, where-after, tells-weaker, tells-itself, tells-and, as-list, right-three, turn-tells}
+use Rattle.ceal_types.proofs.FirstFault.WalkTells.{Tells, after-tells, mapped-tells, where-tells, where-first}
+use Rattle.ceal_types.proofs.FirstFault.WalkTells.{where-either, where-after, tells-weaker, tells-itself, tells-and}
+use Rattle.ceal_types.proofs.FirstFault.WalkTells.{as-list, right-three, turn-tells}
 use Rattle.ceal_types.proofs.NameNumbers.NumberOfName.{has-any, keys-added}
 use Rattle.ceal_types.proofs.Resolution.NumbersOfNames.{names-of-fields}
 use Rattle.ceal_types.proofs.Resolution.ProgramResolved.{Gives, added-given}

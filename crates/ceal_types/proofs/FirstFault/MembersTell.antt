@@ -18,7 +18,9 @@ use Rattle.ceal_base.specs.declared.typed.FieldInfo.{FieldInfo}
 use Rattle.ceal_base.specs.declared.typed.TypedExpr.{TypedExpr}
 use Rattle.ceal_base.specs.declared.typed.TypedForm.TheViews as typed
 use Rattle.ceal_types.specs.Checked.{field_info}
-use Rattle.ceal_types.specs.Expressions.{Fields, expression, found_or, field_or_row, field_named, field_of_struct, member_of, member, value_of_field, field_of, place_of_field, address_of, element_of, element_of_row, pick_of_kind, pick_of}
+use Rattle.ceal_types.specs.Expressions.{Fields, expression, found_or, field_or_row, field_named, field_of_struct}
+use Rattle.ceal_types.specs.Expressions.{member_of, member, value_of_field, field_of, place_of_field, address_of}
+use Rattle.ceal_types.specs.Expressions.{element_of, element_of_row, pick_of_kind, pick_of}
 use Rattle.ceal_types.specs.Faults.{one, one_unless, one_if, misfit, arrow_faults, use_faults, address_faults, element_faults}
 use Rattle.ceal_types.specs.Kinds.{suits}
 use Rattle.ceal_types.specs.Known.{Known, Declared, member_named, member_known, value_type, place_type}

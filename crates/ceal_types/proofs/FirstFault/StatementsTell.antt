@@ -33,10 +33,20 @@ use Rattle.ceal_base.specs.declared.typed.TypedStmt.{TypedStmt}
 use Rattle.ceal_base.specs.declared.typed.TypedStmt.{SetField as SetTyped, Write as WriteTyped}
 use Rattle.ceal_base.specs.declared.typed.TypedValue.TheVariants.{Plain as PlainTyped, Read as ReadTyped, Alloc as AllocTyped, ModrefInt as ModrefIntTyped, Modref as ModrefTyped}
 use Rattle.ceal_types.specs.Expressions.{Scope, typed_expr, typed_exprs, condition, member}
-use Rattle.ceal_types.specs.Faults.{one, one_unless, one_if, struct_faults, type_faults, misfit, arrow_faults, use_faults, expr_faults, condition_faults, argument_faults, call_faults, alloc_faults, place_faults, held_kind, value_faults, with_declared, stmt_faults, row_faults, stmts_faults, faults_of_each, parameter_in_scope}
+use Rattle.ceal_types.specs.Faults.{one, one_unless, one_if, struct_faults, type_faults, misfit, arrow_faults}
+use Rattle.ceal_types.specs.Faults.{use_faults, expr_faults, condition_faults, argument_faults, call_faults}
+use Rattle.ceal_types.specs.Faults.{alloc_faults, place_faults, held_kind, value_faults, with_declared, stmt_faults}
+use Rattle.ceal_types.specs.Faults.{row_faults, stmts_faults, faults_of_each, parameter_in_scope}
 use Rattle.ceal_types.specs.Heads.{number_or_fault, struct_number, kind_of}
 use Rattle.ceal_types.specs.Known.{Known, TypingContext, variable_type, pointer_type, member_known, type_of, type_of_field}
-use Rattle.ceal_types.specs.Statements.{Step, Block, still, empty_block, block_end, inner_block, with_step, declaration, declare, assignment, assign_if_found, assign, plain_kind as plain_or_fault, set_suited, set_value, set_member, set_left, set_field, write_held, write_of, write, call_of, call_checked, call_if_found, call, arguments_suit, call_by_own, call_suits, alloc_by_own, alloc_suits, if_step, choose, branch, while_step, loop, asked_for, plain_value, held_value, read_value, modref_value, block_value, alloc_value, alloc_by, alloc_of, typed_value, typed_stmt, typed_row, typed_stmts}
+use Rattle.ceal_types.specs.Statements.{Step, Block, still, empty_block, block_end, inner_block, with_step, declaration}
+use Rattle.ceal_types.specs.Statements.{declare, assignment, assign_if_found, assign, plain_kind as plain_or_fault}
+use Rattle.ceal_types.specs.Statements.{set_suited, set_value, set_member, set_left, set_field, write_held, write_of}
+use Rattle.ceal_types.specs.Statements.{write, call_of, call_checked, call_if_found, call, arguments_suit, call_by_own}
+use Rattle.ceal_types.specs.Statements.{call_suits, alloc_by_own, alloc_suits, if_step, choose, branch, while_step}
+use Rattle.ceal_types.specs.Statements.{loop, asked_for, plain_value, held_value, read_value, modref_value, block_value}
+use Rattle.ceal_types.specs.Statements.{alloc_value, alloc_by, alloc_of, typed_value, typed_stmt, typed_row}
+use Rattle.ceal_types.specs.Statements.{typed_stmts}
 use Rattle.ceal_types.specs.Tables.{Name, has, find, both_some}
 use Rattle.ceal_types.specs.Walk.{fault, after, result_map, in_turn}
 use Rattle.ceal_types.specs.declared.program.Head.{Head}
@@ -44,9 +54,13 @@ use Rattle.ceal_types.specs.declared.program.Member.{Member}
 use Rattle.ceal_types.specs.declared.program.Program.{Program}
 use Rattle.ceal_types.specs.declared.program.Variable.{Variable}
 use Rattle.ceal_types.specs.declared.program.Variables.{Variables}
-use Rattle.ceal_types.proofs.FirstFault.ExpressionsTell.{OwnAs, Here, known_variables, type_of_variable, variables-added, lookup-known, has-known, same-place, ArgsTyped, expr-tells, exprs-tell, condition-tells}
+use Rattle.ceal_types.proofs.FirstFault.ExpressionsTell.{OwnAs, Here, known_variables, type_of_variable}
+use Rattle.ceal_types.proofs.FirstFault.ExpressionsTell.{variables-added, lookup-known, has-known, same-place}
+use Rattle.ceal_types.proofs.FirstFault.ExpressionsTell.{ArgsTyped, expr-tells, exprs-tell, condition-tells}
 use Rattle.ceal_types.proofs.FirstFault.MembersTell.{TypedAs, Shown, MemberAs, misfit-tells, misfit-first, member-tells}
-use Rattle.ceal_types.proofs.FirstFault.WalkTells.{Tells, after-tells, both-tells, mapped-tells, unless-tells, unless-first, where-first, either-way, tells-weaker, tells-itself, as-list, right-three, right-four, right-five}
+use Rattle.ceal_types.proofs.FirstFault.WalkTells.{Tells, after-tells, both-tells, mapped-tells, unless-tells}
+use Rattle.ceal_types.proofs.FirstFault.WalkTells.{unless-first, where-first, either-way, tells-weaker, tells-itself}
+use Rattle.ceal_types.proofs.FirstFault.WalkTells.{as-list, right-three, right-four, right-five}
 use Rattle.ceal_types.proofs.NameNumbers.NumberOfName.{hit, miss, has-number, any-position}
 use Rattle.ceal_types.proofs.Resolution.NumbersOfNames.{some-same}
 use Rattle.ceal_types.proofs.Walks.LongerList.{Grows, grows-same, grows-more, grows-on, grows-take}

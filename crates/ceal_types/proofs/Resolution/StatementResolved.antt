@@ -31,7 +31,13 @@ use Rattle.ceal_types.specs.Heads.{number_or_fault, struct_number, kind_of}
 use Rattle.ceal_base.specs.Kinds.{same_kind}
 use Rattle.ceal_types.specs.Kinds.{suits}
 use Rattle.ceal_types.specs.Resolves.{Environment, IsStruct, IsFunction, IsKind, ExprResolves, ExprsResolve, ValueResolves, StmtResolves, RowResolves, StmtsResolve, in_scope}
-use Rattle.ceal_types.specs.Statements.{Step, Block, still, empty_block, block_end, inner_block, with_step, declaration, declare, assignment, assign_if_found, assign, plain_kind, set_suited, set_value, set_member, set_left, set_field, write_held, write_of, write, call_of, call_checked, call_if_found, call, call_suits, if_step, choose, branch, while_step, loop, asked_for, plain_value, held_value, read_value, modref_value, block_value, alloc_suits, alloc_value, alloc_by, alloc_of, typed_value, typed_stmt, typed_row, typed_stmts}
+use Rattle.ceal_types.specs.Statements.{Step, Block, still, empty_block, block_end, inner_block, with_step, declaration}
+use Rattle.ceal_types.specs.Statements.{declare, assignment, assign_if_found, assign, plain_kind, set_suited, set_value}
+use Rattle.ceal_types.specs.Statements.{set_member, set_left, set_field, write_held, write_of, write, call_of}
+use Rattle.ceal_types.specs.Statements.{call_checked, call_if_found, call, call_suits, if_step, choose, branch}
+use Rattle.ceal_types.specs.Statements.{while_step, loop, asked_for, plain_value, held_value, read_value, modref_value}
+use Rattle.ceal_types.specs.Statements.{block_value, alloc_suits, alloc_value, alloc_by, alloc_of, typed_value}
+use Rattle.ceal_types.specs.Statements.{typed_stmt, typed_row, typed_stmts}
 use Rattle.ceal_types.specs.Tables.{has, find}
 use Rattle.ceal_types.specs.Walk.{fault, after, result_map, in_turn}
 use Rattle.ceal_types.specs.declared.program.Head.{Head}

@@ -25,7 +25,12 @@ use Rattle.ceal_base.specs.declared.typed.TypedForm.TheViews as typed
 use Rattle.ceal_base.specs.declared.typed.TypedForm.TheBlock.{hidden-the_row-TypedExpr-0, shape-the_row-TypedExpr-0}
 use Rattle.ceal_base.specs.declared.typed.TypedFunction.{TypedFunction}
 use Rattle.ceal_types.specs.Checked.{struct_info}
-use Rattle.ceal_types.specs.Expressions.{Scope, Fields, typed_form, typed_operand, typed_expr, typed_exprs, with_expr, condition, variable_at, own_at, int_asked, unary_at, unary_of, binary_at, binary_of, comparison, int_operation, expression, found_or, field_or_row, no_pick, element_of, element_of_row, pick_of_kind, pick_of, pick_at, field_named, field_of_struct, member_of, member, value_of_field, field_of, field_at, place_of_field, address_of, address_at, no_address}
+use Rattle.ceal_types.specs.Expressions.{Scope, Fields, typed_form, typed_operand, typed_expr, typed_exprs, with_expr}
+use Rattle.ceal_types.specs.Expressions.{condition, variable_at, own_at, int_asked, unary_at, unary_of, binary_at}
+use Rattle.ceal_types.specs.Expressions.{binary_of, comparison, int_operation, expression, found_or, field_or_row}
+use Rattle.ceal_types.specs.Expressions.{no_pick, element_of, element_of_row, pick_of_kind, pick_of, pick_at}
+use Rattle.ceal_types.specs.Expressions.{field_named, field_of_struct, member_of, member, value_of_field, field_of}
+use Rattle.ceal_types.specs.Expressions.{field_at, place_of_field, address_of, address_at, no_address}
 use Rattle.ceal_types.specs.Kinds.{suits, comparable}
 use Rattle.ceal_types.specs.Tables.{Name, find, value_at, element_name}
 use Rattle.ceal_types.specs.Walk.{fault, after, both, at_end}

@@ -1,5 +1,7 @@
 -- The heads that the walk gives are well typed.
-use Rattle.std.proofs.Common.{◌≡◌, ℕ, zero, suc, ◌+◌, ◌<◌, ◌≤◌, ◌||◌, arith, Bool, true, false, Option, Some, None, Result, Ok, Err, List, [], ◌∷◌, ◌++◌, All, map, length, refl, sym, subst, ap, ◌∙◌, append_assoc, append-nil}
+use Rattle.std.proofs.Common.{◌≡◌, ℕ, zero, suc, ◌+◌, ◌<◌, ◌≤◌, ◌||◌, arith, Bool, true, false, Option, Some, None}
+use Rattle.std.proofs.Common.{Result, Ok, Err, List, [], ◌∷◌, ◌++◌, All, map, length, refl, sym, subst, ap, ◌∙◌}
+use Rattle.std.proofs.Common.{append_assoc, append-nil}
 use Rattle.std.specs.Prelude.{IfOk, IfSome}
 use Rattle.std.specs.List.{IsDistinct}
 use Rattle.std.specs.Map.{keys_of}
@@ -25,7 +27,11 @@ use Rattle.ceal_base.specs.declared.syntax.TypeForm.TheVariants as forms
 use Rattle.ceal_base.specs.declared.typed.StructInfo.{StructInfo}
 use Rattle.ceal_types.specs.Checked.{field_info, struct_info}
 use Rattle.ceal_types.specs.Expressions.{Fields}
-use Rattle.ceal_types.specs.Heads.{struct_number, kind_of, plain_pointer, plain_place, field_kind_of, row_of, row_at, has_member, with_element, with_elements, added_field, new_field, with_field, with_variable, new_parameter, with_parameter, own_of, no_variables, head, with_parameters, head_of, with_struct, with_function, with_entry, with_struct_name, struct_names}
+use Rattle.ceal_types.specs.Heads.{struct_number, kind_of, plain_pointer, plain_place, field_kind_of, row_of, row_at}
+use Rattle.ceal_types.specs.Heads.{has_member, with_element, with_elements, added_field, new_field, with_field}
+use Rattle.ceal_types.specs.Heads.{with_variable, new_parameter, with_parameter, own_of, no_variables, head}
+use Rattle.ceal_types.specs.Heads.{with_parameters, head_of, with_struct, with_function, with_entry, with_struct_name}
+use Rattle.ceal_types.specs.Heads.{struct_names}
 use Rattle.ceal_types.specs.Limits.{width, fields_in, IsShort}
 use Rattle.ceal_types.specs.Tables.{Name, has, with_name, element_name}
 use Rattle.ceal_types.specs.Walk.{fault, result_map, in_turn}

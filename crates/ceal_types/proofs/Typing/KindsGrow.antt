@@ -8,7 +8,9 @@ use Rattle.ceal_base.specs.declared.syntax.Stmt.{Row_of-Stmt, end_of-Stmt, more_
 use Rattle.ceal_base.specs.declared.typed.TypedStmt.{TypedStmt}
 use Rattle.ceal_types.specs.Expressions.{condition}
 use Rattle.ceal_types.specs.Heads.{kind_of}
-use Rattle.ceal_types.specs.Statements.{Step, Block, still, empty_block, block_end, inner_block, with_step, with_stmt, declaration, declare, assign, set_field, write, call, if_step, choose, branch, while_step, loop, typed_value, typed_stmt, typed_row, typed_stmts}
+use Rattle.ceal_types.specs.Statements.{Step, Block, still, empty_block, block_end, inner_block, with_step, with_stmt}
+use Rattle.ceal_types.specs.Statements.{declaration, declare, assign, set_field, write, call, if_step, choose, branch}
+use Rattle.ceal_types.specs.Statements.{while_step, loop, typed_value, typed_stmt, typed_row, typed_stmts}
 use Rattle.ceal_types.specs.Tables.{has}
 use Rattle.ceal_types.specs.Walk.{fault, result_map}
 use Rattle.ceal_types.specs.declared.program.Program.{Program}

@@ -30,7 +30,12 @@ use Rattle.ceal_types.specs.Checked.{struct_info}
 use Rattle.ceal_types.specs.Expressions.{Scope, typed_expr, typed_exprs, condition, member}
 use Rattle.ceal_types.specs.Heads.{kind_of, with_variable}
 use Rattle.ceal_types.specs.Kinds.{suits}
-use Rattle.ceal_types.specs.Statements.{Step, Block, step, still, empty_block, block_end, inner_block, with_step, declaration, declare, assignment, assign_if_found, assign, plain_kind, set_suited, set_value, set_member, set_left, set_field, write_held, write_of, write, call_of, call_checked, call_if_found, call, call_suits, if_step, choose, branch, while_step, loop, typed_value, typed_stmt, typed_row, typed_stmts, with_stmt}
+use Rattle.ceal_types.specs.Statements.{Step, Block, step, still, empty_block, block_end, inner_block, with_step}
+use Rattle.ceal_types.specs.Statements.{declaration, declare, assignment, assign_if_found, assign, plain_kind}
+use Rattle.ceal_types.specs.Statements.{set_suited, set_value, set_member, set_left, set_field, write_held, write_of}
+use Rattle.ceal_types.specs.Statements.{write, call_of, call_checked, call_if_found, call, call_suits, if_step, choose}
+use Rattle.ceal_types.specs.Statements.{branch, while_step, loop, typed_value, typed_stmt, typed_row, typed_stmts}
+use Rattle.ceal_types.specs.Statements.{with_stmt}
 use Rattle.ceal_types.specs.Tables.{Name, has, find, value_at}
 use Rattle.ceal_types.specs.Walk.{fault, after, result_map}
 use Rattle.ceal_types.specs.declared.program.Head.{Head}

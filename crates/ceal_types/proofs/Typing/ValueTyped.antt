@@ -26,7 +26,9 @@ use Rattle.ceal_types.specs.Expressions.{Scope, typed_expr, typed_exprs}
 use Rattle.ceal_types.specs.Heads.{number_or_fault, struct_number, kind_of}
 use Rattle.ceal_base.specs.Kinds.{same_kind}
 use Rattle.ceal_types.specs.Kinds.{suits}
-use Rattle.ceal_types.specs.Statements.{arguments_suit, call_by_own, call_suits, alloc_by_own, alloc_suits, asked_for, plain_value, held_value, read_value, modref_value, block_value, alloc_value, alloc_by, alloc_of, typed_value}
+use Rattle.ceal_types.specs.Statements.{arguments_suit, call_by_own, call_suits, alloc_by_own, alloc_suits, asked_for}
+use Rattle.ceal_types.specs.Statements.{plain_value, held_value, read_value, modref_value, block_value, alloc_value}
+use Rattle.ceal_types.specs.Statements.{alloc_by, alloc_of, typed_value}
 use Rattle.ceal_types.specs.Tables.{Name, find, value_at}
 use Rattle.ceal_types.specs.Walk.{fault}
 use Rattle.ceal_types.specs.declared.program.Head.{Head}

@@ -1,5 +1,7 @@
 use Rattle.std.proofs.Common.{arith}
-use Rattle.ceal_cli.proofs.Outputs.OutputOfBytes.{output_for, answer_for, refusal_for, prefix_for, readable_for, short_for, taken_for, refused_for, done_for, not_refused_for, not_done_for, not_taken_for, none_for}
+use Rattle.ceal_cli.proofs.Outputs.OutputOfBytes.{output_for, answer_for, refusal_for, prefix_for, readable_for}
+use Rattle.ceal_cli.proofs.Outputs.OutputOfBytes.{short_for, taken_for, refused_for, done_for, not_refused_for}
+use Rattle.ceal_cli.proofs.Outputs.OutputOfBytes.{not_done_for, not_taken_for, none_for}
 use Rattle.ceal_cli.proofs.top.answer_input.Goals as goal
 
 pub returns-in-Ok-true-clause-output : goal.returns-in-Ok-true-clause-output
