@@ -39,7 +39,9 @@ pub leads-more : (code : Code) (start m m' : Machine) (out written : List Item) 
 leads-more code start m m' out written h e = leads-then code own start m m' out written h (leads-turn code own m m' written e)
 
 -- where it is beyond the limit
-pub is-beyond : (code : Code) (limit : Limit) (start m : Machine) (out : List Item) (steps work : ℕ) → Leads code own start m out → steps ≡ steps_in out → m.state.work ≡ work → Exceeds limit steps work → IsBeyond code limit start
+pub is-beyond : (code : Code) (limit : Limit) (start m : Machine) (out : List Item) (steps work : ℕ)
+    → Leads code own start m out → steps ≡ steps_in out → m.state.work ≡ work → Exceeds limit steps work
+    → IsBeyond code limit start
 is-beyond code limit start m out steps work h e k l = record {
   machine = m;
   out = out;
@@ -48,7 +50,8 @@ is-beyond code limit start m out steps work h e k l = record {
 }
 
 -- where it has ended, within the limit
-pub ends-at : (code : Code) (limit : Limit) (start m : Machine) (out : List Item) (steps work : ℕ) (s : State) → Leads code own start m out → steps ≡ steps_in out → m.state.work ≡ work → Keeps limit steps work
+pub ends-at : (code : Code) (limit : Limit) (start m : Machine) (out : List Item) (steps work : ℕ) (s : State)
+    → Leads code own start m out → steps ≡ steps_in out → m.state.work ≡ work → Keeps limit steps work
     → turn code own m ≡ Ended → m.state ≡ s → EndsAt code limit start out s
 ends-at code limit start m out steps work s h e k l t n = record {
   ended = record { machine = m; leads = h; ended = t; within = subst (λ n. Keeps limit n m.state.work) e (subst (λ w. Keeps limit steps w) (sym k) l) };

@@ -63,7 +63,9 @@ inside-first : (inside : Trace) (back : List Item) → first (levels (flat insid
 inside-first inside back = first-flat inside (End ∷ back) ∙ followed-nothing inside
 
 -- the machine of the read's unit
-begins-by : (code : Code) (inputs : List Block) (r : Repair) (front : List Item) (p : Place) (u : UnitId) (v : ℕ) (args : List Word) (inside : Trace) (back after : List Item) (content : Word) (s : Store) (x : Plain) (next spent : ℕ)
+begins-by : (code : Code) (inputs : List Block) (r : Repair) (front : List Item) (p : Place) (u : UnitId) (v : ℕ)
+    (args : List Word) (inside : Trace) (back after : List Item) (content : Word) (s : Store) (x : Plain)
+    (next spent : ℕ)
     → x ≡ with_inputs code inputs r.known → s ≡ store_after code (starting code inputs r.known) front → next ≡ r.number → spent ≡ r.spent
     → content ≡ store_after code (starting code inputs r.known) front p → after ≡ flat inside ++ End ∷ back
     → record {
@@ -75,7 +77,8 @@ begins-by : (code : Code) (inputs : List Block) (r : Repair) (front : List Item)
 begins-by code inputs r front p u v args inside back after content s x next spent a b c d e h = rw (e, a, b, c, d, h, inside-first inside back) refl
 
 -- the items after a turn
-spliced-by : (front : List Item) (p : Place) (u : UnitId) (v : ℕ) (args : List Word) (c d : Word) (out after : List Item) (inside : Trace) (back : List Item) → c ≡ d → after ≡ flat inside ++ End ∷ back
+spliced-by : (front : List Item) (p : Place) (u : UnitId) (v : ℕ) (args : List Word) (c d : Word)
+    (out after : List Item) (inside : Trace) (back : List Item) → c ≡ d → after ≡ flat inside ++ End ∷ back
     → front ++ Read p c u v args ∷ (out ++ End ∷ skipped 1 after) ≡ front ++ Read p d u v args ∷ (out ++ End ∷ back)
 spliced-by front p u v args c d out after inside back e h = rw (e, h, skipped-inside inside back) refl
 
@@ -105,11 +108,13 @@ is-ran code fuel start s ran e n k below others = record {
 }
 
 -- no block of a trace that may be edited has a number from the next one on
-none-above : (code : Code) (old inputs : List Block) (f : ℕ) (args : List Word) (l : Trace) (next : ℕ) → Edited code old inputs f args l next → Sound code own inputs f args (beginning code inputs l next)
+none-above : (code : Code) (old inputs : List Block) (f : ℕ) (args : List Word) (l : Trace) (next : ℕ)
+    → Edited code old inputs f args l next → Sound code own inputs f args (beginning code inputs l next)
 none-above code old inputs f args l next e = begin-law code own old inputs f args l next next e (λ j k h. h) e.above
 
 -- a repair that begins
-module _ (code : Code) (inputs : List Block) (l : Trace) (next : ℕ) (q : RepairInCode) (items : q.forest ≡ flat l) (is_next : q.next ≡ next) (spent : q.spent ≡ 0) (x : Plain) (plain : x ≡ plain_of code inputs l)
+module _ (code : Code) (inputs : List Block) (l : Trace) (next : ℕ) (q : RepairInCode) (items : q.forest ≡ flat l)
+    (is_next : q.next ≡ next) (spent : q.spent ≡ 0) (x : Plain) (plain : x ≡ plain_of code inputs l)
     (below : (b : ℕ) → b < next → knowing nothing q.known (Core b) ≡ x (Core b)) (others : (b : ℕ) → next ≤ b → knowing nothing q.known (Core b) ≡ None) where
   module _ (old : List Block) (f : ℕ) (args : List Word) (e : Edited code old inputs f args l next) where
     begun-known : (b : ℕ) → (b ≡ next) ⊎ ((b < next) ⊎ (next < b)) → knowing nothing q.known (Core b) ≡ plain_of code inputs l (Core b)
@@ -182,7 +187,8 @@ module _ (code : Code) (inputs : List Block) (f : ℕ) (args : List Word) (fits 
           end.1,
           record {
             items = ap (λ k. k.forest) e
-                ∙ (spliced-by x.front.now x.closure.place x.closure.unit x.closure.var x.closure.args x.content (store_after code (starting code inputs r.known) x.front.now x.closure.place) ran.inside.items x.after.now
+                ∙ (spliced-by x.front.now x.closure.place x.closure.unit x.closure.var x.closure.args x.content
+                (store_after code (starting code inputs r.known) x.front.now x.closure.place) ran.inside.items x.after.now
                 first_read.inside first_read.back there.stale.content first_read.items ∙ sym end.2);
             known = rw e (known-all ran h end.0 later.sound);
             next = rw e (sym h.number);

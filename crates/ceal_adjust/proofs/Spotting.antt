@@ -121,7 +121,9 @@ module _ (is : List Item) where
         let o = e.before in
         let rest : ℕ = levels + depth is to - depth is from in
         let bal : rest + depth is from ≡ levels + depth is to = omega (arith, enough to o) in
-        let w = walk (λ l xs. skipped l xs) (to - from) to (omega (arith, o.later)) o (λ j l i a b f h. skipped-next l (after_item i l) (i ∷ drop (suc j) is) i (drop (suc j) is) refl h refl) rest bal in
+        let w = walk (λ l xs. skipped l xs) (to - from) to (omega (arith, o.later)) o
+        (λ j l i a b f h. skipped-next l (after_item i l) (i ∷ drop (suc j) is) i
+        (drop (suc j) is) refl h refl) rest bal in
         sym (w ∙ elim e.last [
           | inl a ↦ ap (λ xs. skipped rest xs) (drop_of_length-le is (omega (arith, a))) ∙ (skipped-none rest ∙ sym (drop_of_length-le is (omega (arith, a))))
           | inr a ↦ skipped-no rest (drop to is) (omega (arith, bal, a))

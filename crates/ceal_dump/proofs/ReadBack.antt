@@ -62,7 +62,13 @@ word-block (Core n) more = refl
 pub word-back : (w : Word) (more : List ℕ) → SmallWord w → Stops more → word_at (word_text w ++ more) ≡ (w, more)
 unfolding word_at
 word-back (Num (pos n)) more h e =
-    rw (first-above n more 110 (omega (arith, h)) (omega arith), first-above n more 105 (omega (arith, h)) (omega arith), first-above n more 99 (omega (arith, h)) (omega arith), positive-back n more h e.ends)
+    rw (
+      first-above n more 110 (omega (arith, h)) (omega arith),
+      first-above n more 105 (omega (arith, h))
+          (omega arith),
+      first-above n more 99 (omega (arith, h)) (omega arith),
+      positive-back n more h e.ends,
+    )
     refl
 word-back (Num (negsuc n)) more h e = rw (negative-back n more h e.ends) refl
 word-back Null more h e = refl
@@ -133,7 +139,13 @@ blocks-back (b ∷ bs) more h =
 key-back : (key : Key) (more : List ℕ) → SmallKey key → key_at (key_text key ++ (10 ∷ more)) ≡ (key, 10 ∷ more)
 unfolding key_at
 key-back (Init f args) more h =
-    rw (append_assoc (codes "f" ++ decimal f) (words_text args) (10 ∷ more), small-back f (words_text args ++ (10 ∷ more)) h.0 (words-stop args (10 ∷ more) (fed more)).ends, words-back args (10 ∷ more) h.1 (fed more) refl) refl
+    rw (
+      append_assoc (codes "f" ++ decimal f) (words_text args) (10 ∷ more),
+      small-back f
+          (words_text args ++ (10 ∷ more)) h.0 (words-stop args (10 ∷ more) (fed more)).ends,
+      words-back args
+          (10 ∷ more) h.1 (fed more) refl,
+    ) refl
 key-back IntKey more h = refl
 key-back (PtrKey n) more h = rw (small-back n (10 ∷ more) h refl) refl
 
@@ -180,7 +192,13 @@ write-back p w more h k = rw (place-back p (32 ∷ (word_text w ++ (10 ∷ more)
 closure-back : (p : Place) (w : Word) (u v : ℕ) (args : List Word) (more : List ℕ) → Small u → Small v → SmallWords args
     → closure_read p w (decimal u ++ (32 ∷ (118 ∷ (decimal v ++ (words_text args ++ (10 ∷ more)))))) ≡ (Read p w (record { 0 = u }) v args, more)
 closure-back p w u v args more h k l =
-    rw (small-back u (32 ∷ (118 ∷ (decimal v ++ (words_text args ++ (10 ∷ more))))) h refl, small-back v (words_text args ++ (10 ∷ more)) k (words-stop args (10 ∷ more) (fed more)).ends, words-back args (10 ∷ more) l (fed more) refl) refl
+    rw (
+      small-back u (32 ∷ (118 ∷ (decimal v ++ (words_text args ++ (10 ∷ more))))) h refl,
+      small-back v
+          (words_text args ++ (10 ∷ more)) k (words-stop args (10 ∷ more) (fed more)).ends,
+      words-back args
+          (10 ∷ more) l (fed more) refl,
+    ) refl
 
 read-back : (p : Place) (w : Word) (u v : ℕ) (args : List Word) (more : List ℕ) → SmallPlace p → SmallWord w → Small u → Small v → SmallWords args
     → read_at (place_text p ++ (32 ∷ (word_text w ++ (32 ∷ (117 ∷ (decimal u ++ (32 ∷ (118 ∷ (decimal v ++ (words_text args ++ (10 ∷ more))))))))))) ≡ (Read p w (record { 0 = u }) v args, more)

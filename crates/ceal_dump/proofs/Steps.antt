@@ -17,7 +17,8 @@ text-more out line rest text next all e k h = ap (λ t. t ++ rest) e ∙ (append
 text-end : (out text all : List ℕ) → text ≡ [] → out ++ text ≡ all → out ≡ all
 text-end out text all e h = sym (append-nil out) ∙ (ap (λ t. out ++ t) (sym e) ∙ h)
 
-pub words-more : (out mid next all : List ℕ) (words more : List Word) (w : Word) → mid ≡ out ++ codes " " → next ≡ mid ++ word_text w → words ≡ w ∷ more → out ++ words_text words ≡ all → next ++ words_text more ≡ all
+pub words-more : (out mid next all : List ℕ) (words more : List Word) (w : Word) → mid ≡ out ++ codes " "
+    → next ≡ mid ++ word_text w → words ≡ w ∷ more → out ++ words_text words ≡ all → next ++ words_text more ≡ all
 unfolding words_text
 words-more out mid next all words more w e k l h =
     text-more out (codes " " ++ word_text w) (words_text more) (words_text words) next all (k ∙ (ap (λ t. t ++ word_text w) e ∙ append_assoc out (codes " ") (word_text w))) (ap words_text l) h

@@ -246,4 +246,24 @@ all-length xs n after exits = sym (ap length (row-blocks xs n after exits)) ∙ 
 
 pub ruleset size_steps = (size-declare, size-assign, size-set, size-write, size-call, size-return, size-break, size-continue, size-if, size-while, sizes-nil, sizes-cons)
 
-pub ruleset put_steps = (size_steps, on-declare, on-assign, on-set, on-write, on-call, on-return, on-break, on-continue, on-if, on-while, blocks-declare, blocks-assign, blocks-set, blocks-write, blocks-call, blocks-return, blocks-break, blocks-continue)
+pub ruleset put_steps = (
+  size_steps,
+  on-declare,
+  on-assign,
+  on-set,
+  on-write,
+  on-call,
+  on-return,
+  on-break,
+  on-continue,
+  on-if,
+  on-while,
+  blocks-declare,
+  blocks-assign,
+  blocks-set,
+  blocks-write,
+  blocks-call,
+  blocks-return,
+  blocks-break,
+  blocks-continue,
+)

@@ -37,7 +37,9 @@ abbrev none : CodeUnit
 none = record { function = 0; params = []; body = [] }
 
 pub unit-folded : (structs : List StructInfo) (units : List CodeUnit) (u : ℕ)
-    → unwrap_or (slice_get (folded_units structs units) u) (record { function = 0; params = []; body = [] }) ≡ folded_unit structs (unwrap_or (slice_get units u) (record { function = 0; params = []; body = [] }))
+    → unwrap_or (slice_get (folded_units structs units) u)
+    (record { function = 0; params = []; body = [] }) ≡ folded_unit structs
+    (unwrap_or (slice_get units u) (record { function = 0; params = []; body = [] }))
 unfolding folded_units folded_commands without_unused
 unit-folded structs [] u = refl
 unit-folded structs (unit ∷ units) zero = refl
@@ -109,17 +111,24 @@ module _ (code : Code) (ok : valid code ≡ true) where
       subst (λ c. CmdsTied code ok u i env env' c (command_at after u i)) (sym a) (subst (CmdsTied code ok u i env env' Done) (sym b) CmdsTied.done)
   command-tied u i env env' (FrameTied.inside unit fuel flags stepped is path known same) = go fuel path
     where
-      at : (c : Cmd) → slice_get unit.body i ≡ Some c → (n : ℕ) → onward (paths_ok code unit.function unit.body n) c i flags ≡ true → CmdsTied code ok u i env env' (command_at code u i) (command_at after u i)
+      at : (c : Cmd) → slice_get unit.body i ≡ Some c → (n : ℕ) → onward
+          (paths_ok code unit.function unit.body n) c i flags ≡ true → CmdsTied code ok u i env env'
+          (command_at code u i) (command_at after u i)
       at c e n h =
           let s = spot code.structs unit.body i c (unit-tree code unit (unit-valid code ok u unit is)) e in
           let up = forward-at unit.body 0 i i c (unit-forward code unit (unit-valid code ok u unit is)) e (omega arith) in
           let p : unit_at code u ≡ unit = ap (λ o. unwrap_or o none) is in
           let a : command_at code u i ≡ c = ap (λ unit. unwrap_or (slice_get unit.body i) Done) p ∙ ap (λ o. unwrap_or o Done) e in
-          let b : command_at after u i ≡ command_or_tick (used_in s.later (followers c i)) (folded_command code.structs (facts code.structs at_root 0 unit.body i) c) = ap (λ unit. unwrap_or (slice_get unit.body i) Done) (unit-is u ∙ ap (folded_unit code.structs) p) ∙ ap (λ o. unwrap_or o Done) s.there in
+          let b : command_at after u i ≡ command_or_tick (used_in s.later (followers c i))
+          (folded_command code.structs (facts code.structs at_root 0 unit.body i) c) = ap
+          (λ unit. unwrap_or (slice_get unit.body i) Done) (unit-is u ∙ ap (folded_unit code.structs) p) ∙ ap
+          (λ o. unwrap_or o Done) s.there in
           subst (λ c. CmdsTied code ok u i env env' c (command_at after u i)) (sym a)
           (subst (CmdsTied code ok u i env env' c) (sym b) (cmd-tied code ok u i env env' unit is known same s.later s.ahead c up s.here s.follow n flags h))
 
-      found : (o : Option Cmd) (n : ℕ) → slice_get unit.body i ≡ o → path_ok code unit.function (paths_ok code unit.function unit.body n) o i flags stepped ≡ true → CmdsTied code ok u i env env' (command_at code u i) (command_at after u i)
+      found : (o : Option Cmd) (n : ℕ) → slice_get unit.body i ≡ o → path_ok code unit.function
+          (paths_ok code unit.function unit.body n) o i flags stepped ≡ true → CmdsTied code ok u i env env'
+          (command_at code u i) (command_at after u i)
       found None n g h = absurd (grind (arith, h))
       found (Some c) n g h =
           let k = both (command_ok code unit.function flags stepped c) (onward (paths_ok code unit.function unit.body n) c i flags) h in at c g n k.1
@@ -162,7 +171,8 @@ module _ (code : Code) (ok : valid code ≡ true) where
   writes-tied (At p) value st st' t = ActsTied.writes t
 
   -- a unit continues with the same word
-  pub given-tied : (u v : ℕ) (args : List Word) (w w' : Word) → w' ≡ w → (st st' : Stack) → Tied st st' → Tied (entered code u (given code u v args w) st) (entered after u (given after u v args w') st')
+  pub given-tied : (u v : ℕ) (args : List Word) (w w' : Word) → w' ≡ w → (st st' : Stack) → Tied st st' → Tied
+      (entered code u (given code u v args w) st) (entered after u (given after u v args w') st')
   given-tied u v args w w' e st st' t =
       subst (λ words. Tied (entered code u (given code u v args w) st) (entered after u words st')) (sym (given-is u v args w' ∙ ap (given code u v args) e))
       (entered-tied u (given code u v args w) st st' t)
@@ -174,7 +184,9 @@ module _ (code : Code) (ok : valid code ≡ true) where
   reads-tied (At p) u v args st st' t = ActsTied.reads t
 
   module _ (x : Plain) where
-    act-tied : (u i : ℕ) (env env' : Variables) {c c' : Cmd} (below below' : Stack) → CmdsTied code ok u i env env' c c' → Tied below below' → ActsTied (act code x c u i env below) (act after x c' u i env' below')
+    act-tied : (u i : ℕ) (env env' : Variables) {c c' : Cmd} (below below' : Stack)
+        → CmdsTied code ok u i env env' c c' → Tied below below' → ActsTied (act code x c u i env below)
+        (act after x c' u i env' below')
     act-tied u i env env' below below' (CmdsTied.move h) t = ActsTied.quiet (Tied.frame (h x) t)
     act-tied u i env env' below below' (CmdsTied.dropped h) t = ActsTied.quiet (Tied.frame (h x) t)
     act-tied u i env env' below below' (CmdsTied.tick h) t = ActsTied.quiet (Tied.frame h t)
@@ -193,10 +205,13 @@ module _ (code : Code) (ok : valid code ≡ true) where
         rw (a x, b x) (reads-tied (expr_value code.structs x env p) w v.0 (values code.structs x env args) below below' t)
     act-tied u i env env' below below' (CmdsTied.call {g = g} {args = args} {w = w} {rest = rest} a b) t =
         rw (a x, b x, entry-is g)
-        (ActsTied.quiet (entered-tied (entry_of code g) (values code.structs x env args) (entered code w.0 (values code.structs x env rest) below) (entered after w.0 (values code.structs x env rest) below')
+        (ActsTied.quiet (entered-tied (entry_of code g) (values code.structs x env args)
+        (entered code w.0 (values code.structs x env rest) below)
+        (entered after w.0 (values code.structs x env rest) below')
         (entered-tied w.0 (values code.structs x env rest) below below' t)))
 
-    landed-tied : (u i : ℕ) (env env' : Variables) {c c' : Cmd} → CmdsTied code ok u i env env' c c' → (a a' rest rest' : Stack) → Tied a a' → Tied rest rest' → Tied (landed c a rest) (landed c' a' rest')
+    landed-tied : (u i : ℕ) (env env' : Variables) {c c' : Cmd} → CmdsTied code ok u i env env' c c' →
+        (a a' rest rest' : Stack) → Tied a a' → Tied rest rest' → Tied (landed c a rest) (landed c' a' rest')
     landed-tied u i env env' (CmdsTied.move h) a a' rest rest' s t = s
     landed-tied u i env env' (CmdsTied.dropped h) a a' rest rest' s t = s
     landed-tied u i env env' (CmdsTied.tick h) a a' rest rest' s t = s
@@ -216,7 +231,8 @@ module _ (code : Code) (ok : valid code ≡ true) where
         landed-tied w 0 env env (command-tied w 0 env env (enter-tied w env)) (entered code w words below) (entered after w words below') rest rest'
         (entered-tied w words below below' t) r
 
-    settled_at-tied : (u i : ℕ) (env env' : Variables) {c c' : Cmd} (below below' rest rest' : Stack) → CmdsTied code ok u i env env' c c' → FrameTied code ok u i env env' → Tied below below' → Tied rest rest'
+    settled_at-tied : (u i : ℕ) (env env' : Variables) {c c' : Cmd} (below below' rest rest' : Stack)
+        → CmdsTied code ok u i env env' c c' → FrameTied code ok u i env env' → Tied below below' → Tied rest rest'
         → Tied (settled_at code x c u i env below rest) (settled_at after x c' u i env' below' rest')
     settled_at-tied u i env env' below below' rest rest' (CmdsTied.move h) f t r = Tied.frame f t
     settled_at-tied u i env env' below below' rest rest' (CmdsTied.dropped h) f t r = Tied.frame f t

@@ -142,10 +142,14 @@ module _ (code : Code) (ok : valid code ≡ true) where
     F = facts code.structs at_root 0 unit.body
 
     -- the words of folded expressions that the folding uses
-    expr-tied : (e : CodeExpr) → ((v : ℕ) → mentions (folded_expr code.structs (F i) e) v ≡ true → env' v ≡ env v) → (x : Plain) → expr_value code.structs x env' (folded_expr code.structs (F i) e) ≡ expr_value code.structs x env e
+    expr-tied : (e : CodeExpr) → ((v : ℕ) → mentions (folded_expr code.structs (F i) e) v ≡ true → env' v ≡ env v) →
+        (x : Plain) → expr_value code.structs x env'
+        (folded_expr code.structs (F i) e) ≡ expr_value code.structs x env e
     expr-tied e h x = value-mentioned code.structs x env env' (folded_expr code.structs (F i) e) h ∙ value-folded code.structs x env (F i) known e
 
-    exprs-tied : (es : List CodeExpr) → ((v : ℕ) → all_mention (folded_exprs code.structs (F i) es) v ≡ true → env' v ≡ env v) → (x : Plain) → values code.structs x env' (folded_exprs code.structs (F i) es) ≡ values code.structs x env es
+    exprs-tied : (es : List CodeExpr) → ((v : ℕ) → all_mention (folded_exprs code.structs (F i) es) v ≡ true
+        → env' v ≡ env v) → (x : Plain) → values code.structs x env'
+        (folded_exprs code.structs (F i) es) ≡ values code.structs x env es
     exprs-tied es h x = values-mentioned code.structs x env env' (folded_exprs code.structs (F i) es) h ∙ values-folded code.structs x env (F i) known es
 
     module _ (c d : Cmd) (here : (v : ℕ) → used 0 (final code.structs unit.body) i v ≡ used_by later d i v) where
@@ -196,7 +200,9 @@ module _ (code : Code) (ok : valid code ≡ true) where
 
         go : (b : Bool) → used_in later ((i + 1) ∷ []) v.0 ≡ b → ((z : ℕ) → used 0 (final code.structs unit.body) i z ≡ used_by later (if b then Move v e' else Tick) i z)
             → CmdsTied u i env env' (Move v e) (if b then Move v e' else Tick)
-        go true f here = CmdsTied.move (λ x. frame-on (set env v.0 (expr_value code.structs x env e)) (set env' v.0 (expr_value code.structs x env' e')) (i + 1) fuel (slice_set flags v.0 true) p next-up (copied x)
+        go true f here = CmdsTied.move (λ x. frame-on (set env v.0 (expr_value code.structs x env e))
+            (set env' v.0 (expr_value code.structs x env' e')) (i + 1) fuel (slice_set flags v.0 true) p next-up
+            (copied x)
             (set-tied v.0 (expr_value code.structs x env e) (expr_value code.structs x env' e') (expr-tied e (λ z m. used-tied (Move v e) (Move v e') here z m) x)
             (λ z g m. kept-tied (Move v e) (Move v e') here z g (used-follower later ((i + 1) ∷ []) (i + 1) z (among-next i) m))))
         go false f here = CmdsTied.dropped (λ x. frame-on (set env v.0 (expr_value code.structs x env e)) env' (i + 1) fuel (slice_set flags v.0 true) p next-up (copied x) (λ z m. unset x z m))
@@ -208,7 +214,8 @@ module _ (code : Code) (ok : valid code ≡ true) where
                 used' = used-follower later ((i + 1) ∷ []) (i + 1) z (among-next i) m
 
                 which : (b : Bool) → (z == v.0) ≡ b → env' z ≡ set env v.0 (expr_value code.structs x env e) z
-                which true g = let n : z ≡ v.0 = nat-same z v.0 g in let k : used_in later ((i + 1) ∷ []) v.0 ≡ true = ap (λ z. used_in later ((i + 1) ∷ []) z) (sym n) ∙ used' in absurd (grind (arith, f, k))
+                which true g = let n : z ≡ v.0 = nat-same z v.0 g in let k : used_in later ((i + 1) ∷ []) v.0 ≡ true =
+                    ap (λ z. used_in later ((i + 1) ∷ []) z) (sym n) ∙ used' in absurd (grind (arith, f, k))
                 which false g = kept-tied (Move v e) Tick here z refl used' ∙ sym (set-other env v.0 z (expr_value code.structs x env e) g)
     cmd-tied Tick up here follow fuel flags p =
         CmdsTied.tick (frame-on env env' (i + 1) fuel flags p next-up (subst (λ k. Holds k env) (sym (follow (i + 1) next-up (among-next i))) known)

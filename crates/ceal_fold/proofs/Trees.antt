@@ -83,7 +83,9 @@ tree-some : (o : Option (List Bool)) → all_but_first o ≡ true → is_some o 
 tree-some None h = absurd (grind (arith, h))
 tree-some (Some marks) h = refl
 
-all-cons : (c : Cmd) (ds : List Cmd) (i : ℕ) (marks : List Bool) → is_some (reached marks (all_followers (c ∷ ds) i)) ≡ true → is_some (reached marks (followers c i ++ all_followers ds (i + 1))) ≡ true
+all-cons : (c : Cmd) (ds : List Cmd) (i : ℕ) (marks : List Bool) → is_some
+    (reached marks (all_followers (c ∷ ds) i)) ≡ true → is_some
+    (reached marks (followers c i ++ all_followers ds (i + 1))) ≡ true
 unfolding all_followers
 all-cons c ds i marks h = h
 

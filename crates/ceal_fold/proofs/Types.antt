@@ -371,7 +371,9 @@ module _ (structs : List StructInfo) (kinds : List Kind) (known : List Bool) whe
   binary-num Or v w p = truth-num _
   binary-num (Pick row) v w p = absurd p
 
-  unary-refined : (op : UnaryOp) (t : Typing) (a : CodeExpr) (o : Option Word) → Refined t (type_of structs kinds known a) → Refined (int_if (fits Int t)) (type_of structs kinds known (unary_folded op a o))
+  unary-refined : (op : UnaryOp) (t : Typing) (a : CodeExpr) (o : Option Word) → Refined t
+      (type_of structs kinds known a) → Refined (int_if (fits Int t))
+      (type_of structs kinds known (unary_folded op a o))
   unary-refined op t a None h = rw (type-unary structs kinds known op a) (refined-int (fits Int t) (fits Int (type_of structs kinds known a)) (refined-fits Int t (type_of structs kinds known a) h))
   unary-refined op t a (Some w) h = int-refined (fits Int t) (type_of structs kinds known (constant_expr (unary_value op w))) (constant-int (unary_value op w) (unary-num op w))
 
@@ -408,7 +410,8 @@ module _ (structs : List StructInfo) (kinds : List Kind) (known : List Bool) whe
   pick-folded row true s t (Field' _ a z f) v w l e g = none-some v e
   pick-folded row true s t (Address' _ a z f) v w l e g = none-some v e
 
-  constants-folded : (op : BinaryOp) (q : Bool) (s t : Typing) (a : CodeExpr) (v w : Word) → (q ≡ true → left_suits structs op a ≡ true) → constant a ≡ Some v → Refined s (type_of structs kinds known a)
+  constants-folded : (op : BinaryOp) (q : Bool) (s t : Typing) (a : CodeExpr) (v w : Word) →
+      (q ≡ true → left_suits structs op a ≡ true) → constant a ≡ Some v → Refined s (type_of structs kinds known a)
       → Refined (if q then binary_type op s t else None) (type_of structs kinds known (constant_expr (binary_value op v w)))
   constants-folded (Pick row) q s t a v w l e g = pick-folded row q s t a v w l e g
   constants-folded op q s t a v w l e g =
@@ -496,8 +499,10 @@ module _ (structs : List StructInfo) (kinds : List Kind) (known : List Bool) whe
   null-type (Binary' op _ a _ b) h =
       absurd (if-not-null (operand_suits structs op a) (binary_type op (operand_type structs kinds known a) (operand_type structs kinds known b))
       (binary-not-null op (operand_type structs kinds known a) (operand_type structs kinds known b)) h)
-  null-type (Field' _ a s f) h = absurd (if-not-null (points_to s (operand_type structs kinds known a)) (plain_type (field_kind structs (Struct s) f)) (plain-not-null (field_kind structs (Struct s) f)) h)
-  null-type (Address' _ a s f) h = absurd (if-not-null (points_to s (operand_type structs kinds known a)) (cell_type (field_kind structs (Struct s) f)) (cell-not-null (field_kind structs (Struct s) f)) h)
+  null-type (Field' _ a s f) h = absurd (if-not-null (points_to s (operand_type structs kinds known a))
+      (plain_type (field_kind structs (Struct s) f)) (plain-not-null (field_kind structs (Struct s) f)) h)
+  null-type (Address' _ a s f) h = absurd (if-not-null (points_to s (operand_type structs kinds known a))
+      (cell_type (field_kind structs (Struct s) f)) (cell-not-null (field_kind structs (Struct s) f)) h)
 
   no-struct-place : {A : Type 0} (s : ℕ) → is_place (Ptr s) ≡ true → A
   no-struct-place s h = absurd (grind (arith, h))
@@ -516,9 +521,13 @@ module _ (structs : List StructInfo) (kinds : List Kind) (known : List Bool) whe
   points-if false b t h = tt
 
   field-refined : (s f : ℕ) (t : Typing) (a : CodeExpr) → Refined t (type_of structs kinds known a) → (b : Bool) → is_null a ≡ b
-      → Refined (if points_to s t then plain_type (field_kind structs (Struct s) f) else None) (type_of structs kinds known (if b then constant_expr (field_default (field_kind structs (Struct s) f)) else Field a s f))
+      → Refined (if points_to s t then plain_type (field_kind structs (Struct s) f) else None)
+      (type_of structs kinds known (if b then constant_expr
+      (field_default (field_kind structs (Struct s) f)) else Field a s f))
   field-refined s f t a h true n =
-      if-refined (points_to s t) (plain_type (field_kind structs (Struct s) f)) (type_of structs kinds known (constant_expr (field_default (field_kind structs (Struct s) f)))) (default-refined (field_kind structs (Struct s) f))
+      if-refined (points_to s t) (plain_type (field_kind structs (Struct s) f))
+      (type_of structs kinds known (constant_expr (field_default (field_kind structs (Struct s) f))))
+      (default-refined (field_kind structs (Struct s) f))
   field-refined s f t a h false n =
       rw (type-field structs kinds known a s f) (points-if (points_to s t) (points_to s (type_of structs kinds known a)) (plain_type (field_kind structs (Struct s) f)) (points-refined s t a h n))
 
@@ -636,7 +645,9 @@ module _ (structs : List StructInfo) (kinds : List Kind) (known : List Bool) whe
           kept-refined (type_of structs kinds known e) (type_of structs kinds known (folded_expr structs copies e)) (type_of structs kinds known' (folded_expr structs copies e))
           (type-folded copies good e) (type-kept (folded_expr structs copies e) h)
 
-      pub all-final : (ks : List Kind) (es : List CodeExpr) → KnownWhere (all_mention (folded_exprs structs copies es)) → all_fit structs kinds known ks es ≡ true → all_fit structs kinds known' ks (folded_exprs structs copies es) ≡ true
+      pub all-final : (ks : List Kind) (es : List CodeExpr) → KnownWhere
+          (all_mention (folded_exprs structs copies es)) → all_fit structs kinds known ks es ≡ true
+          → all_fit structs kinds known' ks (folded_exprs structs copies es) ≡ true
       unfolding all_fit folded_exprs all_mention
       all-final [] [] h k = k
       all-final [] (e ∷ es) h k = absurd (grind (arith, k))

@@ -196,7 +196,9 @@ module _ (cs : List Cmd) (c : Cmd) (done : List Cmd) (tree : is_tree (cs ++ c �
       go true e f g =
           let i : j ≡ length cs = nat-same j (length cs) e in
           ap (λ j. has_at sets' j u) i ∙ here u
-          ∙ ap (λ b. uses d u || (not (assigns d u) && b)) (ap (λ js. used_in (has_at sets) js u) (same (length cs)) ∙ later-right u ∙ ap (λ js. used_in (used (length cs + 1) done) js u) (sym (same (length cs))))
+          ∙ ap (λ b. uses d u || (not (assigns d u) && b))
+          (ap (λ js. used_in (has_at sets) js u) (same (length cs)) ∙ later-right u ∙ ap
+          (λ js. used_in (used (length cs + 1) done) js u) (sym (same (length cs))))
       go false e f g = others j u (λ i. grind (arith, e, i)) f ∙ right j u g
 
   pub tree-right : (d : Cmd) → ((i : ℕ) → followers d i ≡ followers c i) → is_tree (cs ++ d ∷ done) ≡ true

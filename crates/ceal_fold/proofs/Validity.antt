@@ -131,7 +131,9 @@ module _ (structs : List StructInfo) (kinds : List Kind) (known : List Bool) whe
         → Refined (variable_type (slice_get kinds w.0) (known_at after w.0)) (type_of structs kinds after (use_of w (copy_by v e)))
     move-typed (NumExpr z) h w i =
         variable-maybe (slice_get kinds w.0) (known_at after w.0) (type_of structs kinds after (NumExpr z))
-        (λ k f. rw (type-num z) (fits-refined k (type_of structs kinds known (NumExpr z)) (fits-of (slice_get kinds v) k (type_of structs kinds known (NumExpr z)) (ap (slice_get kinds) (sym i) ∙ f) h)))
+        (λ k f. rw (type-num z) (fits-refined k (type_of structs kinds known (NumExpr z))
+        (fits-of (slice_get kinds v) k (type_of structs kinds known (NumExpr z))
+        (ap (slice_get kinds) (sym i) ∙ f) h)))
     move-typed NullExpr h w i =
         variable-maybe (slice_get kinds w.0) (known_at after w.0) (type_of structs kinds after NullExpr)
         (λ k f. rw type-null (fits-refined k (type_of structs kinds known NullExpr) (fits-of (slice_get kinds v) k (type_of structs kinds known NullExpr) (ap (slice_get kinds) (sym i) ∙ f) h)))
@@ -141,7 +143,9 @@ module _ (structs : List StructInfo) (kinds : List Kind) (known : List Bool) whe
         go true f = type-self w
         go false f =
             variable-maybe (slice_get kinds w.0) (known_at after w.0) (type_of structs kinds after (Var y))
-            (λ k g. rw (type-apart y f) (fits-refined k (type_of structs kinds known (Var y)) (fits-of (slice_get kinds v) k (type_of structs kinds known (Var y)) (ap (slice_get kinds) (sym i) ∙ g) h)))
+            (λ k g. rw (type-apart y f) (fits-refined k (type_of structs kinds known (Var y))
+            (fits-of (slice_get kinds v) k (type_of structs kinds known (Var y))
+            (ap (slice_get kinds) (sym i) ∙ g) h)))
     move-typed (Unary' op _ a) h w i = type-self w
     move-typed (Binary' op _ a _ b) h w i = type-self w
     move-typed (Field' _ a s f) h w i = type-self w
@@ -178,30 +182,39 @@ module _ (code : Code) (ok : valid code ≡ true) where
     type-is : (e : CodeExpr) → Where (mentions (fold-expr e)) → Refined (type_of code.structs (kinds_of code f) known e) (type_of code.structs (kinds_of code f) known' (fold-expr e))
     type-is e h = type-final code.structs (kinds_of code f) known known' copies good e h
 
-    unit-go : (o : Option CodeUnit) (args : List CodeExpr) → Where (all_mention (fold-all args)) → unit_fits code f known o args ≡ true → unit_fits folds f known' (map-unit code.structs o) (fold-all args) ≡ true
+    unit-go : (o : Option CodeUnit) (args : List CodeExpr) → Where (all_mention (fold-all args))
+        → unit_fits code f known o args ≡ true → unit_fits folds f known' (map-unit code.structs o)
+        (fold-all args) ≡ true
     unit-go None args h k = absurd (grind (arith, k))
     unit-go (Some unit) args h k =
         let p = both (unit.function == f) (params_fit code.structs (kinds_of code f) known (kinds_of code f) unit.params args) k in
         both-true (unit.function == f) (params_fit code.structs (kinds_of code f) known' (kinds_of code f) unit.params (fold-all args)) p.0
         (params-final code.structs (kinds_of code f) known known' copies good (kinds_of code f) unit.params args h p.1)
 
-    read-go : (v : ℕ) (o : Option CodeUnit) (args : List CodeExpr) → Where (all_mention (fold-all args)) → read_fits code f known v o args ≡ true → read_fits folds f known' v (map-unit code.structs o) (fold-all args) ≡ true
+    read-go : (v : ℕ) (o : Option CodeUnit) (args : List CodeExpr) → Where (all_mention (fold-all args))
+        → read_fits code f known v o args ≡ true → read_fits folds f known' v (map-unit code.structs o)
+        (fold-all args) ≡ true
     read-go v None args h k = absurd (grind (arith, k))
     read-go v (Some unit) args h k =
         let p = both (unit.function == f) (params_fit code.structs (kinds_of code f) known (kinds_of code f) (others v unit.params) args) k in
         both-true (unit.function == f) (params_fit code.structs (kinds_of code f) known' (kinds_of code f) (others v unit.params) (fold-all args)) p.0
         (params-final code.structs (kinds_of code f) known known' copies good (kinds_of code f) (others v unit.params) args h p.1)
 
-    entry-go : (g : ℕ) (o : Option CodeUnit) (args : List CodeExpr) → Where (all_mention (fold-all args)) → entry_fits code f known g o args ≡ true → entry_fits folds f known' g (map-unit code.structs o) (fold-all args) ≡ true
+    entry-go : (g : ℕ) (o : Option CodeUnit) (args : List CodeExpr) → Where (all_mention (fold-all args))
+        → entry_fits code f known g o args ≡ true → entry_fits folds f known' g (map-unit code.structs o)
+        (fold-all args) ≡ true
     entry-go g None args h k = absurd (grind (arith, k))
     entry-go g (Some unit) args h k = params-final code.structs (kinds_of code f) known known' copies good (kinds_of code g) unit.params args h k
 
-    call-go : (g : ℕ) (o : Option FunctionCode) (args : List CodeExpr) → Where (all_mention (fold-all args)) → call_fits code f known g o args ≡ true → call_fits folds f known' g o (fold-all args) ≡ true
+    call-go : (g : ℕ) (o : Option FunctionCode) (args : List CodeExpr) → Where (all_mention (fold-all args))
+        → call_fits code f known g o args ≡ true → call_fits folds f known' g o (fold-all args) ≡ true
     call-go g None args h k = absurd (grind (arith, k))
     call-go g (Some (InitFunction name s params body)) args h k = absurd (grind (arith, k))
     call-go g (Some (CoreFunction name entry params)) args h k = rw (unit-there code.structs code.units entry.0) (entry-go g (slice_get code.units entry.0) args h k)
 
-    alloc-go : (kind : Option Kind) (o : Option FunctionCode) (args : List CodeExpr) → Where (all_mention (fold-all args)) → alloc_fits code f known kind o args ≡ true → alloc_fits folds f known' kind o (fold-all args) ≡ true
+    alloc-go : (kind : Option Kind) (o : Option FunctionCode) (args : List CodeExpr) → Where
+        (all_mention (fold-all args)) → alloc_fits code f known kind o args ≡ true → alloc_fits folds f known' kind o
+        (fold-all args) ≡ true
     alloc-go kind None args h k = absurd (grind (arith, k))
     alloc-go kind (Some (CoreFunction name entry params)) args h k = absurd (grind (arith, k))
     alloc-go kind (Some (InitFunction name s params body)) args h k =
@@ -210,15 +223,24 @@ module _ (code : Code) (ok : valid code ≡ true) where
         (all-final code.structs (kinds_of code f) known known' copies good params args h p.1)
 
     -- a folded command, where the variables that it uses are still known
-    command-go : (stepped : Bool) (c : Cmd) → Where (uses (folded_command code.structs copies c)) → command_ok code f known stepped c ≡ true → command_ok folds f known' stepped (folded_command code.structs copies c) ≡ true
-    command-go stepped (Move v e) h k = refined-maybe (slice_get (kinds_of code f) v.0) (type_of code.structs (kinds_of code f) known e) (type_of code.structs (kinds_of code f) known' (fold-expr e)) (type-is e h) k
+    command-go : (stepped : Bool) (c : Cmd) → Where (uses (folded_command code.structs copies c))
+        → command_ok code f known stepped c ≡ true → command_ok folds f known' stepped
+        (folded_command code.structs copies c) ≡ true
+    command-go stepped (Move v e) h k = refined-maybe (slice_get (kinds_of code f) v.0)
+        (type_of code.structs (kinds_of code f) known e) (type_of code.structs (kinds_of code f) known' (fold-expr e))
+        (type-is e h) k
     command-go stepped Tick h k = refl
     command-go stepped (Alloc v g args) h k = alloc-go (slice_get (kinds_of code f) v.0) (slice_get code.functions g) args h k
     command-go stepped (Modref v shape) h k = k
     command-go stepped (Write p e) h k =
-        refined-write (type_of code.structs (kinds_of code f) known p) (type_of code.structs (kinds_of code f) known' (fold-expr p)) (type_of code.structs (kinds_of code f) known e) (type_of code.structs (kinds_of code f) known' (fold-expr e))
+        refined-write (type_of code.structs (kinds_of code f) known p)
+        (type_of code.structs (kinds_of code f) known' (fold-expr p))
+        (type_of code.structs (kinds_of code f) known e)
+        (type_of code.structs (kinds_of code f) known' (fold-expr e))
         (type-is p (λ v m. h v (or-left (mentions (fold-expr p) v) (mentions (fold-expr e) v) m))) (type-is e (λ v m. h v (or-right (mentions (fold-expr p) v) (mentions (fold-expr e) v) m))) k
-    command-go stepped (If test first second) h k = refined-fits Int (type_of code.structs (kinds_of code f) known test) (type_of code.structs (kinds_of code f) known' (fold-expr test)) (type-is test h) k
+    command-go stepped (If test first second) h k = refined-fits Int
+        (type_of code.structs (kinds_of code f) known test)
+        (type_of code.structs (kinds_of code f) known' (fold-expr test)) (type-is test h) k
     command-go stepped Done h k = refl
     command-go stepped (Tail w args) h k =
         let p = both stepped (unit_fits code f known (slice_get code.units w.0) args) k in
@@ -226,8 +248,12 @@ module _ (code : Code) (ok : valid code ≡ true) where
         (rw (unit-there code.structs code.units w.0) (unit-go (slice_get code.units w.0) args h p.1))
     command-go stepped (Read v q w args) h k =
         let p = both (place_fits (slice_get (kinds_of code f) v.0) (type_of code.structs (kinds_of code f) known q)) (read_fits code f known v.0 (slice_get code.units w.0) args) k in
-        both-true (place_fits (slice_get (kinds_of code f) v.0) (type_of code.structs (kinds_of code f) known' (fold-expr q))) (read_fits folds f known' v.0 (slice_get (folded_units code.structs code.units) w.0) (fold-all args))
-        (refined-place (slice_get (kinds_of code f) v.0) (type_of code.structs (kinds_of code f) known q) (type_of code.structs (kinds_of code f) known' (fold-expr q)) (type-is q (λ z m. h z (or-left (mentions (fold-expr q) z) (all_mention (fold-all args) z) m))) p.0)
+        both-true (place_fits (slice_get (kinds_of code f) v.0)
+        (type_of code.structs (kinds_of code f) known' (fold-expr q)))
+        (read_fits folds f known' v.0 (slice_get (folded_units code.structs code.units) w.0) (fold-all args))
+        (refined-place (slice_get (kinds_of code f) v.0) (type_of code.structs (kinds_of code f) known q)
+        (type_of code.structs (kinds_of code f) known' (fold-expr q))
+        (type-is q (λ z m. h z (or-left (mentions (fold-expr q) z) (all_mention (fold-all args) z) m))) p.0)
         (rw (unit-there code.structs code.units w.0) (read-go v.0 (slice_get code.units w.0) args (λ z m. h z (or-right (mentions (fold-expr q) z) (all_mention (fold-all args) z) m)) p.1))
     command-go stepped (Call g args w rest) h k =
         let p = both (call_fits code f known g (slice_get code.functions g) args) (unit_fits code f known (slice_get code.units w.0) rest) k in
@@ -275,7 +301,8 @@ module _ (code : Code) (ok : valid code ≡ true) where
       same-flags v = set-length known' v true ∙ long ∙ sym (set-length known v true)
 
       -- after an assignment, whose variable is known from then on
-      set-live : (v : ℕ) (d : Cmd) (here : (z : ℕ) → U i z ≡ used_by later d i z) → ((z : ℕ) → assigns d z ≡ (v == z)) → followers d i ≡ (i + 1) ∷ [] → Live (i + 1) (slice_set known v true) (slice_set known' v true)
+      set-live : (v : ℕ) (d : Cmd) (here : (z : ℕ) → U i z ≡ used_by later d i z) → ((z : ℕ) → assigns d z ≡ (v == z))
+          → followers d i ≡ (i + 1) ∷ [] → Live (i + 1) (slice_set known v true) (slice_set known' v true)
       set-live v d here a fs z m k =
           set-kept known known' v z long
           (λ e g. kept-known d here z (a z ∙ flip e) (ap (λ js. used_in later js z) fs ∙ used-follower later ((i + 1) ∷ []) (i + 1) z (among-next i) (sym (ahead (i + 1) z next-up) ∙ m)) g) k
@@ -299,7 +326,9 @@ module _ (code : Code) (ok : valid code ≡ true) where
           e' = folded_expr code.structs (F i) e
 
           typed : fits_maybe (slice_get (kinds_of code f) v.0) (type_of code.structs (kinds_of code f) known e') ≡ true
-          typed = refined-maybe (slice_get (kinds_of code f) v.0) (type_of code.structs (kinds_of code f) known e) (type_of code.structs (kinds_of code f) known e') (type-folded code.structs (kinds_of code f) known (F i) good e) k
+          typed = refined-maybe (slice_get (kinds_of code f) v.0) (type_of code.structs (kinds_of code f) known e)
+              (type_of code.structs (kinds_of code f) known e')
+              (type-folded code.structs (kinds_of code f) known (F i) good e) k
 
           good' : Good (i + 1) (slice_set known v.0 true)
           good' =
@@ -322,7 +351,9 @@ module _ (code : Code) (ok : valid code ≡ true) where
                   used' = used-follower later ((i + 1) ∷ []) (i + 1) z (among-next i) (sym (ahead (i + 1) z next-up) ∙ m)
 
                   which : (b : Bool) → (z == v.0) ≡ b → known_at known' z ≡ true
-                  which true a = let q : z ≡ v.0 = nat-same z v.0 a in let r : used_in later ((i + 1) ∷ []) v.0 ≡ true = ap (λ z. used_in later ((i + 1) ∷ []) z) (sym q) ∙ used' in absurd (grind (arith, g, r))
+                  which true a = let q : z ≡ v.0 = nat-same z v.0 a in let r : used_in later
+                      ((i + 1) ∷ []) v.0 ≡ true = ap (λ z. used_in later ((i + 1) ∷ []) z) (sym q) ∙ used' in absurd
+                      (grind (arith, g, r))
                   which false a = kept-known Tick here z refl used' (sym (set-other known v.0 z a) ∙ k)
       cmd-go Tick up here follow k p =
           both-true (command_ok folds f known' stepped Tick) (onward (paths_ok folds f (final code.structs body) n) Tick i known') refl
@@ -360,18 +391,28 @@ module _ (code : Code) (ok : valid code ≡ true) where
           both-true (command_ok folds f known' stepped d) (onward (paths_ok folds f B n) d i known')
           (command-go f known known' (F i) good stepped (If test first second) (used-known d here) k)
           (both-true (paths_ok folds f B n first known' true) (paths_ok folds f B n second known' true)
-          (on first known known' true long c.0 (subst (CopiesTyped code.structs (kinds_of code f) known) (sym (follow first lo (among-first first second))) good) (keep-live d here (λ z. refl) first lo (among-first first second)))
-          (on second known known' true long c.1 (subst (CopiesTyped code.structs (kinds_of code f) known) (sym (follow second hi (among-second first second))) good) (keep-live d here (λ z. refl) second hi (among-second first second))))
+          (on first known known' true long c.0 (subst (CopiesTyped code.structs (kinds_of code f) known)
+          (sym (follow first lo (among-first first second))) good)
+          (keep-live d here (λ z. refl) first lo (among-first first second)))
+          (on second known known' true long c.1 (subst (CopiesTyped code.structs (kinds_of code f) known)
+          (sym (follow second hi (among-second first second))) good)
+          (keep-live d here (λ z. refl) second hi (among-second first second))))
       cmd-go Done up here follow k p = refl
       cmd-go (Tail w args) up here follow k p =
           let d = fold-it (Tail w args) in
-          both-true (command_ok folds f known' stepped d) (onward (paths_ok folds f (final code.structs body) n) d i known') (command-go f known known' (F i) good stepped (Tail w args) (used-known d here) k) refl
+          both-true (command_ok folds f known' stepped d)
+          (onward (paths_ok folds f (final code.structs body) n) d i known')
+          (command-go f known known' (F i) good stepped (Tail w args) (used-known d here) k) refl
       cmd-go (Read v q w args) up here follow k p =
           let d = fold-it (Read v q w args) in
-          both-true (command_ok folds f known' stepped d) (onward (paths_ok folds f (final code.structs body) n) d i known') (command-go f known known' (F i) good stepped (Read v q w args) (used-known d here) k) refl
+          both-true (command_ok folds f known' stepped d)
+          (onward (paths_ok folds f (final code.structs body) n) d i known')
+          (command-go f known known' (F i) good stepped (Read v q w args) (used-known d here) k) refl
       cmd-go (Call g args w rest) up here follow k p =
           let d = fold-it (Call g args w rest) in
-          both-true (command_ok folds f known' stepped d) (onward (paths_ok folds f (final code.structs body) n) d i known') (command-go f known known' (F i) good stepped (Call g args w rest) (used-known d here) k) refl
+          both-true (command_ok folds f known' stepped d)
+          (onward (paths_ok folds f (final code.structs body) n) d i known')
+          (command-go f known known' (F i) good stepped (Call g args w rest) (used-known d here) k) refl
 
     paths-go : (n : ℕ) → On n
     unfolding paths_ok
@@ -420,7 +461,9 @@ module _ (code : Code) (ok : valid code ≡ true) where
 
   function-same : (f : ℕ) (function : FunctionCode) (kinds : List Kind) → function_ok folds f function kinds ≡ function_ok code f function kinds
   function-same f (CoreFunction name entry params) kinds =
-      ap (λ b. (is_prefix params kinds && kinds_ok code.structs kinds) && b) (ap (entry_ok f (length params)) (unit-there code.structs code.units entry.0) ∙ entry-same f (length params) (slice_get code.units entry.0))
+      ap (λ b. (is_prefix params kinds && kinds_ok code.structs kinds) && b)
+      (ap (entry_ok f (length params)) (unit-there code.structs code.units entry.0) ∙ entry-same f (length params)
+      (slice_get code.units entry.0))
   function-same f (InitFunction name s params body) kinds = refl
 
   functions-same : (f : ℕ) (functions : List FunctionCode) (kinds : List (List Kind)) → functions_ok folds f functions kinds ≡ functions_ok code f functions kinds

@@ -249,7 +249,8 @@ pub set-other : (env : Variables) (v u : ℕ) (word : Word) → (u == v) ≡ fal
 unfolding set
 set-other env v u word e = rw e refl
 
-pub holds-set : (known : Copies) (env : Variables) (v : ℕ) (word : Word) (copy : Option Copied) → Holds known env → CopyHolds (set env v word) word copy → Holds (copies_with known v copy) (set env v word)
+pub holds-set : (known : Copies) (env : Variables) (v : ℕ) (word : Word) (copy : Option Copied) → Holds known env
+    → CopyHolds (set env v word) word copy → Holds (copies_with known v copy) (set env v word)
 unfolding copies_with
 holds-set known env v word copy h k u = go (u == v) refl
   where

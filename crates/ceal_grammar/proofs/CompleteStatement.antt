@@ -478,8 +478,17 @@ module _ (tree : List Entry) where
               refl,
               refl,
               refl,
-              complete i (To.Set (expression p) x) tree d [] 0 e _ g.1 tt
-                  (_, received_at i d e 0 (To.Set (expression p) x) Signs.Semicolon semi refl refl refl g.1, refl, no_item d e [] 0 (To.Set (expression p) x), refl, subst (λ (q : Span). Follows (In (inner es h os (ds ++ SetField q (expression p) x (expression e) ∷ []) d) Modes.Body) rest tree) (sym (path_span p g.0)) f),
+              complete i (To.Set (expression p) x) tree d [] 0 e _ g.1 tt (
+                _,
+                received_at i d e 0 (To.Set (expression p) x) Signs.Semicolon semi refl refl refl g.1,
+                refl,
+                no_item d e [] 0 (To.Set (expression p) x),
+                refl,
+                subst
+                    (λ (q : Span). Follows (In (inner es h os
+                    (ds ++ SetField q (expression p) x (expression e) ∷ []) d) Modes.Body) rest tree)
+                    (sym (path_span p g.0)) f,
+              ),
             ),
           ),
         )
@@ -502,8 +511,16 @@ module _ (tree : List Entry) where
               refl,
               no_item (suc d) a [] 0 (To.Write s),
               refl,
-              complete i (To.Store s (expression a)) tree (suc d) [] 0 e _ g.1 tt
-                  (_, received_at i (suc d) e 0 (To.Store s (expression a)) Signs.RightParenthesis r refl refl refl g.1, refl, no_item (suc d) e [] 0 (To.Store s (expression a)), refl, (_, refl, refl, refl, refl, f)),
+              complete i (To.Store s (expression a)) tree (suc d) [] 0 e _ g.1 tt (
+                _,
+                received_at i (suc d) e 0 (To.Store s
+                    (expression a)) Signs.RightParenthesis r refl refl refl g.1,
+                refl,
+                no_item (suc d) e [] 0
+                    (To.Store s (expression a)),
+                refl,
+                (_, refl, refl, refl, refl, f),
+              ),
             ),
           ),
         )

@@ -287,7 +287,9 @@ module _ (s : Span) (z : State) where
 
   mode_end : (i : Inside) (m : Mode) → moved i m s End ≡ Some z → ⊥
   mode_end i Modes.Body h = absurd (cc)
-  mode_end i (Modes.Typing at p) h = type_end (λ q. In i (Modes.Typing at q)) (λ form x. In i (Modes.Declared at form x)) false p (typed_in i (λ q. Modes.Typing at q) (λ form x. Modes.Declared at form x) (at_type false p s End) z h)
+  mode_end i (Modes.Typing at p) h = type_end (λ q. In i (Modes.Typing at q))
+      (λ form x. In i (Modes.Declared at form x)) false p
+      (typed_in i (λ q. Modes.Typing at q) (λ form x. Modes.Declared at form x) (at_type false p s End) z h)
   mode_end i (Modes.Declared at form x) h = absurd (cc)
   mode_end i (Modes.Named x) h = absurd (cc)
   mode_end i (Modes.Owned at) h = absurd (cc)
@@ -358,7 +360,9 @@ module _ (s : Span) (z : State) where
 
   mode_cut : (i : Inside) (m : Mode) → moved i m s Cut ≡ Some z → ⊥
   mode_cut i Modes.Body h = absurd (cc)
-  mode_cut i (Modes.Typing at p) h = type_cut (λ q. In i (Modes.Typing at q)) (λ form x. In i (Modes.Declared at form x)) false p (typed_in i (λ q. Modes.Typing at q) (λ form x. Modes.Declared at form x) (at_type false p s Cut) z h)
+  mode_cut i (Modes.Typing at p) h = type_cut (λ q. In i (Modes.Typing at q))
+      (λ form x. In i (Modes.Declared at form x)) false p
+      (typed_in i (λ q. Modes.Typing at q) (λ form x. Modes.Declared at form x) (at_type false p s Cut) z h)
   mode_cut i (Modes.Declared at form x) h = absurd (cc)
   mode_cut i (Modes.Named x) h = absurd (cc)
   mode_cut i (Modes.Owned at) h = absurd (cc)

@@ -515,7 +515,9 @@ module _ (i : Inside) (s : Span) (τ : State) (u : List Token) where
   receiver_back (To.Value t) d e c h f = ended_at c Signs.Semicolon (In (with_statement i (given t (Values.Plain e))) Modes.Body) h (InBody i) (λ g. g) f
   receiver_back (To.Read t at) d e c h f = ended_at c Signs.RightParenthesis (In i (Modes.Ends (given t (Values.Read at e)))) (wanted_in i _ _ τ h) (SemiFuture i) (λ g. g) f
   receiver_back (To.Argument x args) d e c h f =
-      elim (chosen_in i (same_sign c Signs.Comma) (Some (Modes.Within (begun d (To.Argument x (args ++ e ∷ []))) Want)) (wants (same_sign c Signs.RightParenthesis) (Modes.Ends (called x (args ++ e ∷ [])))) τ h) [
+      elim (chosen_in i (same_sign c Signs.Comma)
+      (Some (Modes.Within (begun d (To.Argument x (args ++ e ∷ []))) Want))
+      (wants (same_sign c Signs.RightParenthesis) (Modes.Ends (called x (args ++ e ∷ [])))) τ h) [
         | inl p ↦ let w = at_next u _ τ p.1 f in let a = w.4 in
             ((s, w.0) ∷ a.0, a.1, a.2, (w.2, a.3), behind _ _ s _ _ (ap Sign (sign_true c Signs.Comma p.0)) (w.3 ∙ ap (phrase w.0) a.4), a.5)
         | inr p ↦ let q = wanted_in i _ _ τ p.1 in ([], s, u, tt, same_kind _ _ s u (ap Sign (sign_true c Signs.RightParenthesis (wanted _ _ τ q).0)), at_wanted u _ _ τ q f)
@@ -674,7 +676,9 @@ module _ (i : Inside) (s : Span) (τ : State) (u : List Token) where
   place_back w Post k h f = prim_back w k h f
   place_back w (Have p) k h f = after_back w p k h f
   place_back w (Element p) k h f = element_back w p k h f
-  place_back w (Access p) k h f = at_name_back s τ u (λ x. within i w (Have (accessed p x))) (HaveFuture i w.receiver w.frames) (λ x g. g) k (name_in i (λ x. Modes.Within w (Have (accessed p x))) s k τ h) f
+  place_back w (Access p) k h f = at_name_back s τ u (λ x. within i w (Have (accessed p x)))
+      (HaveFuture i w.receiver w.frames) (λ x g. g) k
+      (name_in i (λ x. Modes.Within w (Have (accessed p x))) s k τ h) f
 
   value_back : (t : Target) (k : TokenKind) → placed i (at_value i.nesting t s k) ≡ Some τ → Future τ u → ValueFuture i (word k s ∷ u)
   unfolding FramesFuture
@@ -719,7 +723,9 @@ module _ (i : Inside) (s : Span) (τ : State) (u : List Token) where
 
   making_back : (m : Making) (k : TokenKind) → placed i (at_making m s k) ≡ Some τ → Future τ u → MakingFuture i m (word k s ∷ u)
   making_back (Makings.Alloc t at) k h f =
-      at_name_back s τ u (λ y. In i (Modes.Making (Makings.Shape t at y))) (AfterName (AfterSign Signs.LeftParenthesis (ArgumentsFuture i))) (λ x g. g) k (name_in i (λ y. Modes.Making (Makings.Shape t at y)) s k τ h) f
+      at_name_back s τ u (λ y. In i (Modes.Making (Makings.Shape t at y)))
+      (AfterName (AfterSign Signs.LeftParenthesis (ArgumentsFuture i))) (λ x g. g) k
+      (name_in i (λ y. Modes.Making (Makings.Shape t at y)) s k τ h) f
   making_back (Makings.Shape t at y) k h f =
       at_name_back s τ u (λ x. In i (Modes.Calls (ToAlloc t at y x))) (AfterSign Signs.LeftParenthesis (ArgumentsFuture i)) (λ x g. g) k (name_in i (λ x. Modes.Calls (ToAlloc t at y x)) s k τ h) f
   making_back (Makings.Modref t at) k h f = modref_back t at k h f
@@ -745,7 +751,9 @@ module _ (i : Inside) (s : Span) (τ : State) (u : List Token) where
   unfolding CloseFuture FramesFuture statement StatementProper
   mode_back Modes.Body k h f = body_back i s τ u k h f
   mode_back (Modes.Typing at p) k h f =
-      type_back false (Each (AfterSign Signs.Equals (ValueFuture i))) s τ u (λ q. In i (Modes.Typing at q)) (λ form x. In i (Modes.Declared at form x)) (λ q g. g) (λ form x g. g) p k (typed_in i (λ q. Modes.Typing at q) (λ form x. Modes.Declared at form x) (at_type false p s k) τ h) f
+      type_back false (Each (AfterSign Signs.Equals (ValueFuture i))) s τ u (λ q. In i (Modes.Typing at q))
+      (λ form x. In i (Modes.Declared at form x)) (λ q g. g) (λ form x g. g) p k
+      (typed_in i (λ q. Modes.Typing at q) (λ form x. Modes.Declared at form x) (at_type false p s k) τ h) f
   mode_back (Modes.Declared at form x) k h f = sign_wanted s τ u Signs.Equals k (In i (Modes.Value (ToDeclare at form x))) (ValueFuture i) (λ g. g) (wanted_in i _ _ τ h) f
   mode_back (Modes.Named x) k h f =
       elim (chosen_in i (is_sign Signs.Equals k) (Some (Modes.Value (ToAssign x))) (second k) τ h) [

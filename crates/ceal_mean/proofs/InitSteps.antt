@@ -42,7 +42,8 @@ module _ (env : List Word) (m : Blocks) where
   set-push [] words s = refl
   set-push (x ∷ xs) words s = set-push xs (set_by env m words x) s
 
-  pub set-take : (xs : List TypedStmt) (i : ℕ) (d : TypedStmt) (words : List Word) → i < length xs → set_by_all env m words (take (i + 1) xs) ≡ set_by env m (set_by_all env m words (take i xs)) (get_or xs i d)
+  pub set-take : (xs : List TypedStmt) (i : ℕ) (d : TypedStmt) (words : List Word) → i < length xs
+      → set_by_all env m words (take (i + 1) xs) ≡ set_by env m (set_by_all env m words (take i xs)) (get_or xs i d)
   set-take xs i d words h = rw (take_more xs i d h) (set-push (take i xs) words (get_or xs i d))
 
   pub set-declare : (words : List Word) (at : Span) (n : ℕ) (kind : Kind) (v : TypedValue) → set_by env m words (Declare at n kind v) ≡ words

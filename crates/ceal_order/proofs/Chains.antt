@@ -106,7 +106,9 @@ label_place prev label (x ∷ xs) a b rising found also = elim (eqb_tells x a) [
     | inr q ↦ rw (p.0, q.0) (let later : label a < label b = subst (λ (k : ℕ). label k < label b) p.1 (above_in prev label x b xs rising.1 rising.2 (rw q.0 at also)) in (λ h. omega arith, λ h. later))
   ]
   | inr p ↦ elim (eqb_tells x b) [
-    | inl q ↦ rw (p.0, q.0) (let later : label b < label a = subst (λ (k : ℕ). label k < label a) q.1 (above_in prev label x a xs rising.1 rising.2 (rw p.0 at found)) in (λ h. absurd (omega arith), λ h. absurd (omega arith)))
+    | inl q ↦ rw (p.0, q.0) (let later : label b < label a = subst (λ (k : ℕ). label k < label a) q.1
+        (above_in prev label x a xs rising.1 rising.2 (rw p.0 at found)) in
+        (λ h. absurd (omega arith), λ h. absurd (omega arith)))
     | inr q ↦ rw (p.0, q.0) (let rest = label_place prev label xs a b rising.2 (rw p.0 at found) (rw q.0 at also) in (λ h. omega (arith, rest.0 h), λ h. rest.1 (omega arith)))
   ]
 ]

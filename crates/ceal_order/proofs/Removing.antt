@@ -67,7 +67,8 @@ module _ (next next' prev label : ℕ → ℕ) (s : ℕ) (over : next' (prev s) 
 module _ (next prev prev' label label' : ℕ → ℕ) (s n : ℕ) (few : n < 2 ^ 32)
     (back : next s ≢ no_link → prev' (next s) ≡ prev s) (other : (k : ℕ) → k ≢ next s → prev' k ≡ prev k) (same : (k : ℕ) → label' k ≡ label k)
     (pointing : next s ≢ no_link → prev (next s) ≡ s) where
-  pub Rising-remove : (at x : ℕ) (xs : List ℕ) → x ≢ s → is_in s xs ≡ true → Chained next at (x ∷ xs) → Distinct (x ∷ xs) → AllBelow n (x ∷ xs) → Rising prev label (x ∷ xs) → Rising prev' label' (x ∷ without s xs)
+  pub Rising-remove : (at x : ℕ) (xs : List ℕ) → x ≢ s → is_in s xs ≡ true → Chained next at (x ∷ xs) → Distinct
+      (x ∷ xs) → AllBelow n (x ∷ xs) → Rising prev label (x ∷ xs) → Rising prev' label' (x ∷ without s xs)
   Rising-remove at x [] differ found h distinct within rising = absurd (cc)
   Rising-remove at x (y ∷ []) differ found h distinct within rising = elim (eqb_tells y s) [
     | inl p ↦ rw (p.0, same x) (rising.0, tt, tt)

@@ -17,7 +17,8 @@ same_slot a b = ⊎_elim
     (λ no. inr (λ same. no (ap (λ (s : Slot). s.chunk) same))) (cases_eq a.chunk b.chunk)
 
 -- a slot that is taken, written and given back, with nothing changed in between, leaves all as it was
-pub back_again : (slot : Slot) (a b c d e : List SizeClass) → words_of a slot ≡ None → KeepsOthers slot a b → KeepsOthers slot b c → KeepsAll c d → KeepsOthers slot d e → words_of e slot ≡ None → KeepsAll a e
+pub back_again : (slot : Slot) (a b c d e : List SizeClass) → words_of a slot ≡ None → KeepsOthers slot a b
+    → KeepsOthers slot b c → KeepsAll c d → KeepsOthers slot d e → words_of e slot ≡ None → KeepsAll a e
 back_again slot a b c d e missing ab bc cd de out other = ⊎_elim
     (λ same. ap (words_of e) same ∙ out ∙ sym missing ∙ ap (words_of a) (sym same))
     (λ apart_. de other apart_ ∙ cd other ∙ bc other apart_ ∙ ab other apart_)

@@ -198,7 +198,9 @@ module _ (structs : List StructInfo) (memory : Shown) (whole : IsWhole structs m
     pub more_search : (at : ℕ) (met : List BlockId) (b : BlockId) → IsSearching memory root at met → slice_get met at ≡ Some b → IsSearching memory root (at + 1) (with_targets met (words_at memory b))
     more_search at met b s e = by_waiting s.waiting s.searched s.same
       where
-        step : (here : Visit) (waiting : List Visit) → Searched memory root s.done (here ∷ waiting) → blocks_of (s.done ++ here ∷ waiting) ≡ met → here.block ≡ b → IsSearching memory root (at + 1) (with_targets met (words_at memory b))
+        step : (here : Visit) (waiting : List Visit) → Searched memory root s.done (here ∷ waiting) → blocks_of
+            (s.done ++ here ∷ waiting) ≡ met → here.block ≡ b → IsSearching memory root (at + 1)
+            (with_targets met (words_at memory b))
         step here waiting t f same =
             let r = look s.done here [] (words_at memory here.block) waiting refl (begin memory root s.done here waiting t) in
             record {

@@ -28,7 +28,12 @@ scene = record {
       record { name = codes "cell"; fields = record { name = codes "head"; kind = Plain Int; row = 0 } ∷ record { name = codes "tail"; kind = CellPtr 0; row = 0 } ∷ [] }
       ∷ record {
         name = codes "pair";
-        fields = record { name = codes "left"; kind = Plain (Ptr 0); row = 0 } ∷ record { name = codes "right"; kind = Plain (Ptr 0); row = 0 } ∷ record { name = codes "at"; kind = Plain (ModPtr 0); row = 0 }
+        fields = record { name = codes "left"; kind = Plain (Ptr 0); row = 0 } ∷ record {
+          name = codes "right";
+          kind =
+              Plain (Ptr 0);
+          row = 0;
+        } ∷ record { name = codes "at"; kind = Plain (ModPtr 0); row = 0 }
             ∷ record { name = codes "out"; kind = Plain (ModPtr 0); row = 0 } ∷ [];
       } ∷ [];
   memory = block_at sample;

@@ -208,7 +208,9 @@ module _ (memory : Shown) (root : BlockId) where
     pub meet : (b : BlockId) → behind memory here.block at ≡ Some b → is_in b (blocks_of (done ++ here ∷ waiting)) ≡ false → IsSome (memory b)
         → Visiting memory root done here (at + 1) (waiting ++ visit b (here.path ++ at ∷ []) ∷ [])
     meet b e out there = record {
-      sound = at_end (Sound memory root) (sound_more all new s.sound out there (leads_more memory here.path root here.block b at (s.sound.leads here here_in) e) (λ w h. s.ahead_here w h at (omega arith)));
+      sound = at_end (Sound memory root) (sound_more all new s.sound out there
+          (leads_more memory here.path root here.block b at (s.sound.leads here here_in) e)
+          (λ w h. s.ahead_here w h at (omega arith)));
       closed = λ v h field c f. at_end (λ (l : List Visit). Meets l c (v.path ++ field ∷ [])) (meets_more all (new ∷ []) c (v.path ++ field ∷ []) (s.closed v h field c f));
       closed_here = λ field c h f. at_end (λ (l : List Visit). Meets l c (here.path ++ field ∷ [])) (by_field field c h f);
       ahead = λ v h w k field. before_waiting v (among_parts v waiting (new ∷ []) h) w (among_parts w all (new ∷ []) (subst (Among w) (sym same_end) k)) field;
@@ -279,5 +281,7 @@ module _ (memory : Shown) (root : BlockId) where
 
         by_visit : (v : Visit) → Among v done ⊎ Among v (here ∷ []) → (field : ℕ) (b : BlockId) → behind memory v.block field ≡ Some b → Meets (done ++ here ∷ waiting) b (v.path ++ field ∷ [])
         by_visit v (inl h) field b e = s.closed v h field b e
-        by_visit v (inr (inl h)) field b e = subst (λ (x : Visit). Meets (done ++ here ∷ waiting) b (x.path ++ field ∷ [])) (sym h) (by_field field b (subst (λ (x : Visit). behind memory x.block field ≡ Some b) h e))
+        by_visit v (inr (inl h)) field b e = subst
+            (λ (x : Visit). Meets (done ++ here ∷ waiting) b (x.path ++ field ∷ [])) (sym h)
+            (by_field field b (subst (λ (x : Visit). behind memory x.block field ≡ Some b) h e))
         by_visit v (inr (inr h)) field b e = absurd h

@@ -112,10 +112,14 @@ unfolding Plain
 item-plain Step h = refl
 item-plain (Alloc b key) h =
     join (codes "a " ++ block_text b ++ codes " " ++ key_text key) (codes "\n")
-    (join (codes "a " ++ block_text b ++ codes " ") (key_text key) (join (codes "a " ++ block_text b) (codes " ") (join (codes "a ") (block_text b) refl (block-plain b h.0)) refl) (key-plain key h.1)) refl
+    (join (codes "a " ++ block_text b ++ codes " ") (key_text key)
+    (join (codes "a " ++ block_text b) (codes " ")
+    (join (codes "a ") (block_text b) refl (block-plain b h.0)) refl) (key-plain key h.1)) refl
 item-plain (Write p v) h =
     join (codes "w " ++ place_text p ++ codes " " ++ word_text v) (codes "\n")
-    (join (codes "w " ++ place_text p ++ codes " ") (word_text v) (join (codes "w " ++ place_text p) (codes " ") (join (codes "w ") (place_text p) refl (place-plain p h.0)) refl) (word-plain v h.1)) refl
+    (join (codes "w " ++ place_text p ++ codes " ") (word_text v)
+    (join (codes "w " ++ place_text p) (codes " ")
+    (join (codes "w ") (place_text p) refl (place-plain p h.0)) refl) (word-plain v h.1)) refl
 item-plain (Read p v u x args) h =
     let a = codes "r " ++ place_text p in
     let b = a ++ codes " " in
@@ -144,10 +148,14 @@ dump-plain r h k =
   where
     inputs : are_plain (inputs_text r.inputs) ≡ true
     inputs = join (codes "ceal-trace 1\ninputs " ++ decimal (length r.inputs) ++ codes "\n") (block_lines r.inputs)
-        (join (codes "ceal-trace 1\ninputs " ++ decimal (length r.inputs)) (codes "\n") (with-front (codes "ceal-trace 1\ninputs ") refl (length r.inputs) h.inputs) refl) (blocks-plain r.inputs k.inputs)
+        (join (codes "ceal-trace 1\ninputs " ++ decimal (length r.inputs)) (codes "\n")
+        (with-front (codes "ceal-trace 1\ninputs ") refl (length r.inputs) h.inputs) refl)
+        (blocks-plain r.inputs k.inputs)
 
     call : are_plain (call_text r.function r.args) ≡ true
-    call = join (codes "run " ++ decimal r.function ++ words_text r.args) (codes "\n") (join (codes "run " ++ decimal r.function) (words_text r.args) (with-front (codes "run ") refl r.function k.function) (words-plain r.args k.args)) refl
+    call = join (codes "run " ++ decimal r.function ++ words_text r.args) (codes "\n")
+        (join (codes "run " ++ decimal r.function) (words_text r.args)
+        (with-front (codes "run ") refl r.function k.function) (words-plain r.args k.args)) refl
 
     trace : are_plain (trace_text r.forest) ≡ true
     trace = join (codes "trace " ++ decimal (length r.forest) ++ codes "\n") (item_lines r.forest)
@@ -161,7 +169,9 @@ dump-plain r h k =
         let d = c ++ codes "\n" in
         let e = d ++ block_lines r.memory.inputs in
         join e (block_lines r.memory.made) (join d (block_lines r.memory.inputs) (join c (codes "\n") (join b (decimal (length r.memory.made)) (join a (codes " ")
-        (with-front (codes "memory ") refl (length r.memory.inputs) h.memory) refl) (small-plain (length r.memory.made) h.made)) refl) (blocks-plain r.memory.inputs k.memory)) (blocks-plain r.memory.made k.made)
+        (with-front (codes "memory ") refl (length r.memory.inputs) h.memory) refl)
+        (small-plain (length r.memory.made) h.made)) refl) (blocks-plain r.memory.inputs k.memory))
+        (blocks-plain r.memory.made k.made)
 
 -- a byte of a name is no percent sign
 not-name : is_name_byte 37 ≡ false
@@ -199,6 +209,10 @@ no-mark bytes s h =
     let a7 = a6 ++ codes "\nnames " in
     let a8 = a7 ++ decimal (length s.names) in
     let a9 = a8 ++ codes "\n" in
-    let head = join a9 (name_lines s.names) (join a8 (codes "\n") (join a7 (decimal (length s.names)) (join a6 (codes "\nnames ") (join a5 (decimal s.bound) (join a4 (codes "\nbound ") (join a3 (decimal s.work) (join a2 (codes "\nwork ")
-    (with-front (codes "ceal-save 1\nfuel ") refl s.fuel h.fuel) refl) (small-plain s.work h.work)) refl) (small-plain s.bound h.bound)) refl) (small-plain (length s.names) h.has.count)) refl) (names-plain s.names h.has.names) in
+    let head = join a9 (name_lines s.names) (join a8 (codes "\n")
+    (join a7 (decimal (length s.names)) (join a6 (codes "\nnames ")
+    (join a5 (decimal s.bound) (join a4 (codes "\nbound ") (join a3 (decimal s.work) (join a2 (codes "\nwork ")
+    (with-front (codes "ceal-save 1\nfuel ") refl s.fuel h.fuel) refl) (small-plain s.work h.work)) refl)
+    (small-plain s.bound h.bound)) refl) (small-plain (length s.names) h.has.count)) refl)
+    (names-plain s.names h.has.names) in
     ap are_plain h.text ∙ join (head_text s) (dump_text s.kept) head (dump-plain s.kept h.has.dump h.range)

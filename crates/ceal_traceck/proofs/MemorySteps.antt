@@ -98,10 +98,14 @@ lower (suc n) (suc m) = go (lower n m)
 
 module _ (o : Option Block) (words : List Word) (n : ℕ) (rest : List Word) (at : rest ≡ drop n words) where
   -- a word is another one
-  pub words-wrong : (word : Word) (more : List Word) (found : Option Word) → rest ≡ word ∷ more → found ≡ block_word o n → (found ≡ Some word → IsTrue false) → ((f : ℕ) → block_word o f ≡ slice_get words f) → ⊥
+  pub words-wrong : (word : Word) (more : List Word) (found : Option Word) → rest ≡ word ∷ more
+      → found ≡ block_word o n → (found ≡ Some word → IsTrue false) → ((f : ℕ) → block_word o f ≡ slice_get words f)
+      → ⊥
   words-wrong word more found e k differs h = false≢true (differs (k ∙ (h n ∙ (drop-next n words more word (sym at ∙ e)).1)))
 
-  pub words-more : (word : Word) (more : List Word) (found : Option Word) (m : ℕ) → rest ≡ word ∷ more → found ≡ block_word o n → found ≡ Some word → m ≡ n + 1 → ((f : ℕ) → f < n → block_word o f ≡ slice_get words f)
+  pub words-more : (word : Word) (more : List Word) (found : Option Word) (m : ℕ) → rest ≡ word ∷ more
+      → found ≡ block_word o n → found ≡ Some word → m ≡ n + 1 →
+      ((f : ℕ) → f < n → block_word o f ≡ slice_get words f)
       → (f : ℕ) → f < m → block_word o f ≡ slice_get words f
   words-more word more found m e k l s h f i = go (lower f n)
     where
@@ -178,7 +182,9 @@ module _ (m : BlockId → Option Block) where
   unfolding AreMade
   skip-end i is blocks e = rw e (λ h. h, λ h. h)
 
-  pub alloc-wrong : (i : Item) (id : BlockId) (key : Key) (blocks : List Block) → i ≡ Alloc id key → ((b : Block) (bs : List Block) → blocks ≡ b ∷ bs → m id ≡ Some b → ⊥) → (is : List Item) → AreMade m (i ∷ is) blocks → ⊥
+  pub alloc-wrong : (i : Item) (id : BlockId) (key : Key) (blocks : List Block) → i ≡ Alloc id key →
+      ((b : Block) (bs : List Block) → blocks ≡ b ∷ bs → m id ≡ Some b → ⊥) → (is : List Item) → AreMade m
+      (i ∷ is) blocks → ⊥
   unfolding AreMade
   alloc-wrong i id key blocks e absent is h = go blocks refl (rw e at h)
     where
@@ -186,7 +192,8 @@ module _ (m : BlockId → Option Block) where
       go [] k h = cc
       go (b ∷ bs) k h = let found : m id ≡ Some b = cc in absent b bs k found
 
-  pub alloc-more : (i : Item) (id : BlockId) (key : Key) (b : Block) (blocks more : List Block) → i ≡ Alloc id key → blocks ≡ b ∷ more → m id ≡ Some b → (is : List Item) → AreMade m (i ∷ is) blocks ↔ AreMade m is more
+  pub alloc-more : (i : Item) (id : BlockId) (key : Key) (b : Block) (blocks more : List Block) → i ≡ Alloc id key
+      → blocks ≡ b ∷ more → m id ≡ Some b → (is : List Item) → AreMade m (i ∷ is) blocks ↔ AreMade m is more
   unfolding AreMade
   alloc-more i id key b blocks more e k found is =
       rw (e, k) (λ h. (let rest : map Some more ≡ map m (allocated is) = cc in rest), λ h. ap₂ ◌∷◌ (sym found) h)

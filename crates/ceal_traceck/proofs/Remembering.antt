@@ -72,5 +72,7 @@ module _ (code : Code) (r : Record) (l : Trace) (items : r.forest ≡ flat l) (r
 
 -- what is asked with other names for the same
 pub asked-moved : (code now : Code) (r : Record) (x : Plain) (s : Store) (n : ℕ) (is : List Item) → now ≡ code → n ≡ length r.inputs → is ≡ r.forest
-    → ((length r.memory.inputs ≡ n) × ((i : ℕ) → i < length r.memory.inputs → block_after now x s (Input i) ≡ slice_get r.memory.inputs i) × AreMade (λ b. block_after now x s b) is r.memory.made) ↔ Asked code r x s
+    → ((length r.memory.inputs ≡ n) × ((i : ℕ) → i < length r.memory.inputs → block_after now x s
+    (Input i) ≡ slice_get r.memory.inputs i) × AreMade (λ b. block_after now x s b) is r.memory.made)
+    ↔ Asked code r x s
 asked-moved code now r x s n is e f g = rw (e, f, g) (λ h. h, λ h. h)

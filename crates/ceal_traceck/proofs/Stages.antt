@@ -71,7 +71,8 @@ module _ (code : Code) (r : Record) (m : TraceMemory) (is : List Item) (args : L
     AcceptedThere = Accepts code (plain_flat code (input_plain code r.inputs) r.forest) (next code (plain_flat code (input_plain code r.inputs) r.forest) (started code r.function r.args)) [] r.forest
 
     accepts-here : Accepted r learnt is args ↔ AcceptedThere
-    accepts-here = accepts-moved code (code_in learnt) (plain_in learnt) (plain_flat code (input_plain code r.inputs) r.forest) r.function args r.args is r.forest program-then plain-then begun.arguments begun.items
+    accepts-here = accepts-moved code (code_in learnt) (plain_in learnt)
+        (plain_flat code (input_plain code r.inputs) r.forest) r.function args r.args is r.forest program-then plain-then begun.arguments begun.items
 
     pub unaccepted : (Accepted r learnt is args → ⊥) → (l : Trace) → Replayed code r l → ⊥
     unaccepted h l k = h (accepts-here.1 (replayed-accepted code r l k))
@@ -95,7 +96,9 @@ module _ (code : Code) (r : Record) (m : TraceMemory) (is : List Item) (args : L
         stored = stores.store ∙ store-moved code (code_in learnt) (store_in learnt) (bases code r.inputs) is r.forest program-then store-then begun.items
 
         words : Asked code r (plain_in after) (store_in after) ↔ Remembered code r found.0
-        words = asked code r found.0 found.1.items found.1.replays (plain_in after) (store_in after) (stores.plain ∙ (plain-then ∙ plain-is code r found.0 found.1.items)) (stored ∙ store-is code r found.0 found.1.items)
+        words = asked code r found.0 found.1.items found.1.replays (plain_in after) (store_in after)
+            (stores.plain ∙ (plain-then ∙ plain-is code r found.0 found.1.items))
+            (stored ∙ store-is code r found.0 found.1.items)
 
         pub asked-there : (inputs : List Block) → inputs ≡ r.inputs → Asks r after inputs is ↔ Remembered code r found.0
         asked-there inputs same =

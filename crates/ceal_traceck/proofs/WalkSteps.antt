@@ -59,10 +59,12 @@ module _ (code : Code) (x : Plain) where
   begins (Accepts.writes {is = is} h) = (is, refl, h)
   begins (Accepts.reads {value = w} {is = is} h) = (w, is, refl, h)
 
-  pub over-right : (below : List Stack) (is : List Item) (told : Bool) (after : Type 0) → below ≡ [] → (IsTrue told → is ≡ []) → (is ≡ [] → IsTrue told) → Turned (Some told) (Accepts code x Over below is) after
+  pub over-right : (below : List Stack) (is : List Item) (told : Bool) (after : Type 0) → below ≡ [] →
+      (IsTrue told → is ≡ []) → (is ≡ [] → IsTrue told) → Turned (Some told) (Accepts code x Over below is) after
   over-right below is told after e f g = rw e (λ t. rw (f t) Accepts.ends, λ h. g (begins h))
 
-  pub over-wrong : (st : Stack) (below all : List Stack) (is : List Item) (after : Type 0) → all ≡ st ∷ below → ((js : List Item) → is ≡ End ∷ js → ⊥) → Turned (Some false) (Accepts code x Over all is) after
+  pub over-wrong : (st : Stack) (below all : List Stack) (is : List Item) (after : Type 0) → all ≡ st ∷ below →
+      ((js : List Item) → is ≡ End ∷ js → ⊥) → Turned (Some false) (Accepts code x Over all is) after
   over-wrong st below all is after e absent = rw e (told-false (Accepts code x Over (st ∷ below) is) after (λ h. let q = begins h in absent q.0 q.1))
 
   pub over-more : (st : Stack) (below all : List Stack) (is js : List Item) → all ≡ st ∷ below → is ≡ End ∷ js → Turned None (Accepts code x Over all is) (Accepts code x (next code x st) below js)
@@ -79,7 +81,9 @@ module _ (code : Code) (x : Plain) where
         λ h. Accepts.quiet h,
       )
 
-  pub makes-more : (key : Key) (v u i : ℕ) (env : Variables) (st st' : Stack) (below : List Stack) (is js ks : List Item) (b : ℕ) → is ≡ Step ∷ js → js ≡ Alloc (Core b) key ∷ ks → st' ≡ Run u i (set env v (pointer key (Core b))) st
+  pub makes-more : (key : Key) (v u i : ℕ) (env : Variables) (st st' : Stack) (below : List Stack)
+      (is js ks : List Item) (b : ℕ) → is ≡ Step ∷ js → js ≡ Alloc (Core b) key ∷ ks → st' ≡ Run u i
+      (set env v (pointer key (Core b))) st
       → Turned None (Accepts code x (Makes key v u i env st) below is) (Accepts code x (next code x st') below ks)
   makes-more key v u i env st st' below is js ks b e f g =
       rw (e, f, g) (
@@ -89,7 +93,9 @@ module _ (code : Code) (x : Plain) where
         λ h. Accepts.makes h,
       )
 
-  pub writes-more : (p : Place) (w : Word) (st : Stack) (below : List Stack) (is js ks : List Item) → is ≡ Step ∷ js → js ≡ Write p w ∷ ks → Turned None (Accepts code x (Writes p w st) below is) (Accepts code x (next code x st) below ks)
+  pub writes-more : (p : Place) (w : Word) (st : Stack) (below : List Stack) (is js ks : List Item) → is ≡ Step ∷ js
+      → js ≡ Write p w ∷ ks → Turned None (Accepts code x (Writes p w st) below is)
+      (Accepts code x (next code x st) below ks)
   writes-more p w st below is js ks e f =
       rw (e, f) (
         λ h. let q = begins h in let same : ks ≡ q.0 = cc (q.1) in rw same q.2,

@@ -130,7 +130,9 @@ module _ (r : List Row) (p : Pending) (q : Waiting) (word : Text) (none : subcom
   letter : (b : ℕ) (bs : Text) (found : Option ℕ)
       → whole (bundle_step_fault C false found (b ∷ bs) 0 (held r p) (flags_fault C false (length bs)))
       (after_flag C q word (bundle_step C found (b ∷ bs) 0 plain (held r p) (bundle_met C (length bs))).0 (bundle_step C found (b ∷ bs) 0 plain (held r p) (bundle_met C (length bs))).1) ≡ []
-      → Turn r p q word (then_ (after_flag C q word (bundle_step C found (b ∷ bs) 0 plain (held r p) (bundle_met C (length bs))).0 (bundle_step C found (b ∷ bs) 0 plain (held r p) (bundle_met C (length bs))).1))
+      → Turn r p q word (then_ (after_flag C q word
+      (bundle_step C found (b ∷ bs) 0 plain (held r p) (bundle_met C (length bs))).0
+      (bundle_step C found (b ∷ bs) 0 plain (held r p) (bundle_met C (length bs))).1))
   letter b bs None h = inr (inr (inr (record { passes = h; after = refl })))
   letter b bs (Some x) h = absurd (cc h)
 

@@ -100,7 +100,9 @@ module _ (code : Code) (names : ℕ → ℕ) where
       and-on (fixing_at s ws (Alloc b key ∷ (is ++ rest))) (fixing_at s1 ws (is ++ rest)) (fixing_at (with_store s (store_after code s1.store is)) vs rest) (Alloc b key) is refl (passes n s1 h.1 rest)
   passes {ws} {vs} (Nested.write {p = p} {value = value} {is = is} n) s h rest =
       let s1 : State = puts s p value in
-      and-on (fixing_at s ws (Write p value ∷ (is ++ rest))) (fixing_at s1 ws (is ++ rest)) (fixing_at (with_store s (store_after code s1.store is)) vs rest) (Write p value) is refl (passes n s1 h.1 rest)
+      and-on (fixing_at s ws (Write p value ∷ (is ++ rest))) (fixing_at s1 ws (is ++ rest))
+      (fixing_at (with_store s (store_after code s1.store is)) vs rest) (Write p value) is refl
+      (passes n s1 h.1 rest)
   passes {ws} {vs} (Nested.read {p = p} {value = value} {u = u} {v = v} {args = args} {is = is} n) s h rest =
       and-on (fixing_at s ws (Read p value u v args ∷ (is ++ rest))) (fixing_at s (Fixes ∷ ws) (is ++ rest)) (fixing_at (with_store s (store_after code s.store is)) vs rest) (Read p value u v args) is
       (rw (h.0, word-refl value) refl) (passes n s h.1 rest)
@@ -110,18 +112,29 @@ module _ (code : Code) (names : ℕ → ℕ) where
   -- a stale read in what is kept is re-executed: its steps are dropped
   pub repairs : (s : State) (ws : List Wait) (p : Place) (value : Word) (u : UnitId) (v : ℕ) (args : List Word) (stamp n : ℕ) (back : List Knot)
       → same_word (s.store p) value ≡ false
-      → Comes (fixing_at s ws (items_in (knot stamp (Read p value u v args) n ∷ back))) (Read p (s.store p) u v args ∷ []) (running_at s (resumed code u v args (s.store p)) (Fixes ∷ ws) (items_in back))
+      → Comes (fixing_at s ws (items_in (knot stamp (Read p value u v args) n ∷ back)))
+      (Read p (s.store p) u v args ∷ []) (running_at s (resumed code u v args (s.store p)) (Fixes ∷ ws)
+      (items_in back))
   unfolding turn
   repairs s ws p value u v args stamp n back e =
       turn-then (fixing_at s ws (items_in (knot stamp (Read p value u v args) n ∷ back))) (running_at s (resumed code u v args (s.store p)) (Fixes ∷ ws) (ticks n ++ items_in back))
-      (running_at s (resumed code u v args (s.store p)) (Fixes ∷ ws) (items_in back)) (Read p (s.store p) u v args ∷ []) (rw e refl) (drop-ticks s (resumed code u v args (s.store p)) (Fixes ∷ ws) n (items_in back))
+      (running_at s (resumed code u v args (s.store p)) (Fixes ∷ ws) (items_in back))
+      (Read p (s.store p) u v args ∷ []) (rw e refl)
+      (drop-ticks s (resumed code u v args (s.store p)) (Fixes ∷ ws) n (items_in back))
 
   -- its unit is over: what is left over is revoked, and what is kept continues after its end
   pub repaired : (s : State) (st : Stack) (ws : List Wait) (g : Grove) (e m : ℕ) (rest : List Knot) → next code s.plain st ≡ Over
       → Comes (running_at s st (Fixes ∷ ws) (items_in (knots g ++ knot e End m ∷ rest))) (End ∷ []) (fixing_at s ws (ticks m ++ items_in rest))
   unfolding turn
   repaired s st ws g e m rest h =
-      rw (around-knots g (knot e End m ∷ rest)) (one-turn (record { state = s; mode = Running st (first (levels (items_in (knots g ++ knot e End m ∷ rest)))); frames = frames_at (Fixes ∷ ws) (levels (ticks m ++ items_in rest)) })
+      rw (around-knots g (knot e End m ∷ rest))
+      (one-turn (record {
+        state = s;
+        mode = Running st
+            (first (levels (items_in (knots g ++ knot e End m ∷ rest))));
+        frames = frames_at (Fixes ∷ ws)
+            (levels (ticks m ++ items_in rest));
+      })
       (fixing_at s ws (ticks m ++ items_in rest)) (End ∷ []) (rw h refl))
 
   -- a taken read that was re-executed is over: what was left over after it is used from here on
@@ -129,7 +142,14 @@ module _ (code : Code) (names : ℕ → ℕ) where
       → Comes (running_at s st (Takes below ∷ ws) (items_in (knots g ++ knot e End m ∷ rest))) (End ∷ []) (running_at s below ws (items_in rest))
   unfolding turn
   retaken s st below ws g e m rest h =
-      rw (around-knots g (knot e End m ∷ rest)) (turn-then (record { state = s; mode = Running st (first (levels (items_in (knots g ++ knot e End m ∷ rest)))); frames = frames_at (Takes below ∷ ws) (levels (ticks m ++ items_in rest)) })
+      rw (around-knots g (knot e End m ∷ rest))
+      (turn-then (record {
+        state = s;
+        mode = Running st
+            (first (levels (items_in (knots g ++ knot e End m ∷ rest))));
+        frames = frames_at (Takes below ∷ ws)
+            (levels (ticks m ++ items_in rest));
+      })
       (running_at s below ws (ticks m ++ items_in rest)) (running_at s below ws (items_in rest)) (End ∷ []) (rw h refl) (drop-ticks s below ws m (items_in rest)))
 
   -- a taken read that was kept is over
@@ -137,7 +157,9 @@ module _ (code : Code) (names : ℕ → ℕ) where
       → Comes (fixing_at s (Takes below ∷ ws) (items_in (knot e End m ∷ rest))) (End ∷ []) (running_at s below ws (items_in rest))
   unfolding turn
   passed s below ws e m rest =
-      turn-then (fixing_at s (Takes below ∷ ws) (items_in (knot e End m ∷ rest))) (running_at s below ws (ticks m ++ items_in rest)) (running_at s below ws (items_in rest)) (End ∷ []) refl (drop-ticks s below ws m (items_in rest))
+      turn-then (fixing_at s (Takes below ∷ ws) (items_in (knot e End m ∷ rest)))
+      (running_at s below ws (ticks m ++ items_in rest)) (running_at s below ws (items_in rest)) (End ∷ []) refl
+      (drop-ticks s below ws m (items_in rest))
 
   -- a new read is over: its end is put in
   pub finished : (s : State) (st below : Stack) (ws : List Wait) (is : List Item) → next code s.plain st ≡ Over
@@ -172,7 +194,9 @@ module _ (code : Code) (names : ℕ → ℕ) where
   alloc-made s st ws g tail key v u i env below b e c h k =
       let after : Stack = Run u i (set env v (pointer key (Core b))) below in
       let s1 : State = grows code (λ k. b) (works s) key in
-      turn-then (running_at s st ws (items_in (knots g ++ tail))) (running_at s1 after ws (items_in (knots g ++ tail))) (running_at s1 after ws (items_in (knots g ++ tail))) (Step ∷ Alloc (Core b) key ∷ [])
+      turn-then (running_at s st ws (items_in (knots g ++ tail)))
+      (running_at s1 after ws (items_in (knots g ++ tail))) (running_at s1 after ws (items_in (knots g ++ tail)))
+      (Step ∷ Alloc (Core b) key ∷ [])
       (rw (h, first-knots g c, k, e) refl) (bare-self (running_at s1 after ws (items_in (knots g ++ tail))))
 
   -- a write
@@ -190,10 +214,13 @@ module _ (code : Code) (names : ℕ → ℕ) where
   -- a new read, which shares what is left over
   pub read-begun : (s : State) (st below : Stack) (ws : List Wait) (g : Grove) (tail : List Knot) (p : Place) (u : UnitId) (v : ℕ) (args : List Word) → Closes tail
       → next code s.plain st ≡ Reads p u v args below → take_read p u v args (trace_in g) ≡ None
-      → Comes (running_at s st ws (items_in (knots g ++ tail))) (Step ∷ Read p (s.store p) u v args ∷ []) (running_at (works s) (resumed code u v args (s.store p)) (Begins below ∷ ws) (items_in (knots g ++ tail)))
+      → Comes (running_at s st ws (items_in (knots g ++ tail))) (Step ∷ Read p (s.store p) u v args ∷ [])
+      (running_at (works s) (resumed code u v args (s.store p)) (Begins below ∷ ws) (items_in (knots g ++ tail)))
   unfolding turn
   read-begun s st below ws g tail p u v args c h k =
-      one-turn (running_at s st ws (items_in (knots g ++ tail))) (running_at (works s) (resumed code u v args (s.store p)) (Begins below ∷ ws) (items_in (knots g ++ tail))) (Step ∷ Read p (s.store p) u v args ∷ [])
+      one-turn (running_at s st ws (items_in (knots g ++ tail)))
+      (running_at (works s) (resumed code u v args (s.store p)) (Begins below ∷ ws) (items_in (knots g ++ tail)))
+      (Step ∷ Read p (s.store p) u v args ∷ [])
       (rw (h, first-knots g c, k) refl)
 
   -- a read that is taken is after what was revoked, its items inside it and what is left over after its end
@@ -210,7 +237,9 @@ module _ (code : Code) (names : ℕ → ℕ) where
     inside-around : around (levels (ticks n ++ items_in taken_nodes)) ≡ levels (ticks m ++ items_in (knots rest ++ tail))
     inside-around = around-ticks n (items_in taken_nodes) ∙ around-knots inside (knot e End m ∷ (knots rest ++ tail))
 
-    behind-same : BareFrames (AfterMend below t.leftover (frames_at ws (around (levels (items_in (knots g ++ tail)))))) (frames_at (Takes below ∷ ws) (levels (ticks m ++ items_in (knots rest ++ tail))))
+    behind-same : BareFrames (AfterMend below t.leftover
+        (frames_at ws (around (levels (items_in (knots g ++ tail))))))
+        (frames_at (Takes below ∷ ws) (levels (ticks m ++ items_in (knots rest ++ tail))))
     behind-same = rw (first-ticks m (items_in (knots rest ++ tail)), first-knots rest c, around-ticks m (items_in (knots rest ++ tail)), around-knots rest tail, around-knots g tail)
         (BareFrames.after_mend (behind ∙ sym (bare-stepped m (trace_in rest))) (frames-self code names (frames_at ws (around (levels (items_in tail))))))
 
@@ -219,7 +248,13 @@ module _ (code : Code) (names : ℕ → ℕ) where
         → Comes (running_at s st ws (items_in (knots g ++ tail))) (Step ∷ Read p (s.store p) u v args ∷ []) (fixing_at (works s) (Takes below ∷ ws) (ticks n ++ items_in taken_nodes))
     unfolding turn
     read-taken same =
-        turn-then (running_at s st ws (items_in (knots g ++ tail))) (record { state = works s; mode = Fixing t.inside; frames = AfterMend below t.leftover (frames_at ws (around (levels (items_in (knots g ++ tail))))) })
+        turn-then (running_at s st ws (items_in (knots g ++ tail)))
+        (record {
+          state = works s;
+          mode = Fixing t.inside;
+          frames = AfterMend below t.leftover
+              (frames_at ws (around (levels (items_in (knots g ++ tail)))));
+        })
         (fixing_at (works s) (Takes below ∷ ws) (ticks n ++ items_in taken_nodes)) (Step ∷ Read p (s.store p) u v args ∷ []) (rw (h, first-knots g c, k, same) refl)
         (record {
           state = refl;
@@ -229,10 +264,17 @@ module _ (code : Code) (names : ℕ → ℕ) where
 
     -- it is stale, and its unit runs with what was inside it
     pub read-retaken : same_word (s.store p) t.value ≡ false
-        → Comes (running_at s st ws (items_in (knots g ++ tail))) (Step ∷ Read p (s.store p) u v args ∷ []) (running_at (works s) (resumed code u v args (s.store p)) (Takes below ∷ ws) (items_in taken_nodes))
+        → Comes (running_at s st ws (items_in (knots g ++ tail))) (Step ∷ Read p (s.store p) u v args ∷ [])
+        (running_at (works s) (resumed code u v args (s.store p)) (Takes below ∷ ws) (items_in taken_nodes))
     unfolding turn
     read-retaken other =
-        turn-then (running_at s st ws (items_in (knots g ++ tail))) (record { state = works s; mode = Running (resumed code u v args (s.store p)) t.inside; frames = AfterMend below t.leftover (frames_at ws (around (levels (items_in (knots g ++ tail))))) })
+        turn-then (running_at s st ws (items_in (knots g ++ tail)))
+        (record {
+          state = works s;
+          mode = Running (resumed code u v args (s.store p)) t.inside;
+          frames =
+              AfterMend below t.leftover (frames_at ws (around (levels (items_in (knots g ++ tail)))));
+        })
         (running_at (works s) (resumed code u v args (s.store p)) (Takes below ∷ ws) (items_in taken_nodes)) (Step ∷ Read p (s.store p) u v args ∷ []) (rw (h, first-knots g c, k, other) refl)
         (record {
           state = refl;

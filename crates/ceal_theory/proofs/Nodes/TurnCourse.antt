@@ -69,7 +69,9 @@ turn-course-law code names inputs r front p value u v args inside back e h n m o
         at-stale : (x : FirstStale code names inputs r front p u v args (flat inside ++ item.End ∷ back)) → Leads code names (unit_alone code inputs r front p u v args x.inside) m out
             → TurnCourse code names inputs r front p u v args x.inside x.back m out
         at-stale x l = record {
-          ended = λ e. x.slice m.state out (subst (λ is. Finishes code names (unit_alone code inputs r front p u v args x.inside) m.state is) (append-nil out) (l.back m.state [] (ended-finishes code names m e)));
+          ended = λ e. x.slice m.state out (subst
+              (λ is. Finishes code names (unit_alone code inputs r front p u v args x.inside) m.state is)
+              (append-nil out) (l.back m.state [] (ended-finishes code names m e)));
           over = λ n h. x.over n (λ t items f. let w = work-law code names (unit_alone code inputs r front p u v args x.inside) m out l t items f in omega (arith, h, w.0));
         }
 
@@ -85,7 +87,8 @@ at-uses code n bs (At.outer e k a) h = at-uses code n bs a h.4
 pub turn-known-law : TurnKnownLaw
 turn-known-law code names inputs f ws fits r h front p value u v args after e k n inside back i = found (locate code r.items (starting code inputs r.known))
   where
-    knows : (q : Located code (starting code inputs r.known) r.items) → Knows code (length inputs) h.blocks (known_after [] q.front) (unit_alone code inputs r q.front q.place q.unit q.var q.args q.inside)
+    knows : (q : Located code (starting code inputs r.known) r.items) → Knows code (length inputs) h.blocks
+        (known_after [] q.front) (unit_alone code inputs r q.front q.place q.unit q.var q.args q.inside)
     knows q =
         let y = sound-ready code inputs f ws fits r h q.at-it in
         let w = at-store code q.at-it in
@@ -113,7 +116,8 @@ turn-known-law code names inputs f ws fits r h front p value u v args after e k 
 
     found : Ahead code (starting code inputs r.known) r.items → Knows code (length inputs) h.blocks (known_after [] front) (unit_alone code inputs r front p u v args inside)
     found (Ahead.honest m) =
-        absurd (n (agrees-front code (starting code inputs r.known) front (item.Read p value u v args ∷ after) (subst (λ is. AgreesAll code (starting code inputs r.known) is) e (flat-honest code m))).1.0)
+        absurd (n (agrees-front code (starting code inputs r.known) front (item.Read p value u v args ∷ after)
+        (subst (λ is. AgreesAll code (starting code inputs r.known) is) e (flat-honest code m))).1.0)
     found (Ahead.stale q) = moved q
         (one-first code (starting code inputs r.known) q.front front (flat q.inside ++ item.End ∷ q.back) after q.place p q.value value q.unit u q.var v q.args args (sym (at-flat code q.at-it) ∙ e)
         (at-honest code q.at-it) (subst (λ z. ¬ (z q.place ≡ q.value)) (at-store code q.at-it) q.stale) k n)

@@ -226,14 +226,16 @@ module _ (code : Code) where
   opened-off p s b r e = (refl, λ i. rw e at i)
 
   -- a queued read that is honest goes, and the first read of its place after it comes in its stead
-  pub covered-pop : (q : Queue) (n : ℕ) (p : Place) (l : Nodes) (s : Store) → Absent n l → Covered code q s (opened none_waits p (q n)) l → Covered code (with_queued (without q n) (first_read p l)) s none_waits l
+  pub covered-pop : (q : Queue) (n : ℕ) (p : Place) (l : Nodes) (s : Store) → Absent n l → Covered code q s
+      (opened none_waits p (q n)) l → Covered code (with_queued (without q n) (first_read p l)) s none_waits l
   covered-pop q n p l s a c =
       covered-change p (without q n) l s s (opened none_waits p (q n)) none_waits (opened-off p s (q n))
       (covered-less q (without q n) l (without-on q n l a) s s (opened none_waits p (q n)) (opened none_waits p (q n)) (λ r. inl (refl, λ e. e)) c)
 
   -- flat items one after another
   -- honest nodes in front of covered ones, whoever waits
-  pub honest-front : (q : Queue) (front l : Nodes) (s : Store) (w : Waiting) → AgreesAll code s (items_of front) → Covered code q (store_after code s (items_of front)) none_waits l → Covered code q s w (before front l)
+  pub honest-front : (q : Queue) (front l : Nodes) (s : Store) (w : Waiting) → AgreesAll code s (items_of front)
+      → Covered code q (store_after code s (items_of front)) none_waits l → Covered code q s w (before front l)
   honest-front q Nil l s w h c = covered-less q q l (same-on q l) s s none_waits w (λ r. inl (refl, λ e. absurd (grind (arith, e, none-waits r)))) c
   honest-front q (Node n Step rest) l s w h c = honest-front q rest l s w h.1 c
   honest-front q (Node n (Alloc b key) rest) l s w h c = honest-front q rest l (cleared code s b key) w h.1 c
@@ -317,7 +319,9 @@ module _ (code : Code) where
   covered-any q q' (Node n (Read x value u v args) rest) m s s' w w' h c =
       (head (h x) c.0, covered-any q q' rest m.1 s s' (opened w x (q n)) (opened w' x (q' n)) (loose-opened q q' n rest s s' w w' x value u v args m.0 h) c.1)
     where
-      head : ((s x ≡ s' x) × (w x ≡ true → w' x ≡ true)) ⊎ ((w' x ≡ true) ⊎ Queued q' (if same_place x x then Some n else first_read x rest)) → ((s x ≡ value) ⊎ (opened w x (q n) x ≡ true)) → (s' x ≡ value) ⊎ (opened w' x (q' n) x ≡ true)
+      head : ((s x ≡ s' x) × (w x ≡ true → w' x ≡ true)) ⊎
+          ((w' x ≡ true) ⊎ Queued q' (if same_place x x then Some n else first_read x rest)) →
+          ((s x ≡ value) ⊎ (opened w x (q n) x ≡ true)) → (s' x ≡ value) ⊎ (opened w' x (q' n) x ≡ true)
       head (inl k) (inl e) = inl (sym k.0 ∙ e)
       head (inl k) (inr e) = inr (opened-more w w' x (q n) (q' n) x k.1 m.0 e)
       head (inr (inl e)) k = inr (opened-keeps w' x (q' n) x e)
@@ -338,7 +342,9 @@ module _ (code : Code) where
   none-not : (w : Waiting) (r : Place) → w r ≡ false → w r ≡ true → none_waits r ≡ true
   none-not w r e i = absurd (grind (arith, e, i))
 
-  pub cover : (q q' : Queue) (l : Nodes) → MoreOn q q' l → (s s' : Store) (w : Waiting) → ((p : Place) → ((s p ≡ s' p) × (w p ≡ false)) ⊎ Queued q' (first_read p l)) → Covered code q s w l → Covered code q' s' none_waits l
+  pub cover : (q q' : Queue) (l : Nodes) → MoreOn q q' l → (s s' : Store) (w : Waiting) →
+      ((p : Place) → ((s p ≡ s' p) × (w p ≡ false)) ⊎ Queued q' (first_read p l)) → Covered code q s w l
+      → Covered code q' s' none_waits l
   cover q q' l m s s' w h c = covered-any q q' l m s s' w none_waits (λ r. go r (h r)) c
     where
       go : (r : Place) → ((s r ≡ s' r) × (w r ≡ false)) ⊎ Queued q' (first_read r l) → ((s r ≡ s' r) × (w r ≡ true → none_waits r ≡ true)) ⊎ ((none_waits r ≡ true) ⊎ Queued q' (first_read r l))

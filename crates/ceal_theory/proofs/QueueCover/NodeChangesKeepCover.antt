@@ -55,7 +55,8 @@ module _ (code : Code) where
       honest-front code (with_queued q (first_read p back)) front back s none_waits k.0
       (covered-change code p q back t t (opened none_waits p (q n)) none_waits (λ r e. (refl, λ i. rw (opened-other none_waits p (q n) r e) at i)) k.1.1)
 
-  put-read : (q : Queue) (s : Store) (front back : Nodes) (n : ℕ) (p : Place) (value : Word) (u : UnitId) (v : ℕ) (args : List Word) → NoneQueued q front → store_after code s (items_of front) p ≡ value
+  put-read : (q : Queue) (s : Store) (front back : Nodes) (n : ℕ) (p : Place) (value : Word) (u : UnitId) (v : ℕ)
+      (args : List Word) → NoneQueued q front → store_after code s (items_of front) p ≡ value
       → Covered code q s none_waits (before front back) → Covered code q s none_waits (before front (Node n (Read p value u v args) back))
   put-read q s front back n p value u v args m e c =
       let k = behind q s front back m c in

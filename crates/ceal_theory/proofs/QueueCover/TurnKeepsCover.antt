@@ -82,13 +82,17 @@ after-equal code s t (Write q value ∷ is) p e = after-equal code (stored s q v
 after-equal code s t (Read q value u v args ∷ is) p e = after-equal code s t is p e
 after-equal code s t (End ∷ is) p e = after-equal code s t is p e
 
-module _ {names : ℕ → ℕ} (code : Code) (inputs : List Block) (f : ℕ) (ws : List Word) (fits : Fits code inputs f ws) (r : Repair) (h : Sound code names inputs f ws r) (z : Plain) (ext : Extends (with_inputs code inputs r.known) z) where
+module _ {names : ℕ → ℕ} (code : Code) (inputs : List Block) (f : ℕ) (ws : List Word) (fits : Fits code inputs f ws)
+    (r : Repair) (h : Sound code names inputs f ws r) (z : Plain)
+    (ext : Extends (with_inputs code inputs r.known) z) where
   -- z knows more: the start store is the same where a block is known, and no item reads where it is not
   start-same : (p : Place) → (starting code inputs r.known p ≡ starting code inputs z p) ⊎ (¬ (KnownBlock (length inputs) h.blocks p.block))
   unfolding starting
   start-same p = go p.block
     where
-      core : (c : ℕ) (o : Option Block) → r.known (Core c) ≡ o → (default_in code.structs (r.known (Core c)) p.field ≡ default_in code.structs (z (Core c)) p.field) ⊎ (¬ (KnownBlock (length inputs) h.blocks (Core c)))
+      core : (c : ℕ) (o : Option Block) → r.known (Core c) ≡ o →
+          (default_in code.structs (r.known (Core c)) p.field ≡ default_in code.structs (z (Core c)) p.field) ⊎
+          (¬ (KnownBlock (length inputs) h.blocks (Core c)))
       core c None e = inr (λ k. let g = h.holds (Core c) k in none-some g.block (sym e ∙ (sym (at-core code inputs r.known c) ∙ g.there)))
       core c (Some block) e = inl (rw (e, ext (Core c) block (at-core code inputs r.known c ∙ e)) refl)
 
@@ -103,13 +107,18 @@ module _ {names : ℕ → ℕ} (code : Code) (inputs : List Block) (f : ℕ) (ws
       of : (p : Place) → (starting code inputs r.known p ≡ starting code inputs z p) ⊎ (¬ (KnownBlock (length inputs) h.blocks p.block))
           → ((starting code inputs r.known p ≡ starting code inputs z p) × (none_waits p ≡ false)) ⊎ Queued q (first_read p l)
       of p (inl e) = inl (e, none-waits code p)
-      of p (inr away) = inr (subst (Queued q) (sym (no-read (length inputs) h.blocks p away l (subst (ReadsKnown (length inputs) h.blocks) (sym e) (uses-reads (length inputs) h.blocks r.items h.uses)))) tt)
+      of p (inr away) = inr (subst (Queued q) (sym
+          (no-read (length inputs) h.blocks p away l
+          (subst (ReadsKnown (length inputs) h.blocks) (sym e)
+          (uses-reads (length inputs) h.blocks r.items h.uses)))) tt)
 
       at : (p : Place) → ((starting code inputs r.known p ≡ starting code inputs z p) × (none_waits p ≡ false)) ⊎ Queued q (first_read p l)
       at p = of p (start-same p)
 
   -- what is held of known blocks has the same start
-  start-at : (p : Place) (bs : List ℕ) → Rattle.ceal_code.specs.Known.Holds (length inputs) bs (with_inputs code inputs r.known) → KnownBlock (length inputs) bs p.block → starting code inputs r.known p ≡ starting code inputs z p
+  start-at : (p : Place) (bs : List ℕ) → Rattle.ceal_code.specs.Known.Holds (length inputs) bs
+      (with_inputs code inputs r.known) → KnownBlock (length inputs) bs p.block
+      → starting code inputs r.known p ≡ starting code inputs z p
   unfolding starting
   start-at p bs held k = go p.block k
     where
@@ -123,8 +132,11 @@ module _ {names : ℕ → ℕ} (code : Code) (inputs : List Block) (f : ℕ) (ws
       go (Core c) k = core c k
 
 -- the unit of a located read was re-executed: its new items are honest from the new start, too
-module _ {names : ℕ → ℕ} (code : Code) (inputs : List Block) (f : ℕ) (ws : List Word) (fits : Fits code inputs f ws) (r : Repair) (h : Sound code names inputs f ws r) {front back : List Item} {w : Store} {p : Place} {value : Word} {u : UnitId} {v : ℕ} {args : List Word} {inside : Trace}
-    (at : At code (starting code inputs r.known) r.items front w p value u v args inside back) (t : State) (new left : Trace) (a : Anew code names (with_store (goes_on code inputs r) w) (resumed code u v args (w p)) inside t new left) where
+module _ {names : ℕ → ℕ} (code : Code) (inputs : List Block) (f : ℕ) (ws : List Word) (fits : Fits code inputs f ws)
+    (r : Repair) (h : Sound code names inputs f ws r) {front back : List Item} {w : Store} {p : Place} {value : Word} {u : UnitId} {v : ℕ} {args : List Word} {inside : Trace}
+    (at : At code (starting code inputs r.known) r.items front w p value u v args inside back) (t : State)
+    (new left : Trace) (a : Anew code names (with_store (goes_on code inputs r) w)
+    (resumed code u v args (w p)) inside t new left) where
   ready : Ready names h.single code (length inputs) (with_inputs code inputs r.known) (known_after [] front) (with_store (goes_on code inputs r) w) p value u v args inside
   ready = sound-ready code inputs f ws fits r h at
 
@@ -147,7 +159,9 @@ module _ {names : ℕ → ℕ} (code : Code) (inputs : List Block) (f : ℕ) (ws
       flat-honest code q.walk
 
   module _ (fore old fresh behind : Nodes) (stamp last : ℕ) (is : items_of fore ≡ front) (now : items_of fresh ≡ flat new) (q q' : Queue)
-      (all : items_of (before fore (before old behind)) ≡ flat r.items) (none : NoneQueued q fore) (c : Covered code q (starting code inputs r.known) none_waits (before fore (before old behind))) (more : MoreOn q q' behind) where
+      (all : items_of (before fore (before old behind)) ≡ flat r.items) (none : NoneQueued q fore)
+      (c : Covered code q (starting code inputs r.known) none_waits (before fore (before old behind)))
+      (more : MoreOn q q' behind) where
     -- the store at the read, as the new repair begins
     abbrev here : Store
     here = store_after code (starting code inputs t.plain) (items_of fore)
@@ -166,14 +180,17 @@ module _ {names : ℕ → ℕ} (code : Code) (inputs : List Block) (f : ℕ) (ws
         items-end Nil = refl
         items-end (Node n i rest) = ap (λ is. i ∷ is) (items-end rest)
 
-        honest-end : (js : List Item) → AgreesAll code (store_after code (starting code inputs t.plain) front) js → AgreesAll code (store_after code (starting code inputs t.plain) front) (items_of (before fresh (Node last End Nil)))
+        honest-end : (js : List Item) → AgreesAll code (store_after code (starting code inputs t.plain) front) js
+            → AgreesAll code (store_after code (starting code inputs t.plain) front)
+            (items_of (before fresh (Node last End Nil)))
         honest-end js k = subst (λ z. AgreesAll code (store_after code (starting code inputs t.plain) front) z) (sym (items-end fresh))
             (agrees-append code (store_after code (starting code inputs t.plain) front) (items_of fresh) (End ∷ [])
             (subst (λ z. AgreesAll code (store_after code (starting code inputs t.plain) front) z) (sym now) new-honest) (tt, tt))
 
     -- the new nodes are covered from the new start, if the first read after the read's end is queued of each place
     -- whose content changes there or of which somebody waited
-    pub turn-kept : ((x : Place) → ((store_after code here (items_of old) x ≡ store_after code here (items_of made_nodes) x) × (waits_after q none_waits old x ≡ false)) ⊎ Queued q' (first_read x behind))
+    pub turn-kept : ((x : Place) → ((store_after code here (items_of old) x ≡ store_after code here
+        (items_of made_nodes) x) × (waits_after q none_waits old x ≡ false)) ⊎ Queued q' (first_read x behind))
         → Covered code q' (starting code inputs t.plain) none_waits (before fore (before made_nodes behind))
     turn-kept loose =
         let c' = moved-start code inputs f ws fits r h t.plain ext q (before fore (before old behind)) all c in

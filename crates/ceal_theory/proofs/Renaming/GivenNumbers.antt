@@ -238,7 +238,9 @@ naming-new number k names =
     let d : number + k - number ≡ k = omega arith in
     rw (e, d)
 
-module _ (code : Code) (old new : List Block) (f : ℕ) (args : List Word) (l : Trace) (number : ℕ) (e : Edited code old new f args l number) (names : ℕ → ℕ) (single : Single names) (apart : Apart names l) (n : ℕ) where
+module _ (code : Code) (old new : List Block) (f : ℕ) (args : List Word) (l : Trace) (number : ℕ)
+    (e : Edited code old new f args l number) (names : ℕ → ℕ) (single : Single names) (apart : Apart names l)
+    (n : ℕ) where
   mentions : Mentions (length new) [] l e.trace.known
   mentions = mentions-new code old new f args e.call e.fit e.extended l e.trace
 
@@ -322,7 +324,9 @@ record RenamedFirst (code : Code) (inputs : List Block) (f : ℕ) (args : List W
 module _ (code : Code) (inputs : List Block) (f : ℕ) (args : List Word) (fits : Fits code inputs f args) where
   first-renamed : (names names' : ℕ → ℕ) → Single names → Single names' → (l' : Trace) (work : ℕ) → FirstsAs code inputs names f args l' work → RenamedFirst code inputs f args names names' l' work
   first-renamed names names' single single' l' work a =
-      finish (anew-too code sides a.anew [] (begins code inputs (input_plain code inputs) 0) (started-alike code (length inputs) [] f args (args-known code inputs f args fits)) TraceAlike.nothing (record {
+      finish (anew-too code sides a.anew [] (begins code inputs (input_plain code inputs) 0)
+      (started-alike code (length inputs) [] f args (args-known code inputs f args fits)) TraceAlike.nothing
+      (record {
         one = record { left = λ b c d s t. elim s [ ]; right = λ b c d s t. elim s [ ] };
         plain = plain;
         store = bases-self code inputs [] fits.blocks;

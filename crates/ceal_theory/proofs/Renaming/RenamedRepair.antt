@@ -47,7 +47,9 @@ module _ (code : Code) (inputs : List Block) (fit : inputs_fit code.structs inpu
       → (l' : Trace) (work : ℕ) → AdjustsAs code inputs names f l l' work → RenamedAdjust code inputs ps names names' f g l l' m work
   unfolding plain_of
   adjust-renamed names names' single single' l m t known k f g il ir l' work a =
-      let w = walk-too (length inputs) ps one code (λ b. 1 ≤ uses b l) (λ c. 1 ≤ uses c m) k t [] (λ b c i. elim i [ ]) (λ b i. elim i [ ]) (input_plain code inputs) (input_plain code inputs) plain (λ b c i. elim i [ ]) (λ b c i. elim i [ ]) (λ b e. e) (λ c e. e) in
+      let w = walk-too (length inputs) ps one code (λ b. 1 ≤ uses b l) (λ c. 1 ≤ uses c m) k t []
+      (λ b c i. elim i [ ]) (λ b i. elim i [ ]) (input_plain code inputs) (input_plain code inputs) plain
+      (λ b c i. elim i [ ]) (λ b c i. elim i [ ]) (λ b e. e) (λ c e. e) in
       finish w.pairs w.within w.left w.right (fix-too code (sides w.pairs) a.fix w.pairs (begins code inputs (plain_after code (input_plain code inputs) m) g) w.trace (record {
         one = one-within w.pairs ps w.within one;
         plain = w.plain;
@@ -67,7 +69,9 @@ module _ (code : Code) (inputs : List Block) (fit : inputs_fit code.structs inpu
       plain b c (IdAlike.input {i = i}) = begin-self code inputs [] fit i
       plain b c (IdAlike.core t) = elim t [ ]
 
-      from : (qs : Pairs) → Within qs ps → ((b c : ℕ) → Tied b c qs → 1 ≤ uses b l) → ((b c : ℕ) → Tied b c qs → 1 ≤ uses c m) → (b c : ℕ) → ComesFrom (sides qs) b c → PairFrom ps l m names names' f g b c
+      from : (qs : Pairs) → Within qs ps → ((b c : ℕ) → Tied b c qs → 1 ≤ uses b l) →
+          ((b c : ℕ) → Tied b c qs → 1 ≤ uses c m) → (b c : ℕ) → ComesFrom (sides qs) b c
+          → PairFrom ps l m names names' f g b c
       from qs sub h h' b c (ComesFrom.begun i) = PairFrom.old (sub b c i) (h b c i) (h' b c i)
       from qs sub h h' b c (ComesFrom.grown k e e') = PairFrom.new k e e'
 
@@ -83,7 +87,8 @@ module _ (code : Code) (inputs : List Block) (fit : inputs_fit code.structs inpu
       }
 
   -- the repair of the renamed trace is there where that of the trace is
-  there-too : (l m : Trace) → TraceAlike ps l m → (known : List ℕ) → Mentions (length inputs) [] l known → (f g : ℕ) → Above f l → Above g m → (n : ℕ) (a : Repaired) → adjusted code inputs f n l ≡ Some a
+  there-too : (l m : Trace) → TraceAlike ps l m → (known : List ℕ) → Mentions (length inputs) [] l known → (f g : ℕ)
+      → Above f l → Above g m → (n : ℕ) (a : Repaired) → adjusted code inputs f n l ≡ Some a
       → (b : Repaired) × (adjusted code inputs g n m ≡ Some b) × RenamedRepair (Some a) (Some b)
   there-too l m t known k f g il ir n a e =
       let s = adjusted-sound code inputs f n l a e in

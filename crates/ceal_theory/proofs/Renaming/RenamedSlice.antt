@@ -75,7 +75,8 @@ module _ (code : Code) (sides : Sides) where
         twin = x.twin;
       }
 
-  pub part-too : {k j : ℕ} {s s' : State} {old new : Trace} → Part code sides.left k s old j s' new → (ps : Pairs) (t : State) {old' : Trace} → TraceAlike ps old old' → Twin code sides ps s t → PartToo ps k j s' new t old'
+  pub part-too : {k j : ℕ} {s s' : State} {old new : Trace} → Part code sides.left k s old j s' new → (ps : Pairs)
+      (t : State) {old' : Trace} → TraceAlike ps old old' → Twin code sides ps s t → PartToo ps k j s' new t old'
   part-too Part.stays ps t {old'} h k = record { state = t; items = old'; part = Part.stays; pairs = ps; wider = λ b c i. i; alike = h; twin = k }
   part-too Part.end ps t TraceAlike.nothing k = record { state = t; items = Nothing; part = Part.end; pairs = ps; wider = λ b c i. i; alike = TraceAlike.nothing; twin = k }
   part-too (Part.step f) ps t (TraceAlike.stepped h) k =
@@ -103,10 +104,14 @@ module _ (code : Code) (sides : Sides) where
         alike = TraceAlike.wrote (place-wider ps x.pairs x.wider kp) (word-wider ps x.pairs x.wider kv) x.alike;
         twin = x.twin;
       }
-  part-too {s = s} {s' = s'} (Part.kept {k = k} {i = i} {j = j} {t = s1} {p = p} {value = v} {u = u} {v = y} {args = args} {inside' = i'} {rest' = l'} e g f) ps t (TraceAlike.was_read {q = q} {w = w} {ws = args'} {j = o} {m = m} kp kv ka ki h) tw =
+  part-too {s = s} {s' = s'} (Part.kept {k = k} {i = i} {j = j} {t = s1} {p = p} {value = v} {u = u} {v = y} {args =
+      args} {inside' = i'} {rest' = l'} e g f) ps t
+      (TraceAlike.was_read {q = q} {w = w} {ws = args'} {j = o} {m = m} kp kv ka ki h) tw =
       kept-too ps k i j s1 s' t p q (s.store p) w u y args args' i' l' o m kp (tw.store p q kp) ka (equal-too ps tw.one (s.store p) v (t.store q) w (tw.store p q kp) kv e) (part-too g ps t ki tw)
       (λ qs t1 wide k1. part-too f qs t1 (trace-wider ps qs wide h) k1)
-  part-too {s = s} {s' = s'} (Part.stale {k = k} {j = j} {t = s1} {p = p} {value = v} {u = u} {v = y} {args = args} {inside' = i'} {left = left} {rest' = l'} n a f) ps t (TraceAlike.was_read {q = q} {w = w} {ws = args'} {j = o} {m = m} kp kv ka ki h) tw =
+  part-too {s = s} {s' = s'} (Part.stale {k = k} {j = j} {t = s1} {p = p} {value = v} {u = u} {v = y} {args =
+      args} {inside' = i'} {left = left} {rest' = l'} n a f) ps t
+      (TraceAlike.was_read {q = q} {w = w} {ws = args'} {j = o} {m = m} kp kv ka ki h) tw =
       stale-too ps k j s1 s' t p q (s.store p) w u y args args' i' left l' o m kp (tw.store p q kp) ka (apart-too ps tw.one (s.store p) v (t.store q) w (tw.store p q kp) kv n)
       (anew-too code sides a ps t (given-too code ps u y args args' (s.store p) (t.store q) ka (tw.store p q kp)) ki tw)
       (λ qs t1 wide k1. part-too f qs t1 (trace-wider ps qs wide h) k1)
@@ -120,7 +125,8 @@ module _ (code : Code) (sides : Sides) where
     pub alike : TraceAlike pairs new items
     pub twin : Twin code sides pairs s' state
 
-  pub runs-too : {k : Option ℕ} {s s' : State} {old new : Trace} → Runs code sides.left k s old s' new → (ps : Pairs) (t : State) {old' : Trace} → TraceAlike ps old old' → Twin code sides ps s t → RunsToo ps k s' new t old'
+  pub runs-too : {k : Option ℕ} {s s' : State} {old new : Trace} → Runs code sides.left k s old s' new → (ps : Pairs)
+      (t : State) {old' : Trace} → TraceAlike ps old old' → Twin code sides ps s t → RunsToo ps k s' new t old'
   runs-too (Runs.whole f) ps t h k =
       let x = fix-too code sides f ps t h k in record { state = x.state; items = x.items; runs = Runs.whole x.fix; pairs = x.pairs; wider = x.wider; alike = x.alike; twin = x.twin }
   runs-too (Runs.part f) ps t h k =
@@ -138,7 +144,8 @@ default-alike structs ps field MaybeAlike.none = WordAlike.num
 default-alike structs ps field (MaybeAlike.some {b = b} {c = c} h) = rw h.shape (cell-self ps (field_kind structs c.shape field))
 
 module _ (code : Code) (inputs : List Block) (fit : inputs_fit code.structs inputs ≡ true) where
-  core-alike : (ps : Pairs) (x y : Plain) → PlainAlike code.structs ps (with_inputs code inputs x) (with_inputs code inputs y) → (b c : ℕ) → Tied b c ps → MaybeAlike code.structs ps (x (Core b)) (y (Core c))
+  core-alike : (ps : Pairs) (x y : Plain) → PlainAlike code.structs ps (with_inputs code inputs x)
+      (with_inputs code inputs y) → (b c : ℕ) → Tied b c ps → MaybeAlike code.structs ps (x (Core b)) (y (Core c))
   unfolding with_inputs
   core-alike ps x y h b c t = h (Core b) (Core c) (IdAlike.core t)
 

@@ -134,13 +134,18 @@ module _ (ps : Pairs) (one : OneToOne ps) where
     pub told-renamed : {a : Act} {l : Trace} → Told code x a l → {a' : Act} → ActAlike ps a a' → {m : Trace} → TraceAlike ps l m → MadeIn code y m → Told code y a' m
     told-renamed Told.over ActAlike.over TraceAlike.nothing g = Told.over
     told-renamed (Told.quiet r) (ActAlike.quiet k) (TraceAlike.stepped h) g = Told.quiet (told-renamed r (next-alike ps one code x y plain k) h g)
-    told-renamed (Told.makes {key = key} {v = v} {u = u} {i = n} {env = env} {below = below} {b = b} e r) (ActAlike.makes {k' = key'} {env' = env'} {st' = below'} kk kv ks) (TraceAlike.stepped (TraceAlike.allocated {k' = key2} {m = m} (IdAlike.core {c = c} i) kk2 h)) g =
+    told-renamed (Told.makes {key = key} {v = v} {u = u} {i = n} {env = env} {below = below} {b = b} e r)
+        (ActAlike.makes {k' = key'} {env' = env'} {st' = below'} kk kv ks)
+        (TraceAlike.stepped (TraceAlike.allocated {k' = key2} {m = m} (IdAlike.core {c = c} i) kk2 h)) g =
         rw (same-keys kk2 kk) (Told.makes (rw (same-keys kk2 kk) at g.0)
         (told-renamed r (next-alike ps one code x y plain (StackAlike.run (set-alike ps kv v (pointer-alike ps kk (IdAlike.core i))) ks)) h g.1))
     told-renamed (Told.writes r) (ActAlike.writes kp kv ks) (TraceAlike.stepped (TraceAlike.wrote kp2 kv2 h)) g =
         rw (same-places kp2 kp, same-words kv2 kv) (Told.writes (told-renamed r (next-alike ps one code x y plain ks) h g))
     told-renamed (Told.reads {u = u} {v = z} r1 r2) (ActAlike.reads kp ka ks) (TraceAlike.stepped (TraceAlike.was_read kp2 kv ka2 i h)) g =
-        rw (same-places kp2 kp, all-same ka2 ka) (Told.reads (told-renamed r1 (next-alike ps one code x y plain (given-alike ps code u.0 z ka kv StackAlike.empty)) i g.0) (told-renamed r2 (next-alike ps one code x y plain ks) h g.1))
+        rw (same-places kp2 kp, all-same ka2 ka)
+        (Told.reads (told-renamed r1 (next-alike ps one code x y plain
+        (given-alike ps code u.0 z ka kv StackAlike.empty)) i g.0)
+        (told-renamed r2 (next-alike ps one code x y plain ks) h g.1))
 
   -- each known block has a pair, whose other block is known on the other side
   abbrev Listed : List ℕ → List ℕ → Type 0
@@ -175,7 +180,8 @@ module _ (ps : Pairs) (one : OneToOne ps) where
     pub mentions : Mentions n bs' m after
     pub listed : (b : ℕ) → In b cs → (c : ℕ) × Tied b c ps × In c after
 
-  pub mentions-renamed : (n : ℕ) {bs cs : List ℕ} {l : Trace} → Mentions n bs l cs → {m : Trace} → TraceAlike ps l m → (bs' : List ℕ) → ((b : ℕ) → In b bs → (c : ℕ) × Tied b c ps × In c bs') → MentionsToo n bs' m cs
+  pub mentions-renamed : (n : ℕ) {bs cs : List ℕ} {l : Trace} → Mentions n bs l cs → {m : Trace} → TraceAlike ps l m →
+      (bs' : List ℕ) → ((b : ℕ) → In b bs → (c : ℕ) × Tied b c ps × In c bs') → MentionsToo n bs' m cs
   mentions-renamed n Mentions.end TraceAlike.nothing bs' h = record { after = bs'; mentions = Mentions.end; listed = h }
   mentions-renamed n (Mentions.step k) (TraceAlike.stepped t) bs' h = let q = mentions-renamed n k t bs' h in record { after = q.after; mentions = Mentions.step q.mentions; listed = q.listed }
   mentions-renamed n {bs} (Mentions.alloc {b = b} ka k) (TraceAlike.allocated (IdAlike.core {c = c} i) kk t) bs' h =
@@ -261,10 +267,12 @@ above (WasRead p v u y args inside rest) =
         go zero z = omega (arith, k (omega (arith, e, z, times-append b (blocks_of i) (blocks_of l))))
         go (suc n) z = omega (arith, h (omega (arith, z)))
 
-module _ (code : Code) (inputs : List Block) (f : ℕ) (args : List Word) (fits : Fits code inputs f args) (ps : Pairs) (one : OneToOne ps) (l m : Trace) (alike : TraceAlike ps l m) (r : Replays code inputs f args l) where
+module _ (code : Code) (inputs : List Block) (f : ℕ) (args : List Word) (fits : Fits code inputs f args) (ps : Pairs)
+    (one : OneToOne ps) (l m : Trace) (alike : TraceAlike ps l m) (r : Replays code inputs f args l) where
   walk : WalkedToo (length inputs) ps one code [] (input_plain code inputs) (input_plain code inputs) l m r.known (λ b. b < (above l).0) (λ c. c < (above m).0)
   walk =
-      walk-too (length inputs) ps one code (λ b. b < (above l).0) (λ c. c < (above m).0) r.mentions alike [] (λ b c i. elim i [ ]) (λ b i. elim i [ ]) (input_plain code inputs) (input_plain code inputs) plain
+      walk-too (length inputs) ps one code (λ b. b < (above l).0) (λ c. c < (above m).0) r.mentions alike []
+      (λ b c i. elim i [ ]) (λ b i. elim i [ ]) (input_plain code inputs) (input_plain code inputs) plain
       (λ b c i. elim i [ ]) (λ b c i. elim i [ ]) (above l).1 (above m).1
     where
       plain : PlainAlike code.structs [] (input_plain code inputs) (input_plain code inputs)
@@ -288,7 +296,9 @@ module _ (code : Code) (inputs : List Block) (f : ℕ) (args : List Word) (fits 
   told-too =
       told-renamed walk.pairs narrow code (plain_after code (input_plain code inputs) l) (plain_after code (input_plain code inputs) m) walk.plain
       (yields-told code (plain_after code (input_plain code inputs) l) r.yields)
-      (next-alike walk.pairs narrow code (plain_after code (input_plain code inputs) l) (plain_after code (input_plain code inputs) m) walk.plain (started-alike code (length inputs) walk.pairs f args (args-known code inputs f args fits)))
+      (next-alike walk.pairs narrow code (plain_after code (input_plain code inputs) l)
+      (plain_after code (input_plain code inputs) m) walk.plain
+      (started-alike code (length inputs) walk.pairs f args (args-known code inputs f args fits)))
       walk.trace (learnt-too.made' (plain_after code (input_plain code inputs) m) (λ b block e. e))
 
   pub renamed-replays : Replays code inputs f args m

@@ -84,7 +84,8 @@ module _ (n : ℕ) (ps : Pairs) (one : OneToOne ps) where
     pub right : (b c : ℕ) → Tied b c pairs → g c
 
   -- f and g lie above the blocks of the two
-  pub walk-too : (code : Code) (f g : ℕ → Type 0) {bs cs : List ℕ} {l : Trace} → Mentions n bs l cs → {m : Trace} → TraceAlike ps l m → (qs : Pairs) → Within qs ps → ((b : ℕ) → In b bs → (c : ℕ) × Tied b c qs)
+  pub walk-too : (code : Code) (f g : ℕ → Type 0) {bs cs : List ℕ} {l : Trace} → Mentions n bs l cs → {m : Trace}
+      → TraceAlike ps l m → (qs : Pairs) → Within qs ps → ((b : ℕ) → In b bs → (c : ℕ) × Tied b c qs)
       → (x y : Plain) → PlainAlike code.structs qs x y → ((b c : ℕ) → Tied b c qs → f b) → ((b c : ℕ) → Tied b c qs → g c)
       → ((b : ℕ) → 1 ≤ uses b l → f b) → ((c : ℕ) → 1 ≤ uses c m → g c) → WalkedToo code qs x y l m cs f g
   walk-too code f g Mentions.end TraceAlike.nothing qs sub cov x y h kl kr il ir =
@@ -93,7 +94,8 @@ module _ (n : ℕ) (ps : Pairs) (one : OneToOne ps) where
       let q = walk-too code f g k t qs sub cov x y h kl kr il ir in
       record { pairs = q.pairs; wider = q.wider; within = q.within; covers = q.covers; plain = q.plain; trace = TraceAlike.stepped q.trace; left = q.left; right = q.right }
   walk-too code f g {bs} (Mentions.alloc {b = b} {key = key} ka k) (TraceAlike.allocated {k' = key'} (IdAlike.core {c = c} i) kk t) qs sub cov x y h kl kr il ir =
-      go (walk-too code f g k t (record { left = b; right = c } ∷ qs) (tied-with b c qs ps sub i) (covers-with bs qs b c cov) (learnt x (Core b) (made code x key)) (learnt y (Core c) (made code y key'))
+      go (walk-too code f g k t (record { left = b; right = c } ∷ qs) (tied-with b c qs ps sub i)
+      (covers-with bs qs b c cov) (learnt x (Core b) (made code x key)) (learnt y (Core c) (made code y key'))
       (both-learn code.structs qs x y b c (made code x key) (made code y key') sub i h (made-alike qs (one-within qs ps sub one) code x y h (key-narrow bs qs sub cov kk ka)))
       kl' kr' (λ a e. il a (omega (arith, e))) (λ a e. ir a (omega (arith, e))))
     where
@@ -135,9 +137,15 @@ module _ (n : ℕ) (ps : Pairs) (one : OneToOne ps) where
         left = q.left;
         right = q.right;
       }
-  walk-too code f g {bs} {cs} (Mentions.read {ds = ds} mp mv ma k1 k2) (TraceAlike.was_read {p = p} {q = q} {v = v} {w = w} {u = u} {x = z} {vs = vs} {ws = ws} {i = i} {j = j} {l = l} {m = m} kp kv ka ti t) qs sub cov x y h kl kr il ir =
-      onward (walk-too code f g k1 ti qs sub cov x y h kl kr (λ b e. il b (omega (arith, e, times-append b (blocks_of i) (blocks_of l)))) (λ c e. ir c (omega (arith, e, times-append c (blocks_of j) (blocks_of m)))))
-      (λ rs x' y' w1 w2 w3 w4 w5. walk-too code f g k2 t rs w1 w2 x' y' w3 w4 w5 (λ b e. il b (omega (arith, e, times-append b (blocks_of i) (blocks_of l)))) (λ c e. ir c (omega (arith, e, times-append c (blocks_of j) (blocks_of m)))))
+  walk-too code f g {bs} {cs} (Mentions.read {ds = ds} mp mv ma k1 k2)
+      (TraceAlike.was_read {p = p} {q = q} {v = v} {w = w} {u = u} {x = z} {vs = vs} {ws = ws} {i = i} {j = j} {l =
+      l} {m = m} kp kv ka ti t) qs sub cov x y h kl kr il ir =
+      onward (walk-too code f g k1 ti qs sub cov x y h kl kr
+      (λ b e. il b (omega (arith, e, times-append b (blocks_of i) (blocks_of l))))
+      (λ c e. ir c (omega (arith, e, times-append c (blocks_of j) (blocks_of m)))))
+      (λ rs x' y' w1 w2 w3 w4 w5. walk-too code f g k2 t rs w1 w2 x' y' w3 w4 w5
+      (λ b e. il b (omega (arith, e, times-append b (blocks_of i) (blocks_of l))))
+      (λ c e. ir c (omega (arith, e, times-append c (blocks_of j) (blocks_of m)))))
     where
       both' : (q1 : WalkedToo code qs x y i j ds f g) → WalkedToo code q1.pairs (plain_after code x i) (plain_after code y j) l m cs f g
           → WalkedToo code qs x y (WasRead p v u z vs i l) (WasRead q w u z ws j m) cs f g
@@ -156,6 +164,8 @@ module _ (n : ℕ) (ps : Pairs) (one : OneToOne ps) where
           }
 
       onward : (q1 : WalkedToo code qs x y i j ds f g)
-          → ((rs : Pairs) (x' y' : Plain) → Within rs ps → ((b : ℕ) → In b ds → (c : ℕ) × Tied b c rs) → PlainAlike code.structs rs x' y' → ((b c : ℕ) → Tied b c rs → f b) → ((b c : ℕ) → Tied b c rs → g c) → WalkedToo code rs x' y' l m cs f g)
+          → ((rs : Pairs) (x' y' : Plain) → Within rs ps → ((b : ℕ) → In b ds → (c : ℕ) × Tied b c rs)
+          → PlainAlike code.structs rs x' y' → ((b c : ℕ) → Tied b c rs → f b) → ((b c : ℕ) → Tied b c rs → g c)
+          → WalkedToo code rs x' y' l m cs f g)
           → WalkedToo code qs x y (WasRead p v u z vs i l) (WasRead q w u z ws j m) cs f g
       onward q1 fn = both' q1 (fn q1.pairs (plain_after code x i) (plain_after code y j) q1.within q1.covers q1.plain q1.left q1.right)

@@ -91,19 +91,26 @@ module _ (ps : Pairs) (one : OneToOne ps) where
   read-if-alike true v i h k = TookRead.some v i h
   read-if-alike false v i h k = k
 
-  pub take-read-alike : {p q : Place} → PlaceAlike ps p q → (u : UnitId) (y : ℕ) {vs ws : List Word} → WordsAlike ps vs ws → {f g : Trace} → TraceAlike ps f g → TookRead ps (take_read p u y vs f) (take_read q u y ws g)
+  pub take-read-alike : {p q : Place} → PlaceAlike ps p q → (u : UnitId) (y : ℕ) {vs ws : List Word}
+      → WordsAlike ps vs ws → {f g : Trace} → TraceAlike ps f g → TookRead ps (take_read p u y vs f)
+      (take_read q u y ws g)
   unfolding take_read
   take-read-alike kp u y kw TraceAlike.nothing = TookRead.none
   take-read-alike kp u y kw (TraceAlike.stepped h) = take-read-alike kp u y kw h
   take-read-alike kp u y kw (TraceAlike.allocated t i h) = take-read-alike kp u y kw h
   take-read-alike kp u y kw (TraceAlike.wrote p v h) = take-read-alike kp u y kw h
-  take-read-alike {p = p} {q = q} kp u y {vs = vs} {ws = ws} kw (TraceAlike.was_read {p = p1} {q = q1} {v = v1} {w = w1} {u = u1} {x = y1} {vs = vs1} {ws = ws1} {i = i1} {j = j1} {l = l1} {m = m1} kp1 kv1 kvs1 ki h) =
-      subst (λ e. TookRead ps (if same_place p1 p && u1.0 == u.0 && y1 == y && same_words vs1 vs then Some (record { value = v1; inside = i1; leftover = l1 }) else read_then l1 (take_read p u y vs i1) (take_read p u y vs l1))
+  take-read-alike {p = p} {q = q} kp u y {vs = vs} {ws = ws} kw
+      (TraceAlike.was_read {p = p1} {q = q1} {v = v1} {w = w1} {u = u1} {x = y1} {vs = vs1} {ws = ws1} {i = i1} {j =
+      j1} {l = l1} {m = m1} kp1 kv1 kvs1 ki h) =
+      subst (λ e. TookRead ps (if same_place p1 p && u1.0 == u.0 && y1 == y && same_words vs1 vs then Some
+      (record { value = v1; inside = i1; leftover = l1 }) else read_then l1 (take_read p u y vs i1)
+      (take_read p u y vs l1))
       (if e then Some (record { value = w1; inside = j1; leftover = m1 }) else read_then m1 (take_read q u y ws j1) (take_read q u y ws m1)))
       (ap₂ (λ a b. a && u1.0 == u.0 && y1 == y && b) (place-both ps one p1 p q1 q kp1 kp) (words-both kvs1 kw))
       (read-if-alike (same_place p1 p && u1.0 == u.0 && y1 == y && same_words vs1 vs) kv1 ki h (read-then-alike h (take-read-alike kp u y kw ki) (take-read-alike kp u y kw h)))
 
-pub given-too : (code : Code) (ps : Pairs) (u : UnitId) (y : ℕ) (args args' : List Word) (v w : Word) → WordsAlike ps args args' → WordAlike ps v w → StackAlike ps (resumed code u y args v) (resumed code u y args' w)
+pub given-too : (code : Code) (ps : Pairs) (u : UnitId) (y : ℕ) (args args' : List Word) (v w : Word)
+    → WordsAlike ps args args' → WordAlike ps v w → StackAlike ps (resumed code u y args v) (resumed code u y args' w)
 given-too code ps u y args args' v w ka kw = given-alike ps code u.0 y ka kw StackAlike.empty
 
 -- what is equal on the one side is equal on the other
@@ -158,7 +165,18 @@ module _ (code : Code) (sides : Sides) where
   }
 
   pub twin-puts : (ps : Pairs) (s t : State) (p q : Place) (v w : Word) → PlaceAlike ps p q → WordAlike ps v w → Twin ps s t → Twin ps (puts s p v) (puts t q w)
-  twin-puts ps s t p q v w kp kv k = record { one = k.one; plain = k.plain; store = stored-alike ps k.one s.store t.store p q v w k.store kp kv; left = k.left; right = k.right; work = k.work; since = k.since; numbers = k.numbers; pairs = k.pairs }
+  twin-puts ps s t p q v w kp kv k = record {
+    one = k.one;
+    plain = k.plain;
+    store =
+        stored-alike ps k.one s.store t.store p q v w k.store kp kv;
+    left = k.left;
+    right = k.right;
+    work = k.work;
+    since = k.since;
+    numbers = k.numbers;
+    pairs = k.pairs;
+  }
 
   pair-one : (ps : Pairs) (f g : ℕ) → OneToOne ps → ((b c : ℕ) → Tied b c ps → ¬ (b ≡ f)) → ((b c : ℕ) → Tied b c ps → ¬ (c ≡ g)) → OneToOne (record { left = f; right = g } ∷ ps)
   pair-one ps f g one h k = record {
@@ -193,14 +211,17 @@ module _ (code : Code) (sides : Sides) where
   unfolding learnt
   learnt-input x f new i = refl
 
-  grown-alike : (ps : Pairs) (x y : Plain) (f g : ℕ) (v w : Block) → PlainAlike code.structs ps x y → ((b c : ℕ) → Tied b c ps → ¬ (b ≡ f)) → ((b c : ℕ) → Tied b c ps → ¬ (c ≡ g)) → BlockAlike code.structs ps v w
+  grown-alike : (ps : Pairs) (x y : Plain) (f g : ℕ) (v w : Block) → PlainAlike code.structs ps x y →
+      ((b c : ℕ) → Tied b c ps → ¬ (b ≡ f)) → ((b c : ℕ) → Tied b c ps → ¬ (c ≡ g)) → BlockAlike code.structs ps v w
       → PlainAlike code.structs (record { left = f; right = g } ∷ ps) (learnt x (Core f) v) (learnt y (Core g) w)
   grown-alike ps x y f g v w h l r k b c (IdAlike.input {i = i}) =
       rw (learnt-input x f v i, learnt-input y g w i) (maybe-wider ps (record { left = f; right = g } ∷ ps) (more-pair (record { left = f; right = g }) ps) (h (Input i) (Input i) IdAlike.input))
   grown-alike ps x y f g v w h l r k b c (IdAlike.core Tied.here) =
       rw (learnt-here x (Core f) v, learnt-here y (Core g) w) (MaybeAlike.some (block-wider ps (record { left = f; right = g } ∷ ps) (more-pair (record { left = f; right = g }) ps) k))
   grown-alike ps x y f g v w h l r k b c (IdAlike.core {b = d} {c = e} (Tied.there t)) =
-      rw (learnt-away x f v d (l d e t), learnt-away y g w e (r d e t)) (maybe-wider ps (record { left = f; right = g } ∷ ps) (more-pair (record { left = f; right = g }) ps) (h (Core d) (Core e) (IdAlike.core t)))
+      rw (learnt-away x f v d (l d e t), learnt-away y g w e (r d e t))
+      (maybe-wider ps (record { left = f; right = g } ∷ ps) (more-pair (record { left = f; right = g }) ps)
+      (h (Core d) (Core e) (IdAlike.core t)))
 
   -- a pair's side is none of the names to come
   bound-left : (names : ℕ → ℕ) → Single names → (n : ℕ) (P : ℕ → Type 0) → ((b : ℕ) → P b → (k : ℕ) → n ≤ k → ¬ (b ≡ names k))
@@ -226,7 +247,9 @@ module _ (code : Code) (sides : Sides) where
   grown-pair ps s t k b c (inl e) = ComesFrom.grown k.since (sym e.0 ∙ ap sides.left k.numbers.0) (sym e.1 ∙ ap sides.right k.numbers.1)
   grown-pair ps s t k b c (inr i) = k.pairs b c i
 
-  twin-grows : (ps : Pairs) (s t : State) (key key' : Key) → KeyAlike ps key key' → Twin ps s t → Twin (record { left = sides.left s.number; right = sides.right t.number } ∷ ps) (grows code sides.left s key) (grows code sides.right t key')
+  twin-grows : (ps : Pairs) (s t : State) (key key' : Key) → KeyAlike ps key key' → Twin ps s t → Twin
+      (record { left = sides.left s.number; right = sides.right t.number } ∷ ps) (grows code sides.left s key)
+      (grows code sides.right t key')
   twin-grows ps s t key key' kk k =
       let f = sides.left s.number in let g = sides.right t.number in
       let l : (b c : ℕ) → Tied b c ps → ¬ (b ≡ f) = λ b c i. k.left b c i s.number (omega arith) in
@@ -302,7 +325,8 @@ module _ (code : Code) (sides : Sides) where
   next-too : (ps : Pairs) (s t : State) → Twin code sides ps s t → (st st' : Stack) → StackAlike ps st st' → (a : Act) → next code s.plain st ≡ a → ActAlike ps a (next code t.plain st')
   next-too ps s t k st st' h a e = subst (λ a. ActAlike ps a (next code t.plain st')) e (next-alike ps k.one code s.plain t.plain k.plain h)
 
-  ran-alike : (ps : Pairs) (key key' : Key) (b c : BlockId) (v u i : ℕ) (env env' : Variables) (below below' : Stack) → IdAlike ps b c → KeyAlike ps key key' → VariablesAlike ps env env' → StackAlike ps below below'
+  ran-alike : (ps : Pairs) (key key' : Key) (b c : BlockId) (v u i : ℕ) (env env' : Variables) (below below' : Stack)
+      → IdAlike ps b c → KeyAlike ps key key' → VariablesAlike ps env env' → StackAlike ps below below'
       → StackAlike ps (Run u i (set env v (pointer key b)) below) (Run u i (set env' v (pointer key' c)) below')
   ran-alike ps key key' b c v u i env env' below below' t kk kv ks = StackAlike.run (set-alike ps kv v (pointer-alike ps kk t)) ks
 
@@ -320,7 +344,9 @@ module _ (code : Code) (sides : Sides) where
         fix = Fix.read mend.mend x.fix;
         pairs = x.pairs;
         wider = within-trans ps mend.pairs x.pairs mend.wider x.wider;
-        alike = TraceAlike.was_read (place-wider ps x.pairs (within-trans ps mend.pairs x.pairs mend.wider x.wider) kp) (word-wider ps x.pairs (within-trans ps mend.pairs x.pairs mend.wider x.wider) kv)
+        alike = TraceAlike.was_read (place-wider ps x.pairs
+            (within-trans ps mend.pairs x.pairs mend.wider x.wider) kp)
+            (word-wider ps x.pairs (within-trans ps mend.pairs x.pairs mend.wider x.wider) kv)
             (words-wider ps x.pairs (within-trans ps mend.pairs x.pairs mend.wider x.wider) ka) (trace-wider mend.pairs x.pairs x.wider mend.alike) x.alike;
         twin = x.twin;
       }
@@ -341,7 +367,9 @@ module _ (code : Code) (sides : Sides) where
         anew = Anew.takes_read e w mend.mend x.anew;
         pairs = x.pairs;
         wider = within-trans ps mend.pairs x.pairs mend.wider x.wider;
-        alike = TraceAlike.stepped (TraceAlike.was_read (place-wider ps x.pairs (within-trans ps mend.pairs x.pairs mend.wider x.wider) kp) (word-wider ps x.pairs (within-trans ps mend.pairs x.pairs mend.wider x.wider) kv)
+        alike = TraceAlike.stepped (TraceAlike.was_read
+            (place-wider ps x.pairs (within-trans ps mend.pairs x.pairs mend.wider x.wider) kp)
+            (word-wider ps x.pairs (within-trans ps mend.pairs x.pairs mend.wider x.wider) kv)
             (words-wider ps x.pairs (within-trans ps mend.pairs x.pairs mend.wider x.wider) ka) (trace-wider mend.pairs x.pairs x.wider mend.alike) x.alike);
         over-alike = x.over-alike;
         twin = x.twin;
@@ -363,7 +391,9 @@ module _ (code : Code) (sides : Sides) where
         anew = Anew.reads e w r.anew x.anew;
         pairs = x.pairs;
         wider = within-trans ps r.pairs x.pairs r.wider x.wider;
-        alike = TraceAlike.stepped (TraceAlike.was_read (place-wider ps x.pairs (within-trans ps r.pairs x.pairs r.wider x.wider) kp) (word-wider ps x.pairs (within-trans ps r.pairs x.pairs r.wider x.wider) kv)
+        alike = TraceAlike.stepped (TraceAlike.was_read
+            (place-wider ps x.pairs (within-trans ps r.pairs x.pairs r.wider x.wider) kp)
+            (word-wider ps x.pairs (within-trans ps r.pairs x.pairs r.wider x.wider) kv)
             (words-wider ps x.pairs (within-trans ps r.pairs x.pairs r.wider x.wider) ka) (trace-wider r.pairs x.pairs x.wider r.alike) x.alike);
         over-alike = x.over-alike;
         twin = x.twin;
@@ -372,7 +402,8 @@ module _ (code : Code) (sides : Sides) where
   stepped-too : (ps : Pairs) (s' : State) (new : Trace) (t : State) (old' : Trace) → FixedToo code sides ps s' new t old' → FixedToo code sides ps s' (Stepped new) t (Stepped old')
   stepped-too ps s' new t old' x = record { state = x.state; items = Stepped x.items; fix = Fix.step x.fix; pairs = x.pairs; wider = x.wider; alike = TraceAlike.stepped x.alike; twin = x.twin }
 
-  allocated-too : (ps : Pairs) (s' : State) (new : Trace) (t : State) (old' : Trace) (b c : BlockId) (key key' : Key) → IdAlike ps b c → KeyAlike ps key key' → FixedToo code sides ps s' new (clears code t c key') old'
+  allocated-too : (ps : Pairs) (s' : State) (new : Trace) (t : State) (old' : Trace) (b c : BlockId) (key key' : Key)
+      → IdAlike ps b c → KeyAlike ps key key' → FixedToo code sides ps s' new (clears code t c key') old'
       → FixedToo code sides ps s' (Allocated b key new) t (Allocated c key' old')
   allocated-too ps s' new t old' b c key key' i k x = record {
     state = x.state;
@@ -410,7 +441,8 @@ module _ (code : Code) (sides : Sides) where
     twin = x.twin;
   }
 
-  writing-too : (ps : Pairs) (s' t : State) (st' : Stack) (new left old' : Trace) (p q : Place) (v w : Word) (after' : Stack) → next code t.plain st' ≡ Writes q w after' → PlaceAlike ps p q → WordAlike ps v w
+  writing-too : (ps : Pairs) (s' t : State) (st' : Stack) (new left old' : Trace) (p q : Place) (v w : Word)
+      (after' : Stack) → next code t.plain st' ≡ Writes q w after' → PlaceAlike ps p q → WordAlike ps v w
       → RanToo code sides ps s' new left (puts (works t) q w) after' old' → RanToo code sides ps s' (Stepped (Wrote p v new)) left t st' old'
   writing-too ps s' t st' new left old' p q v w after' e kp kv x = record {
     state = x.state;
@@ -426,7 +458,9 @@ module _ (code : Code) (sides : Sides) where
 
   taking-too : (ps : Pairs) (s' t : State) (st' below' : Stack) (new left old' : Trace) (b : BlockId) (key key' : Key) (v u i : ℕ) (env' : Variables) (x' : TakenAlloc)
       → next code t.plain st' ≡ Makes key' v u i env' below' → take_alloc key' old' ≡ Some x' → IdAlike ps b x'.block → KeyAlike ps key key'
-      → RanToo code sides ps s' new left (clears code (works t) x'.block key') (Run u i (set env' v (pointer key' x'.block)) below') x'.leftover → RanToo code sides ps s' (Stepped (Allocated b key new)) left t st' old'
+      → RanToo code sides ps s' new left (clears code (works t) x'.block key')
+      (Run u i (set env' v (pointer key' x'.block)) below') x'.leftover → RanToo code sides ps s'
+      (Stepped (Allocated b key new)) left t st' old'
   taking-too ps s' t st' below' new left old' b key key' v u i env' x' e w j k x = record {
     state = x.state;
     items = Stepped (Allocated x'.block key' x.items);
@@ -441,7 +475,10 @@ module _ (code : Code) (sides : Sides) where
 
   making-too : (ps : Pairs) (s' t : State) (st' below' : Stack) (new left old' : Trace) (b : ℕ) (key key' : Key) (v u i : ℕ) (env' : Variables)
       → next code t.plain st' ≡ Makes key' v u i env' below' → take_alloc key' old' ≡ None → KeyAlike ps key key'
-      → RanToo code sides (record { left = b; right = (sides.right t.number) } ∷ ps) s' new left (grows code sides.right (works t) key') (Run u i (set env' v (pointer key' (Core (sides.right t.number)))) below') old' → RanToo code sides ps s' (Stepped (Allocated (Core b) key new)) left t st' old'
+      → RanToo code sides (record { left = b; right = (sides.right t.number) } ∷ ps) s' new left
+      (grows code sides.right (works t) key') (Run u i
+      (set env' v (pointer key' (Core (sides.right t.number)))) below') old' → RanToo code sides ps s'
+      (Stepped (Allocated (Core b) key new)) left t st' old'
   making-too ps s' t st' below' new left old' b key key' v u i env' e w k x =
       let more = within-trans ps (record { left = b; right = (sides.right t.number) } ∷ ps) x.pairs (more-pair (record { left = b; right = (sides.right t.number) }) ps) x.wider in
       record {
@@ -457,32 +494,58 @@ module _ (code : Code) (sides : Sides) where
       }
 
   mutual
-    pub fix-too : {s s' : State} {old new : Trace} → Fix code sides.left s old s' new → (ps : Pairs) (t : State) {old' : Trace} → TraceAlike ps old old' → Twin code sides ps s t → FixedToo code sides ps s' new t old'
+    pub fix-too : {s s' : State} {old new : Trace} → Fix code sides.left s old s' new → (ps : Pairs)
+        (t : State) {old' : Trace} → TraceAlike ps old old' → Twin code sides ps s t
+        → FixedToo code sides ps s' new t old'
     fix-too Fix.end ps t TraceAlike.nothing k = record { state = t; items = Nothing; fix = Fix.end; pairs = ps; wider = λ b c i. i; alike = TraceAlike.nothing; twin = k }
     fix-too {s} {s'} (Fix.step {rest' = new} f) ps t (TraceAlike.stepped {m = m} h) k = stepped-too ps s' new t m (fix-too f ps t h k)
     fix-too {s} {s'} (Fix.alloc {b = b} {key = key} {rest' = new} f) ps t (TraceAlike.allocated {c = c} {k' = key'} {m = m} i kk h) k =
         allocated-too ps s' new t m b c key key' i kk (fix-too f ps (clears code t c key') h (twin-clears code sides ps s t b c key key' i kk k))
     fix-too {s} {s'} (Fix.write {p = p} {value = v} {rest' = new} f) ps t (TraceAlike.wrote {q = q} {w = w} {m = m} kp kv h) k =
         wrote-too ps s' new t m p q v w kp kv (fix-too f ps (puts t q w) h (twin-puts code sides ps s t p q v w kp kv k))
-    fix-too {s} {s'} (Fix.read {t = s1} {p = p} {value = v} {u = u} {v = y} {args = args} {inside' = i'} {rest' = l'} m f) ps t (TraceAlike.was_read {q = q} {w = w} {ws = args'} {j = j} {m = rest} kp kv ka ki h) k =
+    fix-too {s} {s'} (Fix.read {t = s1} {p = p} {value = v} {u = u} {v = y} {args = args} {inside' = i'} {rest' =
+        l'} m f) ps t (TraceAlike.was_read {q = q} {w = w} {ws = args'} {j = j} {m = rest} kp kv ka ki h) k =
         fix-read-too ps s' t p q (s.store p) w u y args args' i' l' j rest s1 kp (k.store p q kp) ka (mend-too m ps t kp ka kv ki k)
         (λ qs t1 wide k1. fix-too f qs t1 (trace-wider ps qs wide h) k1)
 
     pub mend-too : {s s' : State} {p : Place} {u : UnitId} {y : ℕ} {args : List Word} {v : Word} {old new : Trace} → Mend code sides.left s p u y args v old s' new
-        → (ps : Pairs) (t : State) {q : Place} → PlaceAlike ps p q → {args' : List Word} → WordsAlike ps args args' → {w : Word} → WordAlike ps v w → {old' : Trace} → TraceAlike ps old old' → Twin code sides ps s t
+        → (ps : Pairs) (t : State) {q : Place} → PlaceAlike ps p q → {args' : List Word} → WordsAlike ps args args'
+        → {w : Word} → WordAlike ps v w → {old' : Trace} → TraceAlike ps old old' → Twin code sides ps s t
         → MendedToo code sides ps s' new t q u y args' w old'
     mend-too {s} {s'} {p} {u} {y} {args} {v} (Mend.kept e f) ps t {q} kp ka {w} kv h k =
         kept (fix-too f ps t h k)
       where
         kept : {new old' : Trace} {args' : List Word} → FixedToo code sides ps s' new t old' → MendedToo code sides ps s' new t q u y args' w old'
-        kept x = record { state = x.state; items = x.items; mend = Mend.kept (equal-too ps k.one (s.store p) v (t.store q) w (k.store p q kp) kv e) x.fix; pairs = x.pairs; wider = x.wider; alike = x.alike; twin = x.twin }
+        kept x = record {
+          state = x.state;
+          items = x.items;
+          mend = Mend.kept
+              (equal-too ps k.one (s.store p) v (t.store q) w (k.store p q kp) kv e) x.fix;
+          pairs = x.pairs;
+          wider =
+              x.wider;
+          alike = x.alike;
+          twin = x.twin;
+        }
     mend-too {s} {s'} {p} {u} {y} {args} {v} (Mend.stale {left = left} e a) ps t {q} kp {args'} ka {w} kv h k =
         stale (anew-too a ps t (given-too code ps u y args args' (s.store p) (t.store q) ka (k.store p q kp)) h k)
       where
         stale : {new old' : Trace} → RanToo code sides ps s' new left t (resumed code u y args' (t.store q)) old' → MendedToo code sides ps s' new t q u y args' w old'
-        stale x = record { state = x.state; items = x.items; mend = Mend.stale (apart-too ps k.one (s.store p) v (t.store q) w (k.store p q kp) kv e) x.anew; pairs = x.pairs; wider = x.wider; alike = x.alike; twin = x.twin }
+        stale x = record {
+          state = x.state;
+          items = x.items;
+          mend = Mend.stale
+              (apart-too ps k.one (s.store p) v (t.store q) w (k.store p q kp) kv e) x.anew;
+          pairs = x.pairs;
+          wider =
+              x.wider;
+          alike = x.alike;
+          twin = x.twin;
+        }
 
-    pub anew-too : {s s' : State} {st : Stack} {old new left : Trace} → Anew code sides.left s st old s' new left → (ps : Pairs) (t : State) {st' : Stack} → StackAlike ps st st' → {old' : Trace} → TraceAlike ps old old' → Twin code sides ps s t
+    pub anew-too : {s s' : State} {st : Stack} {old new left : Trace} → Anew code sides.left s st old s' new left →
+        (ps : Pairs) (t : State) {st' : Stack} → StackAlike ps st st' → {old' : Trace} → TraceAlike ps old old'
+        → Twin code sides ps s t
         → RanToo code sides ps s' new left t st' old'
     anew-too {s} {s'} {st} (Anew.over e) ps t {st'} ks {old'} h k = record {
       state = t;
@@ -498,23 +561,32 @@ module _ (code : Code) (sides : Sides) where
     anew-too {s} {s'} {st} (Anew.quiet {after = after} {new = new} {left = left} e a) ps t {st'} ks {old'} h k =
         go (quiet-too ps after (next code t.plain st') (next-too ps s t k st st' ks (Quiet after) e)) (λ after' alike. anew-too a ps (works t) alike h (twin-works code sides ps s t k))
       where
-        go : QuietToo ps after (next code t.plain st') → ((after' : Stack) → StackAlike ps after after' → RanToo code sides ps s' new left (works t) after' old') → RanToo code sides ps s' (Stepped new) left t st' old'
+        go : QuietToo ps after (next code t.plain st') →
+            ((after' : Stack) → StackAlike ps after after' → RanToo code sides ps s' new left (works t) after' old')
+            → RanToo code sides ps s' (Stepped new) left t st' old'
         go q f = quietly-too ps s' t st' new left old' q.after' q.is (f q.after' q.alike)
     anew-too {s} {s'} {st} {old} (Anew.takes_alloc {below = below} {key = key} {v = v} {u = u} {i = i} {env = env} {new = new} {left = left} {t = x} e w a) ps t {st'} ks {old'} h k =
         go (makes-too ps key v u i env below (next code t.plain st') (next-too ps s t k st st' ks (Makes key v u i env below) e))
-        (λ key' env' below' b kk kv kb j l' l. anew-too a ps (clears code (works t) b key') (ran-alike ps key key' x.block b v u i env env' below below' j kk kv kb) l (twin-clears code sides ps (works s) (works t) x.block b key key' j kk (twin-works code sides ps s t k)))
+        (λ key' env' below' b kk kv kb j l' l. anew-too a ps (clears code (works t) b key')
+        (ran-alike ps key key' x.block b v u i env env' below below' j kk kv kb) l
+        (twin-clears code sides ps (works s) (works t) x.block b key key' j kk (twin-works code sides ps s t k)))
       where
         go : MakesToo ps key v u i env below (next code t.plain st')
-            → ((key' : Key) (env' : Variables) (below' : Stack) (b : BlockId) → KeyAlike ps key key' → VariablesAlike ps env env' → StackAlike ps below below' → IdAlike ps x.block b → (l' : Trace) → TraceAlike ps x.leftover l'
+            → ((key' : Key) (env' : Variables) (below' : Stack) (b : BlockId) → KeyAlike ps key key'
+            → VariablesAlike ps env env' → StackAlike ps below below' → IdAlike ps x.block b → (l' : Trace)
+            → TraceAlike ps x.leftover l'
             → RanToo code sides ps s' new left (clears code (works t) b key') (Run u i (set env' v (pointer key' b)) below') l')
             → RanToo code sides ps s' (Stepped (Allocated x.block key new)) left t st' old'
         go q f =
             let y : AllocToo ps x (take_alloc q.key' old') = alloc-too ps x (take_alloc q.key' old') (subst (λ o. TookAlloc ps o (take_alloc q.key' old')) w (take-alloc-alike ps k.one q.keys h)) in
-            taking-too ps s' t st' q.below' new left old' x.block key q.key' v u i q.env' y.x' q.is y.is y.blocks q.keys (f q.key' q.env' q.below' y.x'.block q.keys q.envs q.alike y.blocks y.x'.leftover y.left)
+            taking-too ps s' t st' q.below' new left old' x.block key q.key' v u i q.env' y.x' q.is y.is y.blocks q.keys
+            (f q.key' q.env' q.below' y.x'.block q.keys q.envs q.alike y.blocks y.x'.leftover y.left)
     anew-too {s} {s'} {st} {old} (Anew.makes {below = below} {key = key} {v = v} {u = u} {i = i} {env = env} {new = new} {left = left} e w a) ps t {st'} ks {old'} h k =
         go (makes-too ps key v u i env below (next code t.plain st') (next-too ps s t k st st' ks (Makes key v u i env below) e))
         (λ key' env' below' kk kv kb. anew-too a (record { left = sides.left s.number; right = sides.right t.number } ∷ ps) (grows code sides.right (works t) key')
-        (ran-alike (record { left = sides.left s.number; right = sides.right t.number } ∷ ps) key key' (Core (sides.left s.number)) (Core (sides.right t.number)) v u i env env' below below' (IdAlike.core Tied.here)
+        (ran-alike (record { left = sides.left s.number; right = sides.right t.number } ∷ ps) key key'
+        (Core (sides.left s.number)) (Core (sides.right t.number)) v u i env env' below below'
+        (IdAlike.core Tied.here)
         (key-wider ps (record { left = sides.left s.number; right = sides.right t.number } ∷ ps) (more-pair (record { left = sides.left s.number; right = sides.right t.number }) ps) kk)
         (variables-wider ps (record { left = sides.left s.number; right = sides.right t.number } ∷ ps) (more-pair (record { left = sides.left s.number; right = sides.right t.number }) ps) kv)
         (stack-wider ps (record { left = sides.left s.number; right = sides.right t.number } ∷ ps) (more-pair (record { left = sides.left s.number; right = sides.right t.number }) ps) kb))
@@ -523,7 +595,9 @@ module _ (code : Code) (sides : Sides) where
       where
         go : MakesToo ps key v u i env below (next code t.plain st')
             → ((key' : Key) (env' : Variables) (below' : Stack) → KeyAlike ps key key' → VariablesAlike ps env env' → StackAlike ps below below'
-            → RanToo code sides (record { left = sides.left s.number; right = sides.right t.number } ∷ ps) s' new left (grows code sides.right (works t) key') (Run u i (set env' v (pointer key' (Core (sides.right t.number)))) below') old')
+            → RanToo code sides (record { left = sides.left s.number; right = sides.right t.number } ∷ ps) s' new left
+            (grows code sides.right (works t) key') (Run u i
+            (set env' v (pointer key' (Core (sides.right t.number)))) below') old')
             → RanToo code sides ps s' (Stepped (Allocated (Core (sides.left s.number)) key new)) left t st' old'
         go q f =
             let y = no-alloc-too ps (take_alloc q.key' old') (subst (λ o. TookAlloc ps o (take_alloc q.key' old')) w (take-alloc-alike ps k.one q.keys h)) in
@@ -542,8 +616,12 @@ module _ (code : Code) (sides : Sides) where
         (λ qs t1 below' kb l' kl k1. anew-too a qs t1 kb kl k1)
       where
         go : ReadsToo ps p u y args below (next code t.plain st')
-            → ((q : Place) (args' : List Word) → PlaceAlike ps p q → WordsAlike ps args args' → (w' : Word) → WordAlike ps x.value w' → (j : Trace) → TraceAlike ps x.inside j → MendedToo code sides ps s1 i' (works t) q u y args' w' j)
-            → ((qs : Pairs) (t1 : State) (below' : Stack) → StackAlike qs below below' → (l' : Trace) → TraceAlike qs x.leftover l' → Twin code sides qs s1 t1 → RanToo code sides qs s' new left t1 below' l')
+            → ((q : Place) (args' : List Word) → PlaceAlike ps p q → WordsAlike ps args args' → (w' : Word)
+            → WordAlike ps x.value w' → (j : Trace) → TraceAlike ps x.inside j → MendedToo code sides ps s1 i'
+            (works t) q u y args' w' j)
+            → ((qs : Pairs) (t1 : State) (below' : Stack) → StackAlike qs below below' → (l' : Trace)
+            → TraceAlike qs x.leftover l' → Twin code sides qs s1 t1
+            → RanToo code sides qs s' new left t1 below' l')
             → RanToo code sides ps s' (Stepped (WasRead p (s.store p) u y args i' new)) left t st' old'
         go q f g =
             let z : ReadToo ps x (take_read q.p' u y q.args' old') = read-too ps x (take_read q.p' u y q.args' old')
@@ -551,14 +629,16 @@ module _ (code : Code) (sides : Sides) where
             took-read-too ps s' t st' q.below' p q.p' (s.store p) u y args q.args' i' new left old' z.x' s1 q.is z.is q.places (k.store p q.p' q.places) q.words
             (f q.p' q.args' q.places q.words z.x'.value z.value z.x'.inside z.inside)
             (λ qs t1 wide k1. g qs t1 q.below' (stack-wider ps qs wide q.alike) z.x'.leftover (trace-wider ps qs wide z.left) k1)
-    anew-too {s} {s'} {st} {old} (Anew.reads {t = s1} {below = below} {p = p} {u = u} {v = y} {args = args} {between = between} {inside' = i'} {new = new} {left = left} e w m a) ps t {st'} ks {old'} h k =
+    anew-too {s} {s'} {st} {old} (Anew.reads {t = s1} {below = below} {p = p} {u = u} {v = y} {args = args} {between =
+        between} {inside' = i'} {new = new} {left = left} e w m a) ps t {st'} ks {old'} h k =
         go (reads-too ps p u y args below (next code t.plain st') (next-too ps s t k st st' ks (Reads p u y args below) e))
         (λ q args' kp ka. anew-too m ps (works t) (given-too code ps u y args args' (s.store p) (t.store q) ka (k.store p q kp)) h (twin-works code sides ps s t k))
         (λ qs t1 below' kb l' kl k1. anew-too a qs t1 kb kl k1)
       where
         go : ReadsToo ps p u y args below (next code t.plain st')
             → ((q : Place) (args' : List Word) → PlaceAlike ps p q → WordsAlike ps args args' → RanToo code sides ps s1 i' between (works t) (resumed code u y args' (t.store q)) old')
-            → ((qs : Pairs) (t1 : State) (below' : Stack) → StackAlike qs below below' → (l' : Trace) → TraceAlike qs between l' → Twin code sides qs s1 t1 → RanToo code sides qs s' new left t1 below' l')
+            → ((qs : Pairs) (t1 : State) (below' : Stack) → StackAlike qs below below' → (l' : Trace)
+            → TraceAlike qs between l' → Twin code sides qs s1 t1 → RanToo code sides qs s' new left t1 below' l')
             → RanToo code sides ps s' (Stepped (WasRead p (s.store p) u y args i' new)) left t st' old'
         go q f g =
             let z = no-read-too ps (take_read q.p' u y q.args' old') (subst (λ o. TookRead ps o (take_read q.p' u y q.args' old')) w (take-read-alike ps k.one q.places u y q.words h)) in

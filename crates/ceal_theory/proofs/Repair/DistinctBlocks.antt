@@ -197,7 +197,8 @@ pub named-same : (names : ℕ → ℕ) (from to b : ℕ) → from ≤ to → ((k
 named-same names from zero b h f = let e : from ≡ 0 = omega (arith, h) in rw e refl
 named-same names from (suc to) b h f = go (named-same names from to b) (nat_le from to) refl
   where
-    go : (from ≤ to → ((k : ℕ) → from ≤ k → k < to → ¬ (b ≡ names k)) → named names to b ≡ named names from b) → (t : Bool) → nat_le from to ≡ t → one_if b (names to) + named names to b ≡ named names from b
+    go : (from ≤ to → ((k : ℕ) → from ≤ k → k < to → ¬ (b ≡ names k)) → named names to b ≡ named names from b) →
+        (t : Bool) → nat_le from to ≡ t → one_if b (names to) + named names to b ≡ named names from b
     go r true e =
         omega (arith, one-none b (names to) (λ i. f to (grind (arith, e)) (omega arith) (sym i)), r (grind (arith, e)) (λ k i j. f k i (omega (arith, j))))
     go r false e = let same : from ≡ suc to = grind (arith, e, h) in rw same refl

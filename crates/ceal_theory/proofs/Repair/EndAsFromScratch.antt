@@ -85,7 +85,9 @@ length-numbers from zero = refl
 length-numbers from (suc n) = ap suc (length-numbers (from + 1) n)
 
 -- a first trace whose blocks have any names
-module _ (code : Code) (inputs : List Block) (f : ℕ) (args : List Word) (fits : Fits code inputs f args) (names : ℕ → ℕ) (single : Single names) (new : Trace) (work : ℕ) (a : FirstsAs code inputs names f args new work) where
+module _ (code : Code) (inputs : List Block) (f : ℕ) (args : List Word) (fits : Fits code inputs f args)
+    (names : ℕ → ℕ) (single : Single names) (new : Trace) (work : ℕ)
+    (a : FirstsAs code inputs names f args new work) where
   none-known : FreeFrom names (input_plain code inputs) 0
   none-known k h = no-core code inputs (names k)
 
@@ -227,5 +229,7 @@ module _ (code : Code) (old new : List Block) (f : ℕ) (args : List Word) (fits
   pub ended : (n : ℕ) (a : Repaired) → adjusted code new number n l ≡ Some a → steps_of a.items ≤ n → (q : Finished) × (fresh code f args new n ≡ Some q) × (q.steps ≡ steps_of a.items)
   ended n a e k =
       let s = (adjusted-sound code new number n l a e).0 in
-      let d = trace-law code new f args fits-new a.items (adjust-replays code old new f args fits fit more l r number low a.items a.work s) (adjust-honest code old new f args fits fit more l r number low a.items a.work s) in
+      let d = trace-law code new f args fits-new a.items
+      (adjust-replays code old new f args fits fit more l r number low a.items a.work s)
+      (adjust-honest code old new f args fits fit more l r number low a.items a.work s) in
       (record { memory = d.memory; steps = steps_of a.items; blocks = length (blocks_of a.items) }, d.ends n k, refl)

@@ -33,7 +33,8 @@ use Rattle.ceal_theory.specs.Repair.{own, State, clears, puts, works, grows, res
 use Rattle.ceal_theory.specs.Take.{TakenAlloc, TakenRead, take_alloc, take_read}
 
 -- a number that is learnt and occurs in no pair
-not-learnt : (structs : List StructInfo) (x y : Plain) (f : ℕ) (new : Block) (ps : Pairs) → PlainAlike structs ps x y → times f [] + count f (lefts ps) ≡ 0 → PlainAlike structs ps (learnt x (Core f) new) y
+not-learnt : (structs : List StructInfo) (x y : Plain) (f : ℕ) (new : Block) (ps : Pairs) → PlainAlike structs ps x y
+    → times f [] + count f (lefts ps) ≡ 0 → PlainAlike structs ps (learnt x (Core f) new) y
 unfolding learnt
 not-learnt structs x y f new ps h z b c (IdAlike.input {i = i}) = h (Input i) (Input i) IdAlike.input
 not-learnt structs x y f new ps h z b c (IdAlike.core {b = d} {c = e} t) = go (d == f) refl
@@ -143,7 +144,9 @@ module _ (code : Code) (n : ℕ) (ds : List ℕ) (y : Plain) where
       let out : times s.number [] + count s.number (lefts ps) ≡ 0 = omega (arith, k.lefts' s.number) in
       let kw = made-alike ps (like-one ps s t old (Core c ∷ new) o r k) code s.plain y k.plain kk in
       record {
-        plain = plain-with code.structs s.number c ps (learnt s.plain (Core s.number) v) y v (made code y key') (not-learnt code.structs s.plain y s.number v ps k.plain out) (learnt-here s.plain (Core s.number) v) f kw;
+        plain = plain-with code.structs s.number c ps (learnt s.plain (Core s.number) v) y v (made code y key')
+            (not-learnt code.structs s.plain y s.number v ps k.plain out)
+            (learnt-here s.plain (Core s.number) v) f kw;
         store = cleared-alike code s.number c ps one kk s.store t k.store;
         holds = holds-wide s.plain (learnt s.plain (Core s.number) v) k.holds (learnt-extends own s.plain s.number v k.free);
         free = learnt-free own own-single s.plain s.number v k.free;
@@ -236,8 +239,19 @@ module _ (code : Code) (n : ℕ) (ds : List ℕ) (y : Plain) where
         like = q.like;
       }
 
-  anew-stepped : (ps : Pairs) (s : State) (st after : Stack) (l : Trace) (t' : Store) (o r : ℕ → ℕ) → next code s.plain st ≡ Quiet after → AnewTotal ps (works s) after l t' o r → AnewTotal ps s st l t' o r
-  anew-stepped ps s st after l t' o r e q = record { state = q.state; items = Stepped q.items; left = q.left; anew = Anew.quiet e q.anew; after = q.after; wider = q.wider; like = q.like; sure = q.sure }
+  anew-stepped : (ps : Pairs) (s : State) (st after : Stack) (l : Trace) (t' : Store) (o r : ℕ → ℕ)
+      → next code s.plain st ≡ Quiet after → AnewTotal ps (works s) after l t' o r → AnewTotal ps s st l t' o r
+  anew-stepped ps s st after l t' o r e q =
+      record {
+        state = q.state;
+        items = Stepped q.items;
+        left = q.left;
+        anew = Anew.quiet e q.anew;
+        after = q.after;
+        wider = q.wider;
+        like = q.like;
+        sure = q.sure;
+      }
 
   anew-took : (ps : Pairs) (s : State) (st below : Stack) (key : Key) (v u i : ℕ) (env : Variables) (old : Trace) (x : TakenAlloc) (b c : ℕ) (t' : Store) (o r : ℕ → ℕ)
       → next code s.plain st ≡ Makes key v u i env below → take_alloc key old ≡ Some x
@@ -269,9 +283,20 @@ module _ (code : Code) (n : ℕ) (ds : List ℕ) (y : Plain) where
 
   anew-wrote : (ps : Pairs) (s : State) (st after : Stack) (p : Place) (v : Word) (l : Trace) (t' : Store) (o r : ℕ → ℕ) → next code s.plain st ≡ Writes p v after
       → AnewTotal ps (puts (works s) p v) after l t' o r → AnewTotal ps s st l t' o r
-  anew-wrote ps s st after p v l t' o r e q = record { state = q.state; items = Stepped (Wrote p v q.items); left = q.left; anew = Anew.writes e q.anew; after = q.after; wider = q.wider; like = q.like; sure = q.sure }
+  anew-wrote ps s st after p v l t' o r e q =
+      record {
+        state = q.state;
+        items = Stepped (Wrote p v q.items);
+        left = q.left;
+        anew = Anew.writes e q.anew;
+        after = q.after;
+        wider = q.wider;
+        like = q.like;
+        sure = q.sure;
+      }
 
-  anew-took_read : (ps : Pairs) (s : State) (st below : Stack) (p : Place) (u : UnitId) (z : ℕ) (args : List Word) (old : Trace) (x : TakenRead) (m : List BlockId) (t1 t' : Store) (o r : ℕ → ℕ) → FreeFrom own s.plain s.number
+  anew-took_read : (ps : Pairs) (s : State) (st below : Stack) (p : Place) (u : UnitId) (z : ℕ) (args : List Word)
+      (old : Trace) (x : TakenRead) (m : List BlockId) (t1 t' : Store) (o r : ℕ → ℕ) → FreeFrom own s.plain s.number
       → next code s.plain st ≡ Reads p u z args below → take_read p u z args old ≡ Some x
       → MendTotal ps (works s) p u z args x.value x.inside t1 (λ b. o b + times b (blocks_of x.leftover)) (λ c. r c + times c m)
       → Then ps s t1 (blocks_of x.leftover) m o r (λ qs s1. AnewTotal qs s1 below x.leftover t' o r)
@@ -319,7 +344,8 @@ module _ (code : Code) (n : ℕ) (ds : List ℕ) (y : Plain) where
   like-inside ps s t i l j m o r k = like-moved ps s t (i ++ l) (j ++ m) i j o r (λ b. o b + times b l) (λ c. r c + times c m) k
       (λ b. omega (arith, times-append b i l)) (λ c. omega (arith, times-append c j m))
 
-  like-taken : (ps : Pairs) (s : State) (t : Store) (p : Place) (u : UnitId) (z : ℕ) (args : List Word) (old : Trace) (x : TakenRead) (j m : List BlockId) (o r : ℕ → ℕ) → take_read p u z args old ≡ Some x
+  like-taken : (ps : Pairs) (s : State) (t : Store) (p : Place) (u : UnitId) (z : ℕ) (args : List Word) (old : Trace)
+      (x : TakenRead) (j m : List BlockId) (o r : ℕ → ℕ) → take_read p u z args old ≡ Some x
       → Like ps s t (blocks_of old) (j ++ m) o r → Like ps (works s) t (blocks_of x.inside) j (λ b. o b + times b (blocks_of x.leftover)) (λ c. r c + times c m)
   like-taken ps s t p u z args old x j m o r w k = like-moved ps (works s) t (blocks_of old) (j ++ m) (blocks_of x.inside) j o r (λ b. o b + times b (blocks_of x.leftover)) (λ c. r c + times c m)
       (like-works ps s t (blocks_of old) (j ++ m) o r k) (λ b. omega (arith, read-uses b p u z args old x w)) (λ c. omega (arith, times-append c j m))
@@ -339,7 +365,9 @@ module _ (code : Code) (n : ℕ) (ds : List ℕ) (y : Plain) where
   taken-uses : (key : Key) (old : Trace) (x : TakenAlloc) (b : ℕ) → x.block ≡ Core b → take_alloc key old ≡ Some x → (a : ℕ) → one_if a b + times a (blocks_of x.leftover) ≤ times a (blocks_of old)
   taken-uses key old x b is w a = let e : one_at a x.block ≡ one_if a b = ap (one_at a) is in omega (arith, alloc-uses a key old x w, e)
 
-  like-at : (ps : Pairs) (s : State) (t : Store) (old new : List BlockId) (o r : ℕ → ℕ) (d : BlockId) (b : ℕ) (key : Key) → d ≡ Core b → Like ps (clears code s (Core b) key) t old new o r → Like ps (clears code s d key) t old new o r
+  like-at : (ps : Pairs) (s : State) (t : Store) (old new : List BlockId) (o r : ℕ → ℕ) (d : BlockId) (b : ℕ)
+      (key : Key) → d ≡ Core b → Like ps (clears code s (Core b) key) t old new o r → Like ps
+      (clears code s d key) t old new o r
   like-at ps s t old new o r d b key is k = subst (λ d. Like ps (clears code s d key) t old new o r) (sym is) k
 
   stack-at : (ps : Pairs) (key : Key) (v u i : ℕ) (env : Variables) (below st' : Stack) (d : BlockId) (b : ℕ) → d ≡ Core b → StackAlike ps (Run u i (set env v (pointer key (Core b))) below) st'
@@ -355,7 +383,10 @@ module _ (code : Code) (n : ℕ) (ds : List ℕ) (y : Plain) where
         record { state = s; items = Nothing; fix = Fix.end; after = ps; wider = λ b c t. t; like = like }
     fix-total (Told.quiet {rest = m} d) ps (ActAlike.quiet ks) s (Told.quiet {after = after} {rest = l} e) sure k {t} {t'} (Honest.step h) o r like =
         fix-stepped ps s l t' o r (fix-total d ps (acts ps s t (blocks_of l) (blocks_of m) o r like ks) s e sure (knows code n ds s.plain like.holds after k) h o r like)
-    fix-total (Told.makes {key = key'} {b = c} {rest = m} f d) ps (ActAlike.makes {env' = env'} {st' = below'} kk kv ks) s (Told.makes {key = key} {v = v} {u = u} {i = i} {env = env} {below = below} {b = b} {rest = l} e told) sure k {t} {t'}
+    fix-total (Told.makes {key = key'} {b = c} {rest = m} f d) ps
+        (ActAlike.makes {env' = env'} {st' = below'} kk kv ks) s
+        (Told.makes {key = key} {v = v} {u = u} {i = i} {env = env} {below = below} {b = b} {rest =
+        l} e told) sure k {t} {t'}
         (Honest.step (Honest.alloc h)) o r like =
         fix-made ps s b c key l t' o r (go (like-pair ps s t (Core b ∷ blocks_of l) (blocks_of l) (blocks_of m) o r b c key key' (made code s.plain key) (made code y key') e f
         (made-alike ps (like-one ps s t (Core b ∷ blocks_of l) (Core c ∷ blocks_of m) o r like) code s.plain y like.plain kk) kk (λ a. omega arith) like)
@@ -364,20 +395,34 @@ module _ (code : Code) (n : ℕ) (ds : List ℕ) (y : Plain) where
       where
         go : Like (record { left = b; right = c } ∷ ps) (clears code s (Core b) key) (cleared code t (Core c) key') (blocks_of l) (blocks_of m) o r
             → (ActAlike (record { left = b; right = c } ∷ ps) (next code s.plain (Run u i (set env v (pointer key (Core b))) below)) (next code y (Run u i (set env' v (pointer key' (Core c))) below'))
-            → Like (record { left = b; right = c } ∷ ps) (clears code s (Core b) key) (cleared code t (Core c) key') (blocks_of l) (blocks_of m) o r → FixTotal (record { left = b; right = c } ∷ ps) (clears code s (Core b) key) l t' o r)
+            → Like (record { left = b; right = c } ∷ ps) (clears code s (Core b) key) (cleared code t (Core c) key')
+            (blocks_of l) (blocks_of m) o r → FixTotal (record { left = b; right = c } ∷ ps)
+            (clears code s (Core b) key) l t' o r)
             → FixTotal (record { left = b; right = c } ∷ ps) (clears code s (Core b) key) l t' o r
-        go like' g = g (acts (record { left = b; right = c } ∷ ps) (clears code s (Core b) key) (cleared code t (Core c) key') (blocks_of l) (blocks_of m) o r like' (ran-alike ps key key' b c v u i env env' below below' kk kv ks)) like'
-    fix-total (Told.writes {p = p'} {value = v'} {rest = m} d) ps (ActAlike.writes kp kv ks) s (Told.writes {after = after} {p = p} {value = v} {rest = l} e) sure k {t} {t'} (Honest.step (Honest.write h)) o r like =
+        go like' g = g (acts (record { left = b; right = c } ∷ ps) (clears code s (Core b) key)
+            (cleared code t (Core c) key') (blocks_of l) (blocks_of m) o r like'
+            (ran-alike ps key key' b c v u i env env' below below' kk kv ks)) like'
+    fix-total (Told.writes {p = p'} {value = v'} {rest = m} d) ps (ActAlike.writes kp kv ks) s
+        (Told.writes {after = after} {p = p} {value = v} {rest = l} e) sure k {t} {t'}
+        (Honest.step (Honest.write h)) o r like =
         fix-wrote ps s p v l t' o r (fix-total d ps (acts ps s t (blocks_of l) (blocks_of m) o r like ks) (puts s p v) e sure (knows code n ds s.plain like.holds after k.2)
         h o r (like-puts ps s t (blocks_of l) (blocks_of m) o r p p' v v' kp kv like))
-    fix-total (Told.reads {args = args'} {value = w} {inside = j} {rest = m} d1 d2) ps (ActAlike.reads {q = p'} {st' = below'} kp ka ks) s (Told.reads {below = below} {p = p} {u = u} {v = x} {args = args} {value = v} {inside = i} {rest = l} e1 e2) sure k
+    fix-total (Told.reads {args = args'} {value = w} {inside = j} {rest = m} d1 d2) ps
+        (ActAlike.reads {q = p'} {st' = below'} kp ka ks) s
+        (Told.reads {below = below} {p = p} {u = u} {v = x} {args = args} {value = v} {inside = i} {rest =
+        l} e1 e2) sure k
         {t} {t'} (Honest.step (Honest.read {t = t1} f h1 h2)) o r like =
         fix-was_read ps s p u x args v i l (blocks_of m) t1 t' o r like.free
         (mend-choose ps s p u x args v i t1 (λ b. o b + times b (blocks_of l)) (λ c. r c + times c (blocks_of m))
-        (λ same. fix-total d1 ps (acts ps s t (blocks_of i ++ blocks_of l) (blocks_of j ++ blocks_of m) o r like (given-run ps u x args args' v w ka (subst (λ z. WordAlike ps z w) same (read-alike ps s t (blocks_of i ++ blocks_of l) (blocks_of j ++ blocks_of m) o r p p' w like kp f)))) s e1 sure.3
+        (λ same. fix-total d1 ps (acts ps s t (blocks_of i ++ blocks_of l) (blocks_of j ++ blocks_of m) o r like
+        (given-run ps u x args args' v w ka (subst (λ z. WordAlike ps z w) same
+        (read-alike ps s t (blocks_of i ++ blocks_of l)
+        (blocks_of j ++ blocks_of m) o r p p' w like kp f)))) s e1 sure.3
         (knows code n ds s.plain like.holds (resumed code u x args v) (given-known n ds code u.0 x args v Empty k.1 sure.0 tt)) h1
         (λ b. o b + times b (blocks_of l)) (λ c. r c + times c (blocks_of m)) (like-inside ps s t (blocks_of i) (blocks_of l) (blocks_of j) (blocks_of m) o r like))
-        (anew-total d1 ps (acts ps s t (blocks_of i ++ blocks_of l) (blocks_of j ++ blocks_of m) o r like (given-run ps u x args args' (s.store p) w ka (read-alike ps s t (blocks_of i ++ blocks_of l) (blocks_of j ++ blocks_of m) o r p p' w like kp f)))
+        (anew-total d1 ps (acts ps s t (blocks_of i ++ blocks_of l) (blocks_of j ++ blocks_of m) o r like
+        (given-run ps u x args args' (s.store p) w ka
+        (read-alike ps s t (blocks_of i ++ blocks_of l) (blocks_of j ++ blocks_of m) o r p p' w like kp f)))
         s (resumed code u x args (s.store p)) i sure.3 refl h1
         (λ b. o b + times b (blocks_of l)) (λ c. r c + times c (blocks_of m)) (like-inside ps s t (blocks_of i) (blocks_of l) (blocks_of j) (blocks_of m) o r like)))
         (λ qs s1 wide grown like2. fix-total d2 qs (acts qs s1 t1 (blocks_of l) (blocks_of m) o r like2 (stack-wider ps qs wide ks)) s1
@@ -389,21 +434,38 @@ module _ (code : Code) (n : ℕ) (ds : List ℕ) (y : Plain) where
     anew-total Told.over ps ActAlike.over s st old sure e Honest.end o r like =
         record { state = s; items = Nothing; left = old; anew = Anew.over e; after = ps; wider = λ b c t. t; like = like; sure = sure }
     anew-total (Told.quiet {rest = m} d) ps (ActAlike.quiet {st = after} ks) s st old sure e {t} {t'} (Honest.step h) o r like =
-        anew-stepped ps s st after old t' o r e (anew-total d ps (acts ps s t (blocks_of old) (blocks_of m) o r like ks) (works s) after old sure refl h o r (like-works ps s t (blocks_of old) (blocks_of m) o r like))
-    anew-total (Told.makes {key = key'} {b = c} {rest = m} f d) ps (ActAlike.makes {k = key} {v = v} {u = u} {i = i} {env = env} {env' = env'} {st = below} {st' = below'} kk kv ks) s st old sure e {t} {t'} (Honest.step (Honest.alloc h)) o r like =
+        anew-stepped ps s st after old t' o r e (anew-total d ps
+        (acts ps s t (blocks_of old) (blocks_of m) o r like ks) (works s) after old sure refl h o r
+        (like-works ps s t (blocks_of old) (blocks_of m) o r like))
+    anew-total (Told.makes {key = key'} {b = c} {rest = m} f d) ps
+        (ActAlike.makes {k = key} {v = v} {u = u} {i = i} {env = env} {env' = env'} {st = below} {st' =
+        below'} kk kv ks) s st old sure e {t} {t'} (Honest.step (Honest.alloc h)) o r like =
         alloc-choose key old
         (λ x w. anew-took ps s st below key v u i env old x (sure-alloc code n ds s.plain key old sure x w).core c t' o r e w
-        (took x w (λ z like'. anew-total d (record { left = (sure-alloc code n ds s.plain key old sure x w).core; right = c } ∷ ps) z (clears code (works s) x.block key) (Run u i (set env v (pointer key x.block)) below) x.leftover
+        (took x w (λ z like'. anew-total d (record {
+          left = (sure-alloc code n ds s.plain key old sure x w).core;
+          right = c;
+        } ∷ ps) z (clears code (works s) x.block key)
+        (Run u i (set env v (pointer key x.block)) below) x.leftover
         (sure-alloc code n ds s.plain key old sure x w).left refl h o r like')))
         (λ w. anew-made ps s st below key v u i env old c t' o r e w
         (new (λ z like'. anew-total d (record { left = s.number; right = c } ∷ ps) z (grows code own (works s) key) (Run u i (set env v (pointer key (Core s.number))) below) old
-        (sure-more code n ds s.plain (learnt s.plain (Core s.number) (made code s.plain key)) like.holds (learnt-extends own s.plain s.number (made code s.plain key) like.free) old sure) refl h o r like')))
+        (sure-more code n ds s.plain (learnt s.plain (Core s.number) (made code s.plain key)) like.holds
+        (learnt-extends own s.plain s.number (made code s.plain key) like.free) old sure) refl h o r like')))
       where
         took : (x : TakenAlloc) → (w : take_alloc key old ≡ Some x)
-            → (ActAlike (record { left = (sure-alloc code n ds s.plain key old sure x w).core; right = c } ∷ ps) (next code s.plain (Run u i (set env v (pointer key x.block)) below)) (next code y (Run u i (set env' v (pointer key' (Core c))) below'))
-            → Like (record { left = (sure-alloc code n ds s.plain key old sure x w).core; right = c } ∷ ps) (clears code (works s) x.block key) (cleared code t (Core c) key') (blocks_of x.leftover) (blocks_of m) o r
-            → AnewTotal (record { left = (sure-alloc code n ds s.plain key old sure x w).core; right = c } ∷ ps) (clears code (works s) x.block key) (Run u i (set env v (pointer key x.block)) below) x.leftover t' o r)
-            → AnewTotal (record { left = (sure-alloc code n ds s.plain key old sure x w).core; right = c } ∷ ps) (clears code (works s) x.block key) (Run u i (set env v (pointer key x.block)) below) x.leftover t' o r
+            → (ActAlike (record { left = (sure-alloc code n ds s.plain key old sure x w).core; right = c } ∷ ps)
+            (next code s.plain (Run u i (set env v (pointer key x.block)) below))
+            (next code y (Run u i (set env' v (pointer key' (Core c))) below'))
+            → Like (record { left = (sure-alloc code n ds s.plain key old sure x w).core; right = c } ∷ ps)
+            (clears code (works s) x.block key) (cleared code t (Core c) key') (blocks_of x.leftover)
+            (blocks_of m) o r
+            → AnewTotal (record { left = (sure-alloc code n ds s.plain key old sure x w).core; right = c } ∷ ps)
+            (clears code (works s) x.block key) (Run u i
+            (set env v (pointer key x.block)) below) x.leftover t' o r)
+            → AnewTotal (record { left = (sure-alloc code n ds s.plain key old sure x w).core; right = c } ∷ ps)
+            (clears code (works s) x.block key) (Run u i
+            (set env v (pointer key x.block)) below) x.leftover t' o r
         took x w g =
             let a = sure-alloc code n ds s.plain key old sure x w in
             let like' = like-at (record { left = a.core; right = c } ∷ ps) (works s) (cleared code t (Core c) key') (blocks_of x.leftover) (blocks_of m) o r x.block a.core key a.is
@@ -411,34 +473,50 @@ module _ (code : Code) (n : ℕ) (ds : List ℕ) (y : Plain) where
             a.held f (made-alike ps (like-one ps s t (blocks_of old) (Core c ∷ blocks_of m) o r like) code s.plain y like.plain kk) kk
             (taken-uses key old x a.core a.is w) (like-works ps s t (blocks_of old) (Core c ∷ blocks_of m) o r like)) in
             g (acts (record { left = a.core; right = c } ∷ ps) (clears code (works s) x.block key) (cleared code t (Core c) key') (blocks_of x.leftover) (blocks_of m) o r like'
-            (stack-at (record { left = a.core; right = c } ∷ ps) key v u i env below (Run u i (set env' v (pointer key' (Core c))) below') x.block a.core a.is (ran-alike ps key key' a.core c v u i env env' below below' kk kv ks))) like'
+            (stack-at (record { left = a.core; right = c } ∷ ps) key v u i env below
+            (Run u i (set env' v (pointer key' (Core c))) below') x.block a.core a.is
+            (ran-alike ps key key' a.core c v u i env env' below below' kk kv ks))) like'
 
-        new : (ActAlike (record { left = s.number; right = c } ∷ ps) (next code (learnt s.plain (Core s.number) (made code s.plain key)) (Run u i (set env v (pointer key (Core s.number))) below)) (next code y (Run u i (set env' v (pointer key' (Core c))) below'))
+        new : (ActAlike (record { left = s.number; right = c } ∷ ps)
+            (next code (learnt s.plain (Core s.number) (made code s.plain key))
+            (Run u i (set env v (pointer key (Core s.number))) below))
+            (next code y (Run u i (set env' v (pointer key' (Core c))) below'))
             → Like (record { left = s.number; right = c } ∷ ps) (grows code own (works s) key) (cleared code t (Core c) key') (blocks_of old) (blocks_of m) o r
             → AnewTotal (record { left = s.number; right = c } ∷ ps) (grows code own (works s) key) (Run u i (set env v (pointer key (Core s.number))) below) old t' o r)
             → AnewTotal (record { left = s.number; right = c } ∷ ps) (grows code own (works s) key) (Run u i (set env v (pointer key (Core s.number))) below) old t' o r
         new g =
             let like' = like-grown ps (works s) t (blocks_of old) (blocks_of m) o r c key key' f kk (like-works ps s t (blocks_of old) (Core c ∷ blocks_of m) o r like) in
-            g (acts (record { left = s.number; right = c } ∷ ps) (grows code own (works s) key) (cleared code t (Core c) key') (blocks_of old) (blocks_of m) o r like' (ran-alike ps key key' s.number c v u i env env' below below' kk kv ks)) like'
+            g (acts (record { left = s.number; right = c } ∷ ps) (grows code own (works s) key)
+            (cleared code t (Core c) key') (blocks_of old) (blocks_of m) o r like'
+            (ran-alike ps key key' s.number c v u i env env' below below' kk kv ks)) like'
     anew-total (Told.writes {p = p'} {value = v'} {rest = m} d) ps (ActAlike.writes {p = p} {v = v} {st = after} kp kv ks) s st old sure e {t} {t'} (Honest.step (Honest.write h)) o r like =
         anew-wrote ps s st after p v old t' o r e (anew-total d ps (acts ps s t (blocks_of old) (blocks_of m) o r like ks) (puts (works s) p v) after old sure refl h o r
         (like-puts ps (works s) t (blocks_of old) (blocks_of m) o r p p' v v' kp kv (like-works ps s t (blocks_of old) (blocks_of m) o r like)))
-    anew-total (Told.reads {args = args'} {value = w} {inside = j} {rest = m} d1 d2) ps (ActAlike.reads {p = p} {q = p'} {u = u} {v = z} {vs = args} {st = below} {st' = below'} kp ka ks) s st old sure e {t} {t'}
+    anew-total (Told.reads {args = args'} {value = w} {inside = j} {rest = m} d1 d2) ps
+        (ActAlike.reads {p = p} {q = p'} {u = u} {v = z} {vs = args} {st = below} {st' =
+        below'} kp ka ks) s st old sure e {t} {t'}
         (Honest.step (Honest.read {t = t1} f h1 h2)) o r like =
         read-choose p u z args old
         (λ x i. anew-took_read ps s st below p u z args old x (blocks_of m) t1 t' o r like.free e i
         (mend-choose ps (works s) p u z args x.value x.inside t1 (λ b. o b + times b (blocks_of x.leftover)) (λ c. r c + times c (blocks_of m))
-        (λ same. fix-total d1 ps (acts ps s t (blocks_of old) (blocks_of j ++ blocks_of m) o r like (given-run ps u z args args' x.value w ka (subst (λ z. WordAlike ps z w) same (read-alike ps s t (blocks_of old) (blocks_of j ++ blocks_of m) o r p p' w like kp f)))) (works s)
+        (λ same. fix-total d1 ps (acts ps s t (blocks_of old) (blocks_of j ++ blocks_of m) o r like
+        (given-run ps u z args args' x.value w ka
+        (subst (λ z. WordAlike ps z w) same (read-alike ps s t (blocks_of old)
+        (blocks_of j ++ blocks_of m) o r p p' w like kp f)))) (works s)
         (sure-read code n ds s.plain p u z args old sure x i).told (sure-read code n ds s.plain p u z args old sure x i).inside
         (knows code n ds s.plain like.holds (resumed code u z args x.value)
         (given-known n ds code u.0 z args x.value Empty (sure-read code n ds s.plain p u z args old sure x i).words (sure-read code n ds s.plain p u z args old sure x i).value tt)) h1
         (λ b. o b + times b (blocks_of x.leftover)) (λ c. r c + times c (blocks_of m)) (like-taken ps s t p u z args old x (blocks_of j) (blocks_of m) o r i like))
-        (anew-total d1 ps (acts ps s t (blocks_of old) (blocks_of j ++ blocks_of m) o r like (given-run ps u z args args' (s.store p) w ka (read-alike ps s t (blocks_of old) (blocks_of j ++ blocks_of m) o r p p' w like kp f)))
+        (anew-total d1 ps (acts ps s t (blocks_of old) (blocks_of j ++ blocks_of m) o r like
+        (given-run ps u z args args' (s.store p) w ka
+        (read-alike ps s t (blocks_of old) (blocks_of j ++ blocks_of m) o r p p' w like kp f)))
         (works s) (resumed code u z args (s.store p)) x.inside (sure-read code n ds s.plain p u z args old sure x i).inside refl h1
         (λ b. o b + times b (blocks_of x.leftover)) (λ c. r c + times c (blocks_of m)) (like-taken ps s t p u z args old x (blocks_of j) (blocks_of m) o r i like)))
         (λ qs s1 wide grown like2. anew-total d2 qs (acts qs s1 t1 (blocks_of x.leftover) (blocks_of m) o r like2 (stack-wider ps qs wide ks)) s1 below x.leftover
         (sure-more code n ds s.plain s1.plain like.holds grown.plain x.leftover (sure-read code n ds s.plain p u z args old sure x i).left) refl h2 o r like2))
         (λ i. anew-was_read ps s st below p u z args old (blocks_of m) t1 t' o r e i
-        (anew-total d1 ps (acts ps s t (blocks_of old) (blocks_of j ++ blocks_of m) o r like (given-run ps u z args args' (s.store p) w ka (read-alike ps s t (blocks_of old) (blocks_of j ++ blocks_of m) o r p p' w like kp f)))
+        (anew-total d1 ps (acts ps s t (blocks_of old) (blocks_of j ++ blocks_of m) o r like
+        (given-run ps u z args args' (s.store p) w ka
+        (read-alike ps s t (blocks_of old) (blocks_of j ++ blocks_of m) o r p p' w like kp f)))
         (works s) (resumed code u z args (s.store p)) old sure refl h1 o (λ c. r c + times c (blocks_of m)) (like-running ps s t (blocks_of old) (blocks_of j) (blocks_of m) o r like))
         (λ qs s1 left wide sure2 like2. anew-total d2 qs (acts qs s1 t1 (blocks_of left) (blocks_of m) o r like2 (stack-wider ps qs wide ks)) s1 below left sure2 refl h2 o r like2))

@@ -78,7 +78,8 @@ module _ (structs : List StructInfo) (m : Blocks) (full : Full structs m) where
   cell-there p c = cell-in p (block_at m p.block) refl c
 
 -- a plain field is another than a modifiable
-plain-other : (kinds : List FieldKind) (ws : List Word) (n f : ℕ) (w : Word) → is_cell (slice_get kinds n) ≡ true → plain_word (slice_get kinds f) (slice_set ws n w) f ≡ plain_word (slice_get kinds f) ws f
+plain-other : (kinds : List FieldKind) (ws : List Word) (n f : ℕ) (w : Word) → is_cell (slice_get kinds n) ≡ true
+    → plain_word (slice_get kinds f) (slice_set ws n w) f ≡ plain_word (slice_get kinds f) ws f
 plain-other kinds ws n f w c = go (slice_get kinds f) refl
   where
     go : (k : Option FieldKind) → slice_get kinds f ≡ k → plain_word k (slice_set ws n w) f ≡ plain_word k ws f
@@ -104,21 +105,29 @@ module _ (code : Code) (ok : valid code ≡ true) where
   matches-works s m h = record { plain = h.plain; store = h.store; number = h.number; well = h.well; full = h.full }
 
   same-step : (s : State) (m : Blocks) → Matches s m → (st : Stack) → OfStack (Placed code.structs m) st → next code s.plain st ≡ next code (block_at m) st
-  same-step s m h st k = sym (next-equal (Starts code.structs) (Placed code.structs m) code (block_at m) (placed-closed code.structs m h.well (rows-valid code ok)) (picks-valid code ok) s.plain h.plain st k)
+  same-step s m h st k = sym (next-equal (Starts code.structs) (Placed code.structs m) code (block_at m)
+      (placed-closed code.structs m h.well (rows-valid code ok)) (picks-valid code ok) s.plain h.plain st k)
 
   same-made : (s : State) (m : Blocks) → Matches s m → (key : Key) → OfKey (Placed code.structs m) key → made code s.plain key ≡ made code (block_at m) key
-  same-made s m h key k = sym (made-equal (Starts code.structs) (Placed code.structs m) code (block_at m) (placed-closed code.structs m h.well (rows-valid code ok)) (picks-valid code ok) s.plain h.plain key k)
+  same-made s m h key k = sym (made-equal (Starts code.structs) (Placed code.structs m) code (block_at m)
+      (placed-closed code.structs m h.well (rows-valid code ok)) (picks-valid code ok) s.plain h.plain key k)
 
   places : (s : State) (m : Blocks) → Matches s m → (st : Stack) → OfStack (Placed code.structs m) st → (a : Act) → next code (block_at m) st ≡ a → OfAct (Placed code.structs m) a
-  places s m h st k a e = subst (OfAct (Placed code.structs m)) e (next-of (Starts code.structs) (Placed code.structs m) code (block_at m) (placed-closed code.structs m h.well (rows-valid code ok)) (picks-valid code ok) st k)
+  places s m h st k a e = subst (OfAct (Placed code.structs m)) e
+      (next-of (Starts code.structs) (Placed code.structs m) code (block_at m)
+      (placed-closed code.structs m h.well (rows-valid code ok)) (picks-valid code ok) st k)
 
   -- after a write
   module _ (s : State) (m : Blocks) (h : Matches s m) (p : Place) (cell : CellThere code.structs m p) (w : Word) where
     in-if : (t : Bool) (z f : ℕ) → is_struct z cell.block.shape ≡ t
-        → field_in (field_kind code.structs (Struct z) f) (if t then Some (altered cell.block p.field w) else None) f ≡ field_in (field_kind code.structs (Struct z) f) (if t then Some cell.block else None) f
+        → field_in (field_kind code.structs (Struct z) f)
+        (if t then Some (altered cell.block p.field w) else None) f ≡ field_in
+        (field_kind code.structs (Struct z) f) (if t then Some cell.block else None) f
     in-if false z f e = refl
     in-if true z f e =
-        let c : is_cell (slice_get (kinds_of_shape code.structs (Struct z)) p.field) ≡ true = subst (λ shape. is_cell (slice_get (kinds_of_shape code.structs shape) p.field) ≡ true) (struct-shape z cell.block.shape e) cell.cell in
+        let c : is_cell (slice_get (kinds_of_shape code.structs (Struct z)) p.field) ≡ true = subst
+        (λ shape. is_cell (slice_get (kinds_of_shape code.structs shape) p.field) ≡ true)
+        (struct-shape z cell.block.shape e) cell.cell in
         plain-other (kinds_of_shape code.structs (Struct z)) cell.block.words p.field f w c
 
     some-if : (t : Bool) → is_some (if t then Some (altered cell.block p.field w) else None) ≡ is_some (if t then Some cell.block else None)
@@ -135,7 +144,9 @@ module _ (code : Code) (ok : valid code ≡ true) where
     there-if true b e z = rw (block-same b p.block e, written-here m p.block p.field w cell.block cell.there, cell.there) (some-if (is_struct z cell.block.shape))
     there-if false b e z = rw (written-other m p.block b p.field w cell.block cell.there e)
 
-    full-if : (t : Bool) (b : BlockId) → same_block b p.block ≡ t → (block : Block) → block_at (written_at m p.block p.field w) b ≡ Some block → length block.words ≡ length (kinds_of_shape code.structs block.shape)
+    full-if : (t : Bool) (b : BlockId) → same_block b p.block ≡ t → (block : Block) → block_at
+        (written_at m p.block p.field w) b ≡ Some block → length block.words ≡ length
+        (kinds_of_shape code.structs block.shape)
     full-if true b e block g =
         let g' : block_at (written_at m p.block p.field w) p.block ≡ Some block = rw (block-same b p.block e) at g in
         let is : altered cell.block p.field w ≡ block = some-same (altered cell.block p.field w) block (sym (written-here m p.block p.field w cell.block cell.there) ∙ g') in
@@ -146,7 +157,8 @@ module _ (code : Code) (ok : valid code ≡ true) where
     matches-puts c = record {
       plain = record {
         field = λ b z f i. field-if (same_block b p.block) b refl z f ∙ h.plain.field b z f tt;
-        address = λ b z f i. ap (λ t. if is_cell (field_kind code.structs (Struct z) f) && t then place_in (BlockWord b) f else Null) (there-if (same_block b p.block) b refl z) ∙ h.plain.address b z f tt;
+        address = λ b z f i. ap (λ t. if is_cell (field_kind code.structs (Struct z) f) && t then place_in
+            (BlockWord b) f else Null) (there-if (same_block b p.block) b refl z) ∙ h.plain.address b z f tt;
       };
       store = λ q. stored-equal s.store (contents code m) p w q (h.store q) ∙ sym (written-contents code m p cell w q);
       number = h.number ∙ sym (written-count m p.block p.field w cell.block cell.there);
@@ -176,7 +188,9 @@ module _ (code : Code) (ok : valid code ≡ true) where
         ≡ field_value code.structs (learnt s.plain (Core (length m.made)) (made code s.plain key)) (BlockWord b) z f
     unfolding learnt
     plain-field b z f =
-        new-at (same_block b (Core (length m.made))) b refl (λ o q. field_in (field_kind code.structs (Struct z) f) (of_struct z o) f ≡ field_in (field_kind code.structs (Struct z) f) (of_struct z q) f) (λ o. refl)
+        new-at (same_block b (Core (length m.made))) b refl
+        (λ o q. field_in (field_kind code.structs (Struct z) f) (of_struct z o) f ≡ field_in
+        (field_kind code.structs (Struct z) f) (of_struct z q) f) (λ o. refl)
         (h.plain.field b z f tt)
 
     plain-address : (b : BlockId) (z f : ℕ) → address_value code.structs (block_at (with_block m (made code (block_at m) key))) (BlockWord b) z f
@@ -184,7 +198,9 @@ module _ (code : Code) (ok : valid code ≡ true) where
     unfolding learnt
     plain-address b z f =
         new-at (same_block b (Core (length m.made))) b refl
-        (λ o q. (if is_cell (field_kind code.structs (Struct z) f) && is_some (of_struct z o) then place_in (BlockWord b) f else Null) ≡ (if is_cell (field_kind code.structs (Struct z) f) && is_some (of_struct z q) then place_in (BlockWord b) f else Null))
+        (λ o q. (if is_cell (field_kind code.structs (Struct z) f) && is_some (of_struct z o) then place_in
+        (BlockWord b) f else Null) ≡ (if is_cell (field_kind code.structs (Struct z) f) && is_some
+        (of_struct z q) then place_in (BlockWord b) f else Null))
         (λ o. refl) (h.plain.address b z f tt)
 
     matches-grows : Matches (grows code own s key) (with_block m (made code (block_at m) key))
@@ -214,7 +230,9 @@ module _ (code : Code) (ok : valid code ≡ true) where
     pub later : run code fuel taken memory below ≡ Some r
 
   abbrev Running : ℕ → Type 0
-  Running n = (steps : ℕ) (s : State) (m : Blocks) → Matches s m → (st below : Stack) → OfStack (Placed code.structs m) st → (r : Finished) → run code n steps m (on st below) ≡ Some r → FirstPart n steps s m st below r
+  Running n = (steps : ℕ) (s : State) (m : Blocks) → Matches s m → (st below : Stack) → OfStack
+      (Placed code.structs m) st → (r : Finished) → run code n steps m (on st below) ≡ Some r
+      → FirstPart n steps s m st below r
 
   step-inv : (n steps : ℕ) (m : Blocks) (st below : Stack) (a : Act) (r : Finished) → next code (block_at m) st ≡ a → only_over steps m (act_on a below (next code (block_at m) below)) ≡ None
       → run code n steps m (on st below) ≡ Some r → (k : ℕ) × (n ≡ suc k) × (ran code (run code k (steps + 1)) steps m (act_on a below (next code (block_at m) below)) ≡ Some r)
@@ -261,8 +279,13 @@ module _ (code : Code) (ok : valid code ≡ true) where
       subst (λ n. run code j.0 (steps + 1) (with_block m (made code (block_at m) key)) (on (Run u i (set env v (pointer key (Core n))) under) below) ≡ Some r) (sym h.number) j.2 in
       let word : Placed code.structs m' (pointer key (Core s.number)) =
       subst (λ n. Placed code.structs (with_block m (made code (block_at m) key)) (pointer key (Core n))) (sym h.number) (pointer-placed code m h.well key key refl) in
-      let q = ih j.0 (omega (arith, k, j.1)) (steps + 1) (grows code own (works s) key) m' (matches-grows (works s) m (matches-works s m h) key p.0) (Run u i (set env v (pointer key (Core s.number))) under) below
-      (set-of (Placed code.structs m') (λ n. tt) tt env v (pointer key (Core s.number)) (λ y. placed-keeps code.structs m m' keeps (env y) (p.1 y)) word, stack-keeps code.structs m m' keeps under p.2) r g' in
+      let q = ih j.0 (omega (arith, k, j.1)) (steps + 1) (grows code own (works s) key) m'
+      (matches-grows (works s) m (matches-works s m h) key p.0)
+      (Run u i (set env v (pointer key (Core s.number))) under) below (
+        set-of (Placed code.structs m') (λ n. tt) tt env v (pointer key (Core s.number))
+            (λ y. placed-keeps code.structs m m' keeps (env y) (p.1 y)) word,
+        stack-keeps code.structs m m' keeps under p.2,
+      ) r g' in
       record {
         state = q.state;
         items = Stepped (Allocated (Core s.number) key q.items);
@@ -306,7 +329,14 @@ module _ (code : Code) (ok : valid code ≡ true) where
       let word : Placed code.structs m (s.store p) = rw (h.store p) (content-placed code m p h.well cell) in
       let q1 = ih i.0 (omega (arith, k, i.1)) (steps + 1) (works s) m (matches-works s m h) (resumed code u v args (s.store p)) (on under below)
       (given-of (Placed code.structs m) (λ n. tt) tt code u.0 v args (s.store p) Empty a.1 word tt) r g' in
-      let q2 = ih q1.fuel (omega (arith, k, i.1, q1.less, anew-rises q1.anew)) q1.taken q1.state q1.memory q1.matches under below (stack-keeps code.structs m q1.memory q1.keeps under a.2) r q1.later in
+      let q2 = ih q1.fuel (omega (
+        arith,
+        k,
+        i.1,
+        q1.less,
+        anew-rises q1.anew,
+      )) q1.taken q1.state q1.memory q1.matches under below
+      (stack-keeps code.structs m q1.memory q1.keeps under a.2) r q1.later in
       record {
         state = q2.state;
         items = Stepped (WasRead p (s.store p) u v args q1.items q2.items);
@@ -348,13 +378,18 @@ module _ (code : Code) (inputs : List Block) (f : ℕ) (args : List Word) (fits 
   begun-full (Core c) block e = none-some block e
 
   begun-field_if : (z g : ℕ) (block : Block) (t : Bool) → is_struct z block.shape ≡ t
-      → field_in (field_kind code.structs (Struct z) g) (if t then Some block else None) g ≡ field_in (field_kind code.structs (Struct z) g) (if t then Some (plain_block code.structs block) else None) g
+      → field_in (field_kind code.structs (Struct z) g) (if t then Some block else None) g ≡ field_in
+      (field_kind code.structs (Struct z) g) (if t then Some (plain_block code.structs block) else None) g
   begun-field_if z g block false e = refl
   begun-field_if z g block true e =
-      subst (λ shape. plain_word (slice_get (kinds_of_shape code.structs (Struct z)) g) block.words g ≡ plain_word (slice_get (kinds_of_shape code.structs (Struct z)) g) (plain_words (kinds_of_shape code.structs shape) block.words) g)
+      subst (λ shape. plain_word (slice_get (kinds_of_shape code.structs (Struct z)) g) block.words g ≡ plain_word
+      (slice_get (kinds_of_shape code.structs (Struct z)) g)
+      (plain_words (kinds_of_shape code.structs shape) block.words) g)
       (sym (struct-shape z block.shape e)) (plain-same (kinds_of_shape code.structs (Struct z)) block.words g)
 
-  begun-field : (z g : ℕ) (o : Option Block) → field_in (field_kind code.structs (Struct z) g) (of_struct z o) g ≡ field_in (field_kind code.structs (Struct z) g) (of_struct z (option_map (plain_block code.structs) o)) g
+  begun-field : (z g : ℕ) (o : Option Block) → field_in (field_kind code.structs (Struct z) g)
+      (of_struct z o) g ≡ field_in (field_kind code.structs (Struct z) g)
+      (of_struct z (option_map (plain_block code.structs) o)) g
   begun-field z g None = refl
   begun-field z g (Some block) = begun-field_if z g block (is_struct z block.shape) refl
 
@@ -366,12 +401,16 @@ module _ (code : Code) (inputs : List Block) (f : ℕ) (args : List Word) (fits 
   begun-there z None = refl
   begun-there z (Some block) = begun-there_if block (is_struct z block.shape)
 
-  begun-plain-field : (b : BlockId) (z g : ℕ) → field_value code.structs (block_at (record { inputs = inputs; made = [] })) (BlockWord b) z g ≡ field_value code.structs (input_plain code inputs) (BlockWord b) z g
+  begun-plain-field : (b : BlockId) (z g : ℕ) → field_value code.structs
+      (block_at (record { inputs = inputs; made = [] })) (BlockWord b) z g ≡ field_value code.structs
+      (input_plain code inputs) (BlockWord b) z g
   unfolding input_plain
   begun-plain-field (Input i) z g = begun-field z g (slice_get inputs i)
   begun-plain-field (Core c) z g = refl
 
-  begun-plain-address : (b : BlockId) (z g : ℕ) → address_value code.structs (block_at (record { inputs = inputs; made = [] })) (BlockWord b) z g ≡ address_value code.structs (input_plain code inputs) (BlockWord b) z g
+  begun-plain-address : (b : BlockId) (z g : ℕ) → address_value code.structs
+      (block_at (record { inputs = inputs; made = [] })) (BlockWord b) z g ≡ address_value code.structs
+      (input_plain code inputs) (BlockWord b) z g
   unfolding input_plain
   begun-plain-address (Input i) z g = ap (λ t. if is_cell (field_kind code.structs (Struct z) g) && t then place_in (BlockWord (Input i)) g else Null) (begun-there z (slice_get inputs i))
   begun-plain-address (Core c) z g = refl

@@ -202,7 +202,12 @@ module _ (code : Code) where
         go false k e = none-some r e
         go true k e =
             subst (λ r. Adjusts code inputs number old r.items r.work × r.work ≤ n) (some-same (record { items = f.items; work = f.state.work }) r e) (
-              record { after = f.state; fix = fix-sound code own (anew code own (n + 1)) (anew-sound code own (n + 1)) (begins code inputs (plain_of code inputs old) number) old f (sym h); counted = refl },
+              record {
+                after = f.state;
+                fix = fix-sound code own (anew code own (n + 1)) (anew-sound code own (n + 1))
+                    (begins code inputs (plain_of code inputs old) number) old f (sym h);
+                counted = refl;
+              },
               grind (arith, k),
             )
 

@@ -38,7 +38,9 @@ unique-law code inputs f args fits l m r r' h k =
       right = subst (λ memory. MemoryAfter code inputs m k.after memory) (sym is) d'.same;
     }
   where
-    one : (code : Code) (inputs : List Block) (f : ℕ) (args : List Word) (l m : Trace) (s t : Store) (d : Determined code inputs f args l s) (d' : Determined code inputs f args m t) → steps_of l ≡ steps_of m → d.memory ≡ d'.memory
+    one : (code : Code) (inputs : List Block) (f : ℕ) (args : List Word) (l m : Trace) (s t : Store)
+        (d : Determined code inputs f args l s) (d' : Determined code inputs f args m t) → steps_of l ≡ steps_of m
+        → d.memory ≡ d'.memory
     one code inputs f args l m s t d d' e =
         let same = some-same (record { memory = d.memory; steps = steps_of l; blocks = length (blocks_of l) }) (record { memory = d'.memory; steps = steps_of m; blocks = length (blocks_of m) })
         (sym (d.ends (steps_of l) (omega arith)) ∙ d'.ends (steps_of l) (omega (arith, e))) in

@@ -63,7 +63,8 @@ unfolding learnt
 extends-at x b new h c block e = extends-at-if x b c new block (same_block c (Core b)) refl h e
 
 -- and forgets none, where they are distinct and new
-pub plain-from : (code : Code) {y : Plain} {st : Stack} {l : Trace} → Yields code y st l → (x : Plain) → Distinct (core_numbers (blocks_of l)) → ((c : ℕ) → 1 ≤ uses c l → x (Core c) ≡ None) → Extends x (plain_after code x l)
+pub plain-from : (code : Code) {y : Plain} {st : Stack} {l : Trace} → Yields code y st l → (x : Plain) → Distinct
+    (core_numbers (blocks_of l)) → ((c : ℕ) → 1 ≤ uses c l → x (Core c) ≡ None) → Extends x (plain_after code x l)
 plain-from code (Yields.over e) x d n = λ b block e. e
 plain-from code (Yields.quiet e r) x d n = plain-from code r x d n
 plain-from code (Yields.makes {key = key} {b = b} {rest = rest} e h r) x d n =

@@ -52,19 +52,25 @@ if-word inputs bs false v w h k = k
 pub cell-known : (inputs : ℕ) (bs : List ℕ) (kind : Option FieldKind) → KnownWord inputs bs (cell_default kind)
 cell-known inputs bs kind = if-word inputs bs (is_cell kind) (field_default kind) (Num (pos 0)) (field_default-of (KnownWord inputs bs) (λ n. tt) tt kind) tt
 
-pub cleared-known : (code : Code) (inputs : ℕ) (bs : List ℕ) (s : Store) (b : BlockId) (key : Key) → ((p : Place) → KnownWord inputs bs (s p)) → (p : Place) → KnownWord inputs bs (cleared code s b key p)
+pub cleared-known : (code : Code) (inputs : ℕ) (bs : List ℕ) (s : Store) (b : BlockId) (key : Key) →
+    ((p : Place) → KnownWord inputs bs (s p)) → (p : Place) → KnownWord inputs bs (cleared code s b key p)
 unfolding cleared
 cleared-known code inputs bs s b key h p =
-    if-word inputs bs (same_block p.block b) (cell_default (field_kind code.structs (shape_of code key) p.field)) (s p) (cell-known inputs bs (field_kind code.structs (shape_of code key) p.field)) (h p)
+    if-word inputs bs (same_block p.block b) (cell_default (field_kind code.structs (shape_of code key) p.field))
+    (s p) (cell-known inputs bs (field_kind code.structs (shape_of code key) p.field)) (h p)
 
-pub stored-known : (inputs : ℕ) (bs : List ℕ) (s : Store) (q : Place) (v : Word) → ((p : Place) → KnownWord inputs bs (s p)) → KnownWord inputs bs v → (p : Place) → KnownWord inputs bs (stored s q v p)
+pub stored-known : (inputs : ℕ) (bs : List ℕ) (s : Store) (q : Place) (v : Word) →
+    ((p : Place) → KnownWord inputs bs (s p)) → KnownWord inputs bs v → (p : Place) → KnownWord inputs bs
+    (stored s q v p)
 unfolding stored
 stored-known inputs bs s q v h k p = if-word inputs bs (same_place p q) v (s p) k (h p)
 
 pub store-more : (inputs : ℕ) (bs cs : List ℕ) (s : Store) → Subset bs cs → ((p : Place) → KnownWord inputs bs (s p)) → (p : Place) → KnownWord inputs cs (s p)
 store-more inputs bs cs s sub h p = word-more inputs bs cs sub (s p) (h p)
 
-good-clears : (names : ℕ → ℕ) (code : Code) (inputs : ℕ) (bs : List ℕ) (s : State) (b : ℕ) (key : Key) → Good names inputs bs s → Held inputs (b ∷ bs) s.plain (Core b) → Good names inputs (b ∷ bs) (clears code s (Core b) key)
+good-clears : (names : ℕ → ℕ) (code : Code) (inputs : ℕ) (bs : List ℕ) (s : State) (b : ℕ) (key : Key)
+    → Good names inputs bs s → Held inputs (b ∷ bs) s.plain (Core b) → Good names inputs (b ∷ bs)
+    (clears code s (Core b) key)
 good-clears names code inputs bs s b key g h = record {
   plain = holds-with inputs bs s.plain s.plain b g.plain (λ c block e. e) h;
   store = cleared-known code inputs (b ∷ bs) s.store (Core b) key (store-more inputs bs (b ∷ bs) s.store (wider b bs) g.store);
@@ -143,10 +149,14 @@ module _ (names : ℕ → ℕ) (single : Single names) (code : Code) (inputs : �
     took : (bs : List ℕ) (st below : Stack) (key : Key) (v u i b : ℕ) (env : Variables) (d : BlockId) (new left : Trace) (s s' : State)
         → d ≡ Core b → next code y st ≡ Makes key v u i env below → KnownKey inputs bs key → y (Core b) ≡ Some (made code y key) → Good names inputs bs s → Held inputs (b ∷ bs) s.plain (Core b)
         → KnownVariables inputs bs env → KnownStack inputs bs below
-        → (Good names inputs (b ∷ bs) (clears code s d key) → KnownStack inputs (b ∷ bs) (Run u i (set env v (pointer key d)) below) → Left y (b ∷ bs) (Run u i (set env v (pointer key d)) below) new left s')
+        → (Good names inputs (b ∷ bs) (clears code s d key) → KnownStack inputs (b ∷ bs)
+        (Run u i (set env v (pointer key d)) below) → Left y (b ∷ bs)
+        (Run u i (set env v (pointer key d)) below) new left s')
         → Left y bs st (Stepped (Allocated d key new)) left s'
     took bs st below key v u i b env d new left s s' is e kk h g held kv ks =
-        subst (λ d. (Good names inputs (b ∷ bs) (clears code s d key) → KnownStack inputs (b ∷ bs) (Run u i (set env v (pointer key d)) below) → Left y (b ∷ bs) (Run u i (set env v (pointer key d)) below) new left s')
+        subst (λ d. (Good names inputs (b ∷ bs) (clears code s d key) → KnownStack inputs (b ∷ bs)
+        (Run u i (set env v (pointer key d)) below) → Left y (b ∷ bs)
+        (Run u i (set env v (pointer key d)) below) new left s')
         → Left y bs st (Stepped (Allocated d key new)) left s') (sym is) (λ f. go (f (good-clears names code inputs bs s b key g held) (ran-known inputs bs key b v u i env below kv ks)))
       where
         go : Left y (b ∷ bs) (Run u i (set env v (pointer key (Core b))) below) new left s' → Left y bs st (Stepped (Allocated (Core b) key new)) left s'
@@ -222,7 +232,9 @@ module _ (names : ℕ → ℕ) (single : Single names) (code : Code) (inputs : �
           let x = extends-trans s.plain (learnt s.plain (Core (names s.number)) block) y (learnt-extends names s.plain s.number block g.free) x' in
           let a = step-x code inputs y bs s.plain st (Makes key v u i env below) g.plain x k e in
           let h' = pieces-more code s.plain (learnt s.plain (Core (names s.number)) block) y (learnt-extends names s.plain s.number block g.free) old h in
-          let q = anew-plays n ext (names s.number ∷ bs) (good-grows bs (works s) key (good-works names inputs bs s g) a.1.0) (ran-known inputs bs key (names s.number) v u i env below a.1.1 a.1.2) h' in
+          let q = anew-plays n ext (names s.number ∷ bs)
+          (good-grows bs (works s) key (good-works names inputs bs s g) a.1.0)
+          (ran-known inputs bs key (names s.number) v u i env below a.1.1 a.1.2) h' in
           let there' : y (Core (names s.number)) ≡ Some (made code y key) =
           x' (Core (names s.number)) block (learnt-here s.plain (Core (names s.number)) block) ∙ ap Some (same-made code inputs y bs s.plain key g.plain x a.1.0) in
           record { known = q.known; mentions = Mentions.step (Mentions.alloc a.1.0 q.mentions); yields = Yields.makes a.0 there' q.yields; good = q.good; left = q.left }
@@ -239,7 +251,15 @@ module _ (names : ℕ → ℕ) (single : Single names) (code : Code) (inputs : �
           let d = take-read code s.plain y p u v args old h r w in
           let q1 = mend-plays m xt bs (good-works names inputs bs s g) d.yields a.1.1 d.inside in
           let q2 = anew-plays n ext q1.known q1.good (stack-more inputs bs q1.known (mentions-subset q1.mentions) below a.1.2) (pieces-more code s.plain t.plain y gm.plain r.leftover d.left) in
-          record { known = q2.known; mentions = Mentions.step (Mentions.read a.1.0 (g.store p) a.1.1 q1.mentions q2.mentions); yields = Yields.reads a.0 q1.yields q2.yields; good = q2.good; left = q2.left }
+          record {
+            known = q2.known;
+            mentions = Mentions.step
+                (Mentions.read a.1.0 (g.store p) a.1.1 q1.mentions q2.mentions);
+            yields =
+                Yields.reads a.0 q1.yields q2.yields;
+            good = q2.good;
+            left = q2.left;
+          }
       anew-plays {s} {s'} {st} {old} (Anew.reads {t = t} {below = below} {p = p} {u = u} {v = v} {args = args} e w m n) ext bs g k h =
           let gm = anew-grows single m g.free in
           let xt = extends-trans t.plain s'.plain y (anew-grows single n gm.free).plain ext in
@@ -247,4 +267,12 @@ module _ (names : ℕ → ℕ) (single : Single names) (code : Code) (inputs : �
           let a = step-x code inputs y bs s.plain st (Reads p u v args below) g.plain x k e in
           let q1 = anew-plays m xt bs (good-works names inputs bs s g) (given-known inputs bs code u.0 v args (s.store p) Empty a.1.1 (g.store p) tt) h in
           let q2 = anew-plays n ext q1.known q1.good (stack-more inputs bs q1.known (mentions-subset q1.mentions) below a.1.2) q1.left in
-          record { known = q2.known; mentions = Mentions.step (Mentions.read a.1.0 (g.store p) a.1.1 q1.mentions q2.mentions); yields = Yields.reads a.0 q1.yields q2.yields; good = q2.good; left = q2.left }
+          record {
+            known = q2.known;
+            mentions = Mentions.step
+                (Mentions.read a.1.0 (g.store p) a.1.1 q1.mentions q2.mentions);
+            yields =
+                Yields.reads a.0 q1.yields q2.yields;
+            good = q2.good;
+            left = q2.left;
+          }

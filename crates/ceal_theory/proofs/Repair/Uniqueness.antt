@@ -52,7 +52,9 @@ module _ (code : Code) (x y : Plain) (big : Pairs) (one : OneToOne big) where
   joined (Told.quiet r) ps w pl (ActAlike.quiet k) (Told.quiet r') st (Honest.step h) (Honest.step h') bs cs z =
       let q = joined r ps w pl (nexts ps w pl k) r' st h h' bs cs z in
       record { after = q.after; wider = q.wider; within = q.within; plain = q.plain; trace = TraceAlike.stepped q.trace; store = q.store; rest = q.rest }
-  joined (Told.makes {key = key} {v = v} {u = u} {i = i} {env = env} {below = below} {b = b} {rest = rest} e r) ps w pl (ActAlike.makes {k' = key'} {env' = env'} {st' = below'} kk kv ks) (Told.makes {b = c} {rest = rest'} e' r')
+  joined (Told.makes {key = key} {v = v} {u = u} {i = i} {env = env} {below = below} {b = b} {rest =
+      rest} e r) ps w pl (ActAlike.makes {k' = key'} {env' = env'} {st' = below'} kk kv ks)
+      (Told.makes {b = c} {rest = rest'} e' r')
       {s} {s'} {t} {t'} st (Honest.step (Honest.alloc h)) (Honest.step (Honest.alloc h')) bs cs z =
       let qs : Pairs = record { left = b; right = c } ∷ ps in
       let more : Within ps qs = more-pair (record { left = b; right = c }) ps in
@@ -71,7 +73,8 @@ module _ (code : Code) (x y : Plain) (big : Pairs) (one : OneToOne big) where
         store = q.store;
         rest = q.rest;
       }
-  joined (Told.writes {p = p} {value = v} r) ps w pl (ActAlike.writes {q = p'} {w = v'} kp kv ks) (Told.writes r') {s} {s'} {t} {t'} st (Honest.step (Honest.write h)) (Honest.step (Honest.write h')) bs cs z =
+  joined (Told.writes {p = p} {value = v} r) ps w pl (ActAlike.writes {q = p'} {w = v'} kp kv ks)
+      (Told.writes r') {s} {s'} {t} {t'} st (Honest.step (Honest.write h)) (Honest.step (Honest.write h')) bs cs z =
       let o = one-within ps big w one in
       let q = joined r ps w pl (nexts ps w pl ks) r' (stored-alike ps o s t p p' v v' st kp kv) h h' bs cs z in
       record {
@@ -83,7 +86,9 @@ module _ (code : Code) (x y : Plain) (big : Pairs) (one : OneToOne big) where
         store = q.store;
         rest = q.rest;
       }
-  joined (Told.reads {below = below} {p = p} {u = u} {v = n} {args = args} {value = v} {inside = i} {rest = l} r1 r2) ps w pl (ActAlike.reads {q = p'} {ws = args'} {st' = below'} kp ka ks) (Told.reads {value = v'} {inside = j} {rest = m} r1' r2')
+  joined (Told.reads {below = below} {p = p} {u = u} {v = n} {args = args} {value = v} {inside = i} {rest =
+      l} r1 r2) ps w pl (ActAlike.reads {q = p'} {ws = args'} {st' = below'} kp ka ks)
+      (Told.reads {value = v'} {inside = j} {rest = m} r1' r2')
       {s} {s'} {t} {t'} st (Honest.step (Honest.read e h1 h2)) (Honest.step (Honest.read e' h1' h2')) bs cs z =
       let kv : WordAlike ps v v' = rw (e, e') at (st p p' kp) in
       let z' : Within (zipped (core_numbers (blocks_of i) ++ (core_numbers (blocks_of l) ++ bs)) (core_numbers (blocks_of j) ++ (core_numbers (blocks_of m) ++ cs))) big =
@@ -112,7 +117,10 @@ inputs-alike code inputs fit r r' ps none b c (IdAlike.core {b = d} {c = e} t) =
 
 module _ (code : Code) (inputs : List Block) (f : ℕ) (args : List Word) (fits : Fits code inputs f args)
     (l m : Trace) (r : Replays code inputs f args l) (r' : Replays code inputs f args m) (h : IsHonest code inputs l) (h' : IsHonest code inputs m) where
-  pub both : Joined code (plain_of code inputs l) (plain_of code inputs m) (zipped (core_numbers (blocks_of l)) (core_numbers (blocks_of m))) (zip-one (core_numbers (blocks_of l)) (core_numbers (blocks_of m)) r.distinct r'.distinct) [] l m h.after h'.after [] []
+  pub both : Joined code (plain_of code inputs l) (plain_of code inputs m)
+      (zipped (core_numbers (blocks_of l)) (core_numbers (blocks_of m)))
+      (zip-one (core_numbers (blocks_of l)) (core_numbers
+      (blocks_of m)) r.distinct r'.distinct) [] l m h.after h'.after [] []
   both =
       let o = zip-one (core_numbers (blocks_of l)) (core_numbers (blocks_of m)) r.distinct r'.distinct in
       let pl = inputs-alike code inputs fits.blocks r.yields r'.yields [] (λ b c t. elim t [ ]) in

@@ -133,7 +133,8 @@ read-followed p u x ws (Wrote q v rest) g = read-followed p u x ws rest g
 read-followed p u x ws (WasRead q v w y args inside rest) g =
     if-then-read v inside rest g (same_read q w y args p u x ws)
     (read_then (followed rest g) (take_read p u x ws inside) (take_read p u x ws (followed rest g))) (read_then rest (take_read p u x ws inside) (take_read p u x ws rest)) (take_read p u x ws g)
-    (ap (λ o. read_then (followed rest g) (take_read p u x ws inside) o) (read-followed p u x ws rest g) ∙ then-then-read rest g (take_read p u x ws inside) (take_read p u x ws rest) (take_read p u x ws g))
+    (ap (λ o. read_then (followed rest g) (take_read p u x ws inside) o) (read-followed p u x ws rest g)
+    ∙ then-then-read rest g (take_read p u x ws inside) (take_read p u x ws rest) (take_read p u x ws g))
 
 if-found-read : (v : Word) (is : List Item) (n : ℕ) (t : Bool) (a : Option TakenRead) (c : Option FoundRead) → a ≡ taken_read c
     → (if t then Some (record { value = v; inside = first (levels is); leftover = loose n (around (levels is)) }) else a)

@@ -36,7 +36,8 @@ module _ (code : Code) (n : ℕ) (ds : List ℕ) where
     made-more : (key : Key) → KnownKey n ds key → made code x key ≡ made code y key
     made-more key k = made-same n ds x h y (agrees n ds x y h ext) code key k
 
-  pub run-known : (key : Key) (b v u i : ℕ) (env : Variables) (below : Stack) → In b ds → KnownVariables n ds env → KnownStack n ds below → KnownStack n ds (Run u i (set env v (pointer key (Core b))) below)
+  pub run-known : (key : Key) (b v u i : ℕ) (env : Variables) (below : Stack) → In b ds → KnownVariables n ds env
+      → KnownStack n ds below → KnownStack n ds (Run u i (set env v (pointer key (Core b))) below)
   run-known key b v u i env below j h k = (set-known n ds env v (pointer key (Core b)) h (pointer-known n ds key (Core b) j), k)
 
   pub told-more : (x y : Plain) → Holds n ds x → Extends x y → {a : Act} {l : Trace} → Told code x a l → KnownAct n ds a → Sure code n ds x l → Told code y a l

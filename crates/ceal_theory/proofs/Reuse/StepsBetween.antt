@@ -45,7 +45,8 @@ pub record ReadToo (p : Place) (u : UnitId) (v : ℕ) (args : List Word) (m : Tr
   pub taken : take_read p u v args m ≡ Some (record t { leftover = left })
   pub same : bare t.leftover ≡ bare left
 
-read-of : (p : Place) (u : UnitId) (v : ℕ) (args : List Word) (m : Trace) (t : TakenRead) (o : Option TakenRead) → take_read p u v args m ≡ o → Some (record t { leftover = bare t.leftover }) ≡ bare_read o
+read-of : (p : Place) (u : UnitId) (v : ℕ) (args : List Word) (m : Trace) (t : TakenRead) (o : Option TakenRead)
+    → take_read p u v args m ≡ o → Some (record t { leftover = bare t.leftover }) ≡ bare_read o
     → ReadToo p u v args m t
 read-of p u v args m t None e h = none-some (record t { leftover = bare t.leftover }) (sym h)
 read-of p u v args m t (Some q) e h =
@@ -97,7 +98,8 @@ module _ (code : Code) (names : ℕ → ℕ) where
       let q' = anew-bare a q.over q.same in
       record { over = q'.over; anew = Anew.reads e (read-none p u v args l m h w) q.anew q'.anew; same = q'.same }
 
-  pub resumes-bare : {s s' : State} {l : Trace} {fs : Frames} {out : List Item} → Resumes code names s l fs s' out → (m : Trace) → bare l ≡ bare m → {gs : Frames} → BareFrames fs gs → Resumes code names s m gs s' out
+  pub resumes-bare : {s s' : State} {l : Trace} {fs : Frames} {out : List Item} → Resumes code names s l fs s' out →
+      (m : Trace) → bare l ≡ bare m → {gs : Frames} → BareFrames fs gs → Resumes code names s m gs s' out
   resumes-bare Resumes.bottom m h BareFrames.bottom = Resumes.bottom
   resumes-bare (Resumes.after_fix f r) m h (BareFrames.after_fix g) = Resumes.after_fix f (resumes-bare r _ refl g)
   resumes-bare (Resumes.after_mend a r) m h (BareFrames.after_mend {m = n} e g) = let q = anew-bare a n e in Resumes.after_mend q.anew (resumes-bare r q.over q.same g)

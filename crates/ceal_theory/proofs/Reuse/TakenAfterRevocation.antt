@@ -32,7 +32,9 @@ bare-stepped (suc n) t = bare-stepped n t
 
 bare-then : (rest : Trace) (a c c' : Option TakenAlloc) → bare_alloc c ≡ bare_alloc c' → bare_alloc (alloc_then (bare rest) a c) ≡ bare_alloc (alloc_then rest a c')
 bare-then rest None c c' e = e
-bare-then rest (Some t) c c' e = ap (λ l. Some (record t { leftover = l })) (bare-followed t.leftover (bare rest) ∙ (ap (λ r. followed (bare t.leftover) r) (bare-bare rest) ∙ sym (bare-followed t.leftover rest)))
+bare-then rest (Some t) c c' e = ap (λ l. Some (record t { leftover = l }))
+    (bare-followed t.leftover (bare rest) ∙ (ap (λ r. followed (bare t.leftover) r) (bare-bare rest) ∙ sym
+    (bare-followed t.leftover rest)))
 
 bare-if : (b : Bool) (block : BlockId) (rest : Trace) (c c' : Option TakenAlloc) → bare_alloc c ≡ bare_alloc c'
     → bare_alloc (if b then Some (record { block = block; leftover = bare rest }) else c) ≡ bare_alloc (if b then Some (record { block = block; leftover = rest }) else c')
@@ -50,7 +52,9 @@ bare-take key (WasRead p v u x args inside rest) = bare-then rest (take_alloc ke
 
 bare-then-read : (rest : Trace) (a c c' : Option TakenRead) → bare_read c ≡ bare_read c' → bare_read (read_then (bare rest) a c) ≡ bare_read (read_then rest a c')
 bare-then-read rest None c c' e = e
-bare-then-read rest (Some t) c c' e = ap (λ l. Some (record t { leftover = l })) (bare-followed t.leftover (bare rest) ∙ (ap (λ r. followed (bare t.leftover) r) (bare-bare rest) ∙ sym (bare-followed t.leftover rest)))
+bare-then-read rest (Some t) c c' e = ap (λ l. Some (record t { leftover = l }))
+    (bare-followed t.leftover (bare rest) ∙ (ap (λ r. followed (bare t.leftover) r) (bare-bare rest) ∙ sym
+    (bare-followed t.leftover rest)))
 
 bare-if-read : (b : Bool) (v : Word) (inside rest : Trace) (c c' : Option TakenRead) → bare_read c ≡ bare_read c'
     → bare_read (if b then Some (record { value = v; inside = inside; leftover = bare rest }) else c) ≡ bare_read (if b then Some (record { value = v; inside = inside; leftover = rest }) else c')
@@ -64,7 +68,9 @@ bare-take-read p u x args (Stepped rest) = bare-take-read p u x args rest
 bare-take-read p u x args (Allocated b k rest) = bare-take-read p u x args rest
 bare-take-read p u x args (Wrote q v rest) = bare-take-read p u x args rest
 bare-take-read p u x args (WasRead q v w y words inside rest) =
-    bare-if-read (same_read q w y words p u x args) v inside rest (read_then (bare rest) (take_read p u x args inside) (take_read p u x args (bare rest))) (read_then rest (take_read p u x args inside) (take_read p u x args rest))
+    bare-if-read (same_read q w y words p u x args) v inside rest
+    (read_then (bare rest) (take_read p u x args inside) (take_read p u x args (bare rest)))
+    (read_then rest (take_read p u x args inside) (take_read p u x args rest))
     (bare-then-read rest (take_read p u x args inside) (take_read p u x args (bare rest)) (take_read p u x args rest) (bare-take-read p u x args rest))
 
 -- the trace of nodes that were parts
@@ -77,7 +83,8 @@ trace-joined Bare g = refl
 trace-joined (Made s b key n rest) g = ap (λ t. Allocated b key (stepped n t)) (trace-joined rest g) ∙ ap (Allocated b key) (sym (stepped-followed n (trace_in rest) (trace_in g)))
 trace-joined (Put s p v n rest) g = ap (λ t. Wrote p v (stepped n t)) (trace-joined rest g) ∙ ap (Wrote p v) (sym (stepped-followed n (trace_in rest) (trace_in g)))
 trace-joined (Got s p v u x args n inside e m rest) g =
-    ap (λ t. WasRead p v u x args (stepped n (trace_in inside)) (stepped m t)) (trace-joined rest g) ∙ ap (WasRead p v u x args (stepped n (trace_in inside))) (sym (stepped-followed m (trace_in rest) (trace_in g)))
+    ap (λ t. WasRead p v u x args (stepped n (trace_in inside)) (stepped m t)) (trace-joined rest g) ∙ ap
+    (WasRead p v u x args (stepped n (trace_in inside))) (sym (stepped-followed m (trace_in rest) (trace_in g)))
 
 take-stepped : (key : Key) (n : ℕ) (t : Trace) → take_alloc key (stepped n t) ≡ take_alloc key t
 unfolding take_alloc

@@ -152,9 +152,12 @@ carried-slice-law code names inputs f args fits r q hr hq next h k n =
     of (sliced code own inputs k n r) (sliced code names inputs k n q) refl refl
     (slice-renamed code inputs fits.blocks own names hr.single hq.single h.pairs r q (alike code names inputs f args fits r q hr hq next h) k n)
   where
-    of : (o p : Option Repair) → sliced code own inputs k n r ≡ o → sliced code names inputs k n q ≡ p → RenamedSlices code own names inputs h.pairs r q (sliced code own inputs k n r) (sliced code names inputs k n q)
+    of : (o p : Option Repair) → sliced code own inputs k n r ≡ o → sliced code names inputs k n q ≡ p
+        → RenamedSlices code own names inputs h.pairs r q (sliced code own inputs k n r)
+        (sliced code names inputs k n q)
         → CarriedSlices code inputs next o p
-    of o p e e' s = at o p e e' (subst (λ z. RenamedSlices code own names inputs h.pairs r q o z) e' (subst (λ z. RenamedSlices code own names inputs h.pairs r q z (sliced code names inputs k n q)) e s))
+    of o p e e' s = at o p e e' (subst (λ z. RenamedSlices code own names inputs h.pairs r q o z) e'
+        (subst (λ z. RenamedSlices code own names inputs h.pairs r q z (sliced code names inputs k n q)) e s))
       where
         at : (o p : Option Repair) → sliced code own inputs k n r ≡ o → sliced code names inputs k n q ≡ p → RenamedSlices code own names inputs h.pairs r q o p → CarriedSlices code inputs next o p
         at None None e e' RenamedSlices.none = CarriedSlices.none
@@ -163,7 +166,8 @@ carried-slice-law code names inputs f args fits r q hr hq next h k n =
         at (Some r') (Some q') e e' (RenamedSlices.some qs wide a from) =
             let sr = ((slices-law code own inputs k n r r').0 e).0 in
             let sq = ((slices-law code names inputs k n q q').0 e').0 in
-            CarriedSlices.some (carried code names inputs f args fits r q hr hq next h k n r' q' sr sq qs wide a from) (both-done code names inputs f args fits r q hr hq next h k n r' q' sr sq qs wide a from)
+            CarriedSlices.some (carried code names inputs f args fits r q hr hq next h k n r' q' sr sq qs wide a from)
+            (both-done code names inputs f args fits r q hr hq next h k n r' q' sr sq qs wide a from)
 
 -- ---- inputs that extend
 
@@ -251,13 +255,15 @@ carried-same-law code inputs next r q p h items known spent = record {
 
 -- ---- traces that are renamed
 
-pub edited-so : (code : Code) (inputs : List Block) (f : ℕ) (args : List Word) → Fits code inputs f args → (l : Trace) → Replays code inputs f args l → (n : ℕ) → Above n l → Edited code inputs inputs f args l n
+pub edited-so : (code : Code) (inputs : List Block) (f : ℕ) (args : List Word) → Fits code inputs f args → (l : Trace)
+    → Replays code inputs f args l → (n : ℕ) → Above n l → Edited code inputs inputs f args l n
 edited-so code inputs f args fits l replays n above = record { call = fits; fit = fits.blocks; extended = λ i block e. rw e refl; trace = replays; above = above }
 
 pub carried-trace-law : CarriedTraceLaw
 unfolding plain_of
 carried-trace-law code inputs f args fits l m rl rm ps one t number other al am =
-    of (walk-too (length inputs) ps one code (λ b. 1 ≤ uses b l) (λ c. 1 ≤ uses c m) rl.mentions t [] (λ b c i. elim i [ ]) (λ b i. elim i [ ]) (input_plain code inputs) (input_plain code inputs) plain
+    of (walk-too (length inputs) ps one code (λ b. 1 ≤ uses b l) (λ c. 1 ≤ uses c m) rl.mentions t []
+    (λ b c i. elim i [ ]) (λ b i. elim i [ ]) (input_plain code inputs) (input_plain code inputs) plain
     (λ b c i. elim i [ ]) (λ b c i. elim i [ ]) (λ b e. e) (λ c e. e))
   where
     plain : PlainAlike code.structs [] (input_plain code inputs) (input_plain code inputs)

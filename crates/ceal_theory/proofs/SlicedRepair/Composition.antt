@@ -61,12 +61,16 @@ module _ {names : ℕ → ℕ} (code : Code) where
   join (Part.alloc f) (Part.alloc g) = Part.alloc (join f g)
   join (Part.write f) (Part.write g) = Part.write (join f g)
   join (Part.kept {i = zero} e f1 Part.stays) (Part.kept e' g1 g2) = Part.kept e (join f1 g1) g2
-  join {k} {j} {i} {s} {t} {s'} (Part.kept {k = k1} {i = suc c} {t = t1} {p = p} {value = value} {u = u} {v = v} {args = args} {inside = o} {inside' = o'} {rest = l} {rest' = l'} e f1 f2) (Part.kept {i = d} {t = t2} {inside' = o''} {rest' = l''} e' g1 g2) =
+  join {k} {j} {i} {s} {t} {s'} (Part.kept {k = k1} {i = suc c} {t = t1} {p = p} {value = value} {u = u} {v =
+      v} {args = args} {inside = o} {inside' = o'} {rest = l} {rest' = l'} e f1 f2)
+      (Part.kept {i = d} {t = t2} {inside' = o''} {rest' = l''} e' g1 g2) =
       let q = walk-part (part-honest f1) t j g1 in
       let g2' : Part code names (suc j) (with_store t t1.store) l' i s' l'' = subst (λ z. Part code names (suc j) z l' i s' l'') q.state (subst (λ k. Part code names k t2 l' i s' l'') q.left g2) in
       subst (λ z. Part code names (beyond (suc k1) (suc j)) s (WasRead p value u v args o l) i s' (WasRead p (s.store p) u v args z l'')) (sym q.items)
       (Part.kept e (part-plus f1 (suc j)) (join f2 g2'))
-  join {k} {j} {i} {s} {t} {s'} (Part.stale {k = k1} {t = t1} {p = p} {value = value} {u = u} {v = v} {args = args} {inside = o} {inside' = o'} {rest = l} {rest' = l'} apart' a f) (Part.kept {i = d} {t = t2} {inside' = o''} {rest' = l''} e' g1 g2) =
+  join {k} {j} {i} {s} {t} {s'} (Part.stale {k = k1} {t = t1} {p = p} {value = value} {u = u} {v = v} {args =
+      args} {inside = o} {inside' = o'} {rest = l} {rest' = l'} apart' a f)
+      (Part.kept {i = d} {t = t2} {inside' = o''} {rest' = l''} e' g1 g2) =
       let q = walk-part (anew-honest a) t j g1 in
       let g2' : Part code names (suc j) (with_store t t1.store) l' i s' l'' = subst (λ z. Part code names (suc j) z l' i s' l'') q.state (subst (λ k. Part code names k t2 l' i s' l'') q.left g2) in
       subst (λ z. Part code names (beyond (suc k1) (suc j)) s (WasRead p value u v args o l) i s' (WasRead p (s.store p) u v args z l'')) (sym q.items)

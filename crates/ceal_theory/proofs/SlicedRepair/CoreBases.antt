@@ -64,7 +64,10 @@ module _ (names : ℕ → ℕ) (single : Single names) (code : Code) (n : ℕ) (
       let a = step-y code n y bs s.plain st (Writes p value after) g.plain x k e in
       let q = part-in-order f ext bs (good-puts code names n bs s p value g a.1) after r a.2 h (stored t p value) (stored-same n bs s.store t p value w) in
       record { known = q.known; sub = q.sub; good = q.good; after = q.after; part = Part.step (Part.write q.part); same = q.same }
-  part-in-order {s = s} {s' = s'} {new = new} (Part.step (Part.kept {k = k1} {j = j1} {t = s1} {inside' = o'} {rest' = l'} same f1 f2)) ext bs g st (Yields.reads {below = below} {p = p} {u = u} {v = v} {args = args} {value = value} {inside = o} {rest = l} e r1 r2) k h t w =
+  part-in-order {s = s} {s' = s'} {new = new}
+      (Part.step (Part.kept {k = k1} {j = j1} {t = s1} {inside' = o'} {rest' = l'} same f1 f2)) ext bs g st
+      (Yields.reads {below = below} {p = p} {u = u} {v = v} {args = args} {value = value} {inside = o} {rest =
+      l} e r1 r2) k h t w =
       let g1 = part-grows single f1 g.free in
       let xt = extends-trans s1.plain s'.plain y (part-grows single f2 g1.free).plain ext in
       let x = extends-trans s.plain s1.plain y g1.plain xt in
@@ -72,7 +75,8 @@ module _ (names : ℕ → ℕ) (single : Single names) (code : Code) (n : ℕ) (
       let kv : KnownWord n bs value = subst (KnownWord n bs) same (g.store p) in
       let q1 = part-in-order f1 xt bs g (resumed code u v args value) r1 (given-known n bs code u.0 v args value Empty a.1 kv tt) h.1 t w in
       let q2 = part-in-order f2 ext q1.known q1.good below r2 (stack-more n bs q1.known q1.sub below a.2) (pieces-more code s.plain s1.plain y g1.plain l h.2) q1.after q1.same in
-      let z : Part code names (suc k1) (with_store s t) (WasRead p value u v args o l) j1 (with_store s' q2.after) (WasRead p (t p) u v args o' l') = Part.kept (sym (w p a.0) ∙ same) q1.part q2.part in
+      let z : Part code names (suc k1) (with_store s t) (WasRead p value u v args o l) j1 (with_store s' q2.after)
+      (WasRead p (t p) u v args o' l') = Part.kept (sym (w p a.0) ∙ same) q1.part q2.part in
       record {
         known = q2.known;
         sub = λ b i. q2.sub b (q1.sub b i);
@@ -81,7 +85,10 @@ module _ (names : ℕ → ℕ) (single : Single names) (code : Code) (n : ℕ) (
         part = Part.step (subst (λ z. Part code names (suc k1) (with_store s t) (WasRead p value u v args o l) j1 (with_store s' q2.after) (WasRead p z u v args o' l')) (sym (w p a.0)) z);
         same = q2.same;
       }
-  part-in-order {s = s} {s' = s'} (Part.step (Part.stale {k = k1} {j = j1} {t = s1} {inside' = o'} {left = left} {rest' = l'} apart' f1 f2)) ext bs g st (Yields.reads {below = below} {p = p} {u = u} {v = v} {args = args} {value = value} {inside = o} {rest = l} e r1 r2) k h t w =
+  part-in-order {s = s} {s' = s'} (Part.step
+      (Part.stale {k = k1} {j = j1} {t = s1} {inside' = o'} {left = left} {rest' = l'} apart' f1 f2)) ext bs g st
+      (Yields.reads {below = below} {p = p} {u = u} {v = v} {args = args} {value = value} {inside = o} {rest =
+      l} e r1 r2) k h t w =
       let g1 = anew-grows single f1 g.free in
       let xt = extends-trans s1.plain s'.plain y (part-grows single f2 g1.free).plain ext in
       let x = extends-trans s.plain s1.plain y g1.plain xt in
@@ -90,8 +97,11 @@ module _ (names : ℕ → ℕ) (single : Single names) (code : Code) (n : ℕ) (
       let q1 = anew-again code names n f1 m.mentions t w in
       let sub1 : Subset bs m.known = mentions-subset m.mentions in
       let q2 = part-in-order f2 ext m.known m.good below r2 (stack-more n bs m.known sub1 below a.2) (pieces-more code s.plain s1.plain y g1.plain l h.2) q1.after q1.same in
-      let a' : Anew code names (with_store s t) (resumed code u v args (t p)) o (with_store s1 q1.after) o' left = subst (λ z. Anew code names (with_store s t) (resumed code u v args z) o (with_store s1 q1.after) o' left) (w p a.0) q1.anew in
-      let z : Part code names (suc k1) (with_store s t) (WasRead p value u v args o l) j1 (with_store s' q2.after) (WasRead p (t p) u v args o' l') = Part.stale (λ i. apart' (w p a.0 ∙ i)) a' q2.part in
+      let a' : Anew code names (with_store s t) (resumed code u v args (t p)) o (with_store s1 q1.after) o' left =
+      subst (λ z. Anew code names (with_store s t) (resumed code u v args z) o (with_store s1 q1.after) o' left)
+      (w p a.0) q1.anew in
+      let z : Part code names (suc k1) (with_store s t) (WasRead p value u v args o l) j1 (with_store s' q2.after)
+      (WasRead p (t p) u v args o' l') = Part.stale (λ i. apart' (w p a.0 ∙ i)) a' q2.part in
       record {
         known = q2.known;
         sub = λ b i. q2.sub b (sub1 b i);
@@ -117,7 +127,8 @@ module _ {names : ℕ → ℕ} (code : Code) (inputs : List Block) (f : ℕ) (ar
     part-over : (k j : ℕ) (s' : State) (m : Trace) → Part code names k (from_store s) r.items j s' m → (a : Store) × Part code names k (from_store t) r.items j (with_store s' a) m
     part-over k j s' m p =
         let ext = (part-grows h.single p begins-good.free).plain in
-        let y = uses-yields code (length inputs) h.blocks (with_inputs code inputs r.known) s'.plain h.holds (agrees (length inputs) h.blocks (with_inputs code inputs r.known) s'.plain h.holds ext) h.yields
+        let y = uses-yields code (length inputs) h.blocks (with_inputs code inputs r.known) s'.plain h.holds
+        (agrees (length inputs) h.blocks (with_inputs code inputs r.known) s'.plain h.holds ext) h.yields
         (start-known code inputs f args fits r h h.blocks) h.uses in
         let q = part-in-order names h.single code (length inputs) s'.plain p (λ b block e. e) [] begins-good (started code f args) y (start-known code inputs f args fits r h [])
         (uses-pieces code (length inputs) h.blocks (with_inputs code inputs r.known) s'.plain h.holds ext y h.uses) t same in

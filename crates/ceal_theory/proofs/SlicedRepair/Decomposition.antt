@@ -58,7 +58,8 @@ module _ (code : Code) (names : ℕ → ℕ) where
       → Rattle.ceal_code.specs.Replay.Honest code s.store o' t1.store → o'' ≡ o' → Part code names (suc j) (with_store t t1.store) l' i s' l''
       → Part code names (suc j) (with_store t s.store) (WasRead p (s.store p) u v args o' l') i s' (WasRead p (s.store p) u v args o'' l'')
   rest-kept j i d s t t1 t2 s' p u v args o' o'' l' l'' h e f =
-      subst (λ z. Part code names (suc j) (with_store t s.store) (WasRead p (s.store p) u v args o' l') i s' (WasRead p (s.store p) u v args z l'')) (sym e) (Part.kept refl (honest-part code names h t j) f)
+      subst (λ z. Part code names (suc j) (with_store t s.store) (WasRead p (s.store p) u v args o' l') i s'
+      (WasRead p (s.store p) u v args z l'')) (sym e) (Part.kept refl (honest-part code names h t j) f)
 
   moved-part : (b b' i : ℕ) (t1 t2 s' : State) (l n : Trace) → b' ≡ b → t2 ≡ t1 → Part code names b' t2 l i s' n → Part code names b t1 l i s' n
   moved-part b b' i t1 t2 s' l n e e' f = subst (λ z. Part code names z t1 l i s' n) e (subst (λ z. Part code names b' z l i s' n) e' f)
@@ -69,28 +70,38 @@ module _ (code : Code) (names : ℕ → ℕ) where
   split (Part.alloc f) (Part.alloc g) = Part.alloc (split f g)
   split (Part.write f) (Part.write g) = Part.write (split f g)
   split (Part.kept {i = zero} e f1 Part.stays) (Part.kept e' g1 g2) = Part.kept refl (split f1 g1) g2
-  split {k} {j} {i} {s} {t} {s'} (Part.kept {k = k1} {i = suc c} {t = t1} {p = p} {u = u} {v = v} {args = args} {inside' = o'} {rest = l} {rest' = l'} e f1 f2) (Part.kept {i = d} {t = t2} {inside' = o''} {rest' = l''} e' g1 g2) =
+  split {k} {j} {i} {s} {t} {s'} (Part.kept {k = k1} {i = suc c} {t = t1} {p = p} {u = u} {v = v} {args =
+      args} {inside' = o'} {rest = l} {rest' = l'} e f1 f2)
+      (Part.kept {i = d} {t = t2} {inside' = o''} {rest' = l''} e' g1 g2) =
       let q = part-one g1 (part-plus code f1 (suc j)) in
       rest-kept j i d s t t1 t2 s' p u v args o' o'' l' l'' (part-honest code f1) q.items (split f2 (moved-part (beyond (suc c) (suc j)) d i t1 t2 s' l l'' q.lefts q.states g2))
-  split {k} {j} {i} {s} {t} {s'} (Part.stale {k = k1} {t = t1} {p = p} {u = u} {v = v} {args = args} {inside' = o'} {rest = l} {rest' = l'} apart' a f) (Part.stale {t = t2} {inside' = o''} {rest' = l''} n b g) =
+  split {k} {j} {i} {s} {t} {s'} (Part.stale {k = k1} {t = t1} {p = p} {u = u} {v = v} {args = args} {inside' =
+      o'} {rest = l} {rest' = l'} apart' a f) (Part.stale {t = t2} {inside' = o''} {rest' = l''} n b g) =
       let q = anew-one b a in
       rest-kept j i k1 s t t1 t2 s' p u v args o' o'' l' l'' (anew-honest a) q.items (split f (moved-part (beyond k1 (suc j)) (beyond k1 (suc j)) i t1 t2 s' l l'' refl q.states g))
   split (Part.kept e f1 f2) (Part.stale n b g) = absurd (n e)
   split (Part.stale n a f) (Part.kept e g1 g2) = absurd (n e)
 
 module _ {names : ℕ → ℕ} (code : Code) (inputs : List Block) (f : ℕ) (args : List Word) (fits : Fits code inputs f args) (r : Repair) (h : Sound code names inputs f args r) where
-  module _ (k i : ℕ) (t : State) (m : Trace) (p : Part code names k (goes_on code inputs r) r.items zero t m) (j : ℕ) (s' : State) (n : Trace) (g : Part code names (beyond k (suc j)) (goes_on code inputs r) r.items i s' n) where
+  module _ (k i : ℕ) (t : State) (m : Trace) (p : Part code names k (goes_on code inputs r) r.items zero t m) (j : ℕ)
+      (s' : State) (n : Trace) (g : Part code names (beyond k (suc j)) (goes_on code inputs r) r.items i s' n) where
     -- the part that comes after a first one
     pub part-after : (a : Store) × Part code names (suc j) (goes_on code inputs (repair_at t m)) m i (with_store s' a) n
     part-after =
         let ext = grown code inputs f args fits r h k zero t m p in
         let x = to-later code inputs f args fits r h k zero t m p t.plain ext in
         let y = to-later code inputs f args fits r h (beyond k (suc j)) i s' n g t.plain ext in
-        let z : Part code names (suc j) (with_store t (starting code inputs t.plain)) m i (with_store s' y.0) n = split code names x.1 y.1 in
-        (y.0, subst (λ x. Part code names (suc j) (record { store = starting code inputs t.plain; plain = x; number = t.number; work = t.work }) m i (with_store s' y.0) n) (sym (same-plain code inputs f args fits r h k zero t m p)) z)
+        let z : Part code names (suc j) (with_store t (starting code inputs t.plain)) m i (with_store s' y.0) n = split code names x.1 y.1 in (
+          y.0,
+          subst (λ x. Part code names (suc j)
+              (record { store = starting code inputs t.plain; plain = x; number = t.number; work = t.work }) m i
+              (with_store s' y.0) n) (sym (same-plain code inputs f args fits r h k zero t m p)) z,
+        )
 
   -- a slice after a first one that used up its reads
-  pub runs-after : (k : ℕ) (t : State) (m : Trace) → Part code names k (goes_on code inputs r) r.items zero t m → (o : Option ℕ) → ¬ (o ≡ Some zero) → (q : Option ℕ) → q ≡ and_more k o → (s' : State) (n : Trace) → Runs code names q (goes_on code inputs r) r.items s' n
+  pub runs-after : (k : ℕ) (t : State) (m : Trace) → Part code names k (goes_on code inputs r) r.items zero t m →
+      (o : Option ℕ) → ¬ (o ≡ Some zero) → (q : Option ℕ) → q ≡ and_more k o → (s' : State) (n : Trace)
+      → Runs code names q (goes_on code inputs r) r.items s' n
       → Slices code names inputs o (repair_at t m) (repair_at s' n)
   runs-after k t m p None z q e s' n g = whole q e g
     where

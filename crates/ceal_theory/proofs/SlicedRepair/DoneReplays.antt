@@ -37,7 +37,8 @@ module _ (code : Code) (n : ℕ) (y : Plain) where
   knows bs h st a k e = subst (KnownAct n bs) e (next-known n bs y h y (λ b i. refl) code st k)
 
   -- what is yielded and honest, from a store that names only known blocks, mentions in order
-  pub ordered : {st : Stack} {l : Trace} {s t : Store} → Yields code y st l → Honest code s l t → (bs : List ℕ) → Holds n bs y → ((p : Place) → KnownWord n bs (s p)) → KnownStack n bs st → Ordered bs l t
+  pub ordered : {st : Stack} {l : Trace} {s t : Store} → Yields code y st l → Honest code s l t → (bs : List ℕ)
+      → Holds n bs y → ((p : Place) → KnownWord n bs (s p)) → KnownStack n bs st → Ordered bs l t
   ordered (Yields.over e) Honest.end bs h g k = record { known = bs; mentions = Mentions.end; holds = h; store = g }
   ordered {st} (Yields.quiet {after = after} e r) (Honest.step w) bs h g k =
       let q = ordered r w bs h g (knows bs h st (Quiet after) k e) in
@@ -45,7 +46,9 @@ module _ (code : Code) (n : ℕ) (y : Plain) where
   ordered {st} {s = s} (Yields.makes {key = key} {v = v} {u = u} {i = i} {env = env} {below = below} {b = b} e m r) (Honest.step (Honest.alloc w)) bs h g k =
       let a = knows bs h st (Makes key v u i env below) k e in
       let held = held-key code n y bs y key b h (λ c block i. i) a.0 m in
-      let q = ordered r w (b ∷ bs) (holds-with n bs y y b h (λ c block i. i) held) (cleared-known code n (b ∷ bs) s (Core b) key (store-more n bs (b ∷ bs) s (wider b bs) g)) (ran-known n bs key b v u i env below a.1 a.2) in
+      let q = ordered r w (b ∷ bs) (holds-with n bs y y b h (λ c block i. i) held)
+      (cleared-known code n (b ∷ bs) s (Core b) key (store-more n bs (b ∷ bs) s (wider b bs) g))
+      (ran-known n bs key b v u i env below a.1 a.2) in
       record { known = q.known; mentions = Mentions.step (Mentions.alloc a.0 q.mentions); holds = q.holds; store = q.store }
   ordered {st} {s = s} (Yields.writes {after = after} {p = p} {value = value} e r) (Honest.step (Honest.write w)) bs h g k =
       let a = knows bs h st (Writes p value after) k e in

@@ -59,7 +59,8 @@ module _ (names : ℕ → ℕ) (single : Single names) (code : Code) (n : ℕ) (
 
   module _ (x : Plain) (ext : Extends x y) where
     -- honest items are gone through, and more blocks are known
-    walk-good : {st : Stack} {l : Trace} {a t : Store} → Yields code y st l → Honest code a l t → (s : State) → s.plain ≡ x → s.store ≡ a → (bs : List ℕ) → Good names n bs s → KnownStack n bs st → Pieces code x y l
+    walk-good : {st : Stack} {l : Trace} {a t : Store} → Yields code y st l → Honest code a l t → (s : State)
+        → s.plain ≡ x → s.store ≡ a → (bs : List ℕ) → Good names n bs s → KnownStack n bs st → Pieces code x y l
         → Good names n (known_after bs (flat l)) (with_store s t)
     walk-good (Yields.over e) Honest.end s is at bs g k h = subst (λ z. Good names n bs (with_store s z)) at g
     walk-good {st} (Yields.quiet {after = after} e r) (Honest.step w) s is at bs g k h =
@@ -72,7 +73,8 @@ module _ (names : ℕ → ℕ) (single : Single names) (code : Code) (n : ℕ) (
     walk-good {st} (Yields.writes {after = after} {p = p} {value = value} e r) (Honest.step (Honest.write w)) s is at bs g k h =
         let c = step-y code n y bs s.plain st (Writes p value after) g.plain (subst (λ z. Extends z y) (sym is) ext) k e in
         walk-good r w (puts s p value) is (ap (λ z. stored z p value) at) bs (good-puts code names n bs s p value g c.1) c.2 h
-    walk-good {st} {a = a} {t = t} (Yields.reads {below = below} {p = p} {u = u} {v = v} {args = args} {value = value} {inside = o} {rest = l} e r1 r2) (Honest.step (Honest.read {t = m} same w1 w2)) s is at bs g k h =
+    walk-good {st} {a = a} {t = t} (Yields.reads {below = below} {p = p} {u = u} {v = v} {args = args} {value =
+        value} {inside = o} {rest = l} e r1 r2) (Honest.step (Honest.read {t = m} same w1 w2)) s is at bs g k h =
         let c = step-y code n y bs s.plain st (Reads p u v args below) g.plain (subst (λ z. Extends z y) (sym is) ext) k e in
         let kv : KnownWord n bs value = subst (KnownWord n bs) (ap (λ z. z p) at ∙ same) (g.store p) in
         let g1 = walk-good r1 w1 s is at bs g (given-known n bs code u.0 v args value Empty c.1 kv tt) h.1 in
@@ -88,18 +90,22 @@ module _ (names : ℕ → ℕ) (single : Single names) (code : Code) (n : ℕ) (
     pub yields : Yields code y (resumed code u v args value) inside
     pub pieces : Pieces code s.plain y inside
 
-  alloc-good : (bs : List ℕ) (s : State) (st below : Stack) (key : Key) (v u i b : ℕ) (env : Variables) → Extends s.plain y → Good names n bs s → KnownStack n bs st → next code y st ≡ Makes key v u i env below
+  alloc-good : (bs : List ℕ) (s : State) (st below : Stack) (key : Key) (v u i b : ℕ) (env : Variables)
+      → Extends s.plain y → Good names n bs s → KnownStack n bs st → next code y st ≡ Makes key v u i env below
       → s.plain (Core b) ≡ Some (made code y key) → Good names n (b ∷ bs) (clears code s (Core b) key)
   alloc-good bs s st below key v u i b env ext g k e h =
       good-alloc bs s b key g (held-key code n y bs s.plain key b g.plain ext (step-y code n y bs s.plain st (Makes key v u i env below) g.plain ext k e).0 h)
 
-  alloc-known : (bs : List ℕ) (s : State) (st below : Stack) (key : Key) (v u i b : ℕ) (env : Variables) → Extends s.plain y → Good names n bs s → KnownStack n bs st → next code y st ≡ Makes key v u i env below
+  alloc-known : (bs : List ℕ) (s : State) (st below : Stack) (key : Key) (v u i b : ℕ) (env : Variables)
+      → Extends s.plain y → Good names n bs s → KnownStack n bs st → next code y st ≡ Makes key v u i env below
       → KnownStack n (b ∷ bs) (Run u i (set env v (pointer key (Core b))) below)
   alloc-known bs s st below key v u i b env ext g k e =
       let c = step-y code n y bs s.plain st (Makes key v u i env below) g.plain ext k e in ran-known n bs key b v u i env below c.1 c.2
 
   -- after a read that is honest with all inside it
-  ready-after : (bs : List ℕ) (o : Trace) (front : List Item) (s : State) (p : Place) (value : Word) (u : UnitId) (v : ℕ) (args : List Word) (inside : Trace) → Ready (known_after (known_after bs (flat o)) front) s p value u v args inside
+  ready-after : (bs : List ℕ) (o : Trace) (front : List Item) (s : State) (p : Place) (value : Word) (u : UnitId)
+      (v : ℕ) (args : List Word) (inside : Trace) → Ready
+      (known_after (known_after bs (flat o)) front) s p value u v args inside
       → Ready (known_after bs (flat o ++ End ∷ front)) s p value u v args inside
   ready-after bs o front s p value u v args inside h = subst (λ bs. Ready bs s p value u v args inside) (sym (allocs-both bs (flat o) (End ∷ front))) h
 
@@ -119,7 +125,8 @@ module _ (names : ℕ → ℕ) (single : Single names) (code : Code) (n : ℕ) (
   flows bs s st (Wrote p value rest) r k = elim r [ ]
   flows bs s st (WasRead p value u v args inside rest) r k = elim r [ ]
 
-  after-step : (bs : List ℕ) (s : State) (st : Stack) (rest : Trace) → Yields code y st (Stepped rest) → Extends s.plain y → Good names n bs s → KnownStack n bs st → Pieces code s.plain y rest → Flow bs s rest
+  after-step : (bs : List ℕ) (s : State) (st : Stack) (rest : Trace) → Yields code y st (Stepped rest)
+      → Extends s.plain y → Good names n bs s → KnownStack n bs st → Pieces code s.plain y rest → Flow bs s rest
   after-step bs s st rest (Yields.quiet {after = after} e r) ext g k h = flows bs s after rest r (step-y code n y bs s.plain st (Quiet after) g.plain ext k e)
   after-step bs s st rest (Yields.makes {key = key} {v = v} {u = u} {i = i} {env = env} {below = below} {b = b} e m r) ext g k h =
       (b, refl, alloc-good bs s st below key v u i b env ext g k e h.0, Run u i (set env v (pointer key (Core b))) below, r, alloc-known bs s st below key v u i b env ext g k e)
@@ -137,24 +144,32 @@ module _ (names : ℕ → ℕ) (single : Single names) (code : Code) (n : ℕ) (
   alloc-flow : (bs : List ℕ) (s : State) (c : BlockId) (b : ℕ) (key : Key) (st : Stack) (rest : Trace) → Yields code y st rest → KnownStack n (b ∷ bs) st → Flow (b ∷ bs) (clears code s c key) rest
   alloc-flow bs s c b key st rest r k = flows (b ∷ bs) (clears code s c key) st rest r k
 
-  inside-stack : (bs : List ℕ) (s : State) (p : Place) (value : Word) (u : UnitId) (v : ℕ) (args : List Word) → Good names n bs s → KnownWords n bs args → s.store p ≡ value → KnownStack n bs (resumed code u v args value)
+  inside-stack : (bs : List ℕ) (s : State) (p : Place) (value : Word) (u : UnitId) (v : ℕ) (args : List Word)
+      → Good names n bs s → KnownWords n bs args → s.store p ≡ value → KnownStack n bs (resumed code u v args value)
   inside-stack bs s p value u v args g k same = given-known n bs code u.0 v args value Empty k (subst (KnownWord n bs) same (g.store p)) tt
 
-  pub at-ready : (s : State) {l inside : Trace} {front back : List Item} {w : Store} {p : Place} {value : Word} {u : UnitId} {v : ℕ} {args : List Word} → At code s.store l front w p value u v args inside back
+  pub at-ready : (s : State) {l inside : Trace} {front back : List Item} {w : Store} {p : Place} {value : Word} {u : UnitId} {v : ℕ} {args : List Word}
+      → At code s.store l front w p value u v args inside back
       → (bs : List ℕ) → Flow bs s l → Extends s.plain y → Good names n bs s → Pieces code s.plain y l → Ready (known_after bs front) (with_store s w) p value u v args inside
   at-ready s (At.step {rest = rest} q) bs d ext g h = at-ready s q bs (after-step bs s d.0 rest d.1 ext g d.2 h) ext g h
   at-ready s (At.alloc {w = w} {b = c} {key = key} {rest = rest} {front = front} {p = p} {value = value} {u = u} {v = v} {args = args} {inside = inside} q) bs d ext g h =
       after-alloc bs c key front (λ bs. Ready bs (with_store s w) p value u v args inside) d.0 d.1
-      (at-ready (clears code s c key) q (d.0 ∷ bs) (alloc-flow bs s c d.0 key d.3 rest d.4 d.5) ext (subst (λ c'. Good names n (d.0 ∷ bs) (clears code s c' key)) (sym d.1) d.2) (core-pieces s c d.0 key rest d.1 h))
+      (at-ready (clears code s c key) q (d.0 ∷ bs) (alloc-flow bs s c d.0 key d.3 rest d.4 d.5) ext
+      (subst (λ c'. Good names n (d.0 ∷ bs) (clears code s c' key)) (sym d.1) d.2)
+      (core-pieces s c d.0 key rest d.1 h))
   at-ready s (At.write {x = p} {y = value} {rest = rest} q) bs d ext g h =
       at-ready (puts s p value) q bs (flows bs (puts s p value) d.1 rest d.2 d.3) ext (good-puts code names n bs s p value g d.0) h
   at-ready s (At.here {p = p} {value = value} {u = u} {v = v} {args = args}) bs d ext g h =
       record { good = g; place = d.0; words = d.1; stack = given-known n bs code u.0 v args (s.store p) Empty d.1 (g.store p) tt; yields = d.2; pieces = h.1 }
   at-ready s (At.inner {x = p} {y = value} {c = u} {n = v} {ws = args} {within = o} same q) bs d ext g h =
       at-ready s q bs (flows bs s (resumed code u v args value) o d.2 (inside-stack bs s p value u v args g d.1 same)) ext g h.1
-  at-ready s (At.outer {t = m} {w = w} {x = p} {y = value} {c = u} {n = v} {ws = args} {within = o} {rest = rest} {front = front} {p = p2} {value = value2} {u = u2} {v = v2} {args = args2} {inside = o2} same hw q) bs d ext g h =
+  at-ready s (At.outer {t = m} {w = w} {x = p} {y = value} {c = u} {n = v} {ws = args} {within = o} {rest =
+      rest} {front = front} {p = p2} {value = value2} {u = u2} {v = v2} {args = args2} {inside =
+      o2} same hw q) bs d ext g h =
       ready-after bs o front (with_store s w) p2 value2 u2 v2 args2 o2
-      (at-ready (with_store s m) q (known_after bs (flat o)) (flows (known_after bs (flat o)) (with_store s m) d.3 rest d.4 (stack-more n bs (known_after bs (flat o)) (allocs-more bs (flat o)) d.3 d.5)) ext
+      (at-ready (with_store s m) q (known_after bs (flat o))
+      (flows (known_after bs (flat o)) (with_store s m) d.3 rest d.4
+      (stack-more n bs (known_after bs (flat o)) (allocs-more bs (flat o)) d.3 d.5)) ext
       (walk-good s.plain ext d.2 hw s refl refl bs g (inside-stack bs s p value u v args g d.1 same) h.1) h.2)
 
 module _ {names : ℕ → ℕ} (code : Code) (inputs : List Block) (f : ℕ) (args : List Word) (fits : Fits code inputs f args) (r : Repair) (h : Sound code names inputs f args r) where
@@ -167,7 +182,9 @@ module _ {names : ℕ → ℕ} (code : Code) (inputs : List Block) (f : ℕ) (ar
       let yields = uses-yields code (length inputs) h.blocks x y h.holds (agrees (length inputs) h.blocks x y h.holds ext) h.yields (start-known code inputs f args fits r h h.blocks) h.uses in
       let g : Good names (length inputs) [] (goes_on code inputs r) =
       record { plain = begun code inputs f args fits r h; store = starting-known code inputs fits.blocks r.known; free = (good code inputs f args fits r h).free } in
-      at-ready names h.single code (length inputs) y (goes_on code inputs r) q [] (flows names h.single code (length inputs) y [] (goes_on code inputs r) (started code f args) r.items yields (start-known code inputs f args fits r h [])) ext g
+      at-ready names h.single code (length inputs) y (goes_on code inputs r) q []
+      (flows names h.single code (length inputs) y [] (goes_on code inputs r) (started code f args) r.items yields
+      (start-known code inputs f args fits r h [])) ext g
       (uses-pieces code (length inputs) h.blocks x y h.holds ext yields h.uses)
 
   pub sound-ready : {front back : List Item} {w : Store} {p : Place} {value : Word} {u : UnitId} {v : ℕ} {ws : List Word} {inside : Trace}

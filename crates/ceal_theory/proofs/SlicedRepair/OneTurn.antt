@@ -91,17 +91,57 @@ module _ (code : Code) where
     where
       go : Ahead s rest → Ahead s (Stepped rest)
       go (Ahead.honest h) = Ahead.honest (Honest.step h)
-      go (Ahead.stale q) = Ahead.stale (record { front = Step ∷ q.front; store = q.store; place = q.place; value = q.value; unit = q.unit; var = q.var; args = q.args; inside = q.inside; back = q.back; at-it = At.step q.at-it; stale = q.stale })
+      go (Ahead.stale q) = Ahead.stale (record {
+        front = Step ∷ q.front;
+        store = q.store;
+        place = q.place;
+        value =
+            q.value;
+        unit = q.unit;
+        var = q.var;
+        args = q.args;
+        inside = q.inside;
+        back = q.back;
+        at-it =
+            At.step q.at-it;
+        stale = q.stale;
+      })
   locate (Allocated b key rest) s = go (locate rest (cleared code s b key))
     where
       go : Ahead (cleared code s b key) rest → Ahead s (Allocated b key rest)
       go (Ahead.honest h) = Ahead.honest (Honest.alloc h)
-      go (Ahead.stale q) = Ahead.stale (record { front = Alloc b key ∷ q.front; store = q.store; place = q.place; value = q.value; unit = q.unit; var = q.var; args = q.args; inside = q.inside; back = q.back; at-it = At.alloc q.at-it; stale = q.stale })
+      go (Ahead.stale q) = Ahead.stale (record {
+        front = Alloc b key ∷ q.front;
+        store = q.store;
+        place = q.place;
+        value = q.value;
+        unit = q.unit;
+        var = q.var;
+        args = q.args;
+        inside = q.inside;
+        back = q.back;
+        at-it =
+            At.alloc q.at-it;
+        stale = q.stale;
+      })
   locate (Wrote x y rest) s = go (locate rest (stored s x y))
     where
       go : Ahead (stored s x y) rest → Ahead s (Wrote x y rest)
       go (Ahead.honest h) = Ahead.honest (Honest.write h)
-      go (Ahead.stale q) = Ahead.stale (record { front = Write x y ∷ q.front; store = q.store; place = q.place; value = q.value; unit = q.unit; var = q.var; args = q.args; inside = q.inside; back = q.back; at-it = At.write q.at-it; stale = q.stale })
+      go (Ahead.stale q) = Ahead.stale (record {
+        front = Write x y ∷ q.front;
+        store = q.store;
+        place = q.place;
+        value = q.value;
+        unit = q.unit;
+        var = q.var;
+        args = q.args;
+        inside = q.inside;
+        back = q.back;
+        at-it =
+            At.write q.at-it;
+        stale = q.stale;
+      })
   locate (WasRead x y c n ws within rest) s = at-read (same_word (s x) y) refl (locate within s) (locate rest)
     where
       after : s x ≡ y → {t : Store} → Honest code s within t → Ahead t rest → Ahead s (WasRead x y c n ws within rest)
@@ -202,9 +242,16 @@ module _ (code : Code) (names : ℕ → ℕ) where
     pub part : Part code names (suc zero) s l zero t items
     pub flat_items : flat items ≡ front ++ Read p w u v args ∷ (flat inside' ++ End ∷ back)
 
-  pub at-run : {l inside : Trace} {front back : List Item} {w : Store} {p : Place} {value : Word} {u : UnitId} {v : ℕ} {args : List Word} (s : State) → At code s.store l front w p value u v args inside back
+  pub at-run : {l inside : Trace} {front back : List Item} {w : Store} {p : Place} {value : Word} {u : UnitId} {v : ℕ} {args : List Word} (s : State)
+      → At code s.store l front w p value u v args inside back
       → ¬ (w p ≡ value) → {t : State} {inside' left : Trace} → Anew code names (with_store s w) (resumed code u v args (w p)) inside t inside' left → Repaired s l front p (w p) u v args back t inside'
-  at-run s (At.here {p = p} {u = u} {v = v} {args = args} {rest = rest}) n {t} {inside'} a = record { items = WasRead p (s.store p) u v args inside' rest; part = Part.stale n a Part.stays; flat_items = refl }
+  at-run s (At.here {p = p} {u = u} {v = v} {args = args} {rest = rest}) n {t} {inside'} a =
+      record {
+        items = WasRead p (s.store p) u v args inside' rest;
+        part = Part.stale n a Part.stays;
+        flat_items =
+            refl;
+      }
   at-run s (At.step q) n a = let x = at-run s q n a in record { items = Stepped x.items; part = Part.step x.part; flat_items = ap (λ is. Step ∷ is) x.flat_items }
   at-run s (At.alloc {b = b} {key = key} q) n a =
       let x = at-run (clears code s b key) q n a in record { items = Allocated b key x.items; part = Part.alloc x.part; flat_items = ap (λ is. Alloc b key ∷ is) x.flat_items }
@@ -234,7 +281,8 @@ module _ (code : Code) (names : ℕ → ℕ) where
     pub anew : Anew code names (with_store s w) (resumed code u v args (w p)) inside state new left
     pub work : state.work ≤ s'.work
 
-  pub at-must : {l inside : Trace} {front back : List Item} {w : Store} {p : Place} {value : Word} {u : UnitId} {v : ℕ} {args : List Word} (s : State) → At code s.store l front w p value u v args inside back
+  pub at-must : {l inside : Trace} {front back : List Item} {w : Store} {p : Place} {value : Word} {u : UnitId} {v : ℕ} {args : List Word} (s : State)
+      → At code s.store l front w p value u v args inside back
       → ¬ (w p ≡ value) → {j i : ℕ} {s' : State} {m : Trace} → Part code names (suc j) s l i s' m → Must s w p u v args inside s'
   at-must s At.here n (Part.kept e g f) = absurd (n e)
   at-must s At.here n (Part.stale {t = t} {inside' = o} {left = left} k a f) = record { state = t; new = o; left = left; anew = a; work = part-rises f }
@@ -253,5 +301,6 @@ module _ (code : Code) (names : ℕ → ℕ) where
   abbrev pub alone : State → Stack → Trace → Machine
   alone s st old = record { state = s; mode = Running st old; frames = Bottom }
 
-  pub anew-finishes : {s t : State} {st : Stack} {old new left : Trace} → Anew code names s st old t new left → Finishes code names (record { state = s; mode = Running st old; frames = Bottom }) t (flat new ++ [])
+  pub anew-finishes : {s t : State} {st : Stack} {old new left : Trace} → Anew code names s st old t new left
+      → Finishes code names (record { state = s; mode = Running st old; frames = Bottom }) t (flat new ++ [])
   anew-finishes a = Finishes.runs a Resumes.bottom

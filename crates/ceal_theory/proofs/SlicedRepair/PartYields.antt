@@ -104,7 +104,17 @@ module _ (code : Code) (names : ℕ → ℕ) (inputs : ℕ) where
         let ks : KnownStack inputs bs (Run w i (set env v (pointer key (Core b))) below) =
         (set-known inputs bs env v (pointer key (Core b)) a.1 (pointer-known inputs bs key (Core b) u.0), a.2) in
         let q = part-plays f ext bs (good-again bs s (Core b) key g) (Run w i (set env v (pointer key (Core b))) below) r ks h.1 u.2 in
-        record { known = q.known; sub = q.sub; uses = (q.sub b u.0, Rattle.ceal_code.proofs.Words.StepLocality.key-more inputs bs q.known q.sub key u.1, q.uses); yields = Yields.makes e m q.yields; good = q.good }
+        record {
+          known = q.known;
+          sub = q.sub;
+          uses = (
+            q.sub b u.0,
+            Rattle.ceal_code.proofs.Words.StepLocality.key-more inputs bs q.known q.sub key u.1,
+            q.uses,
+          );
+          yields = Yields.makes e m q.yields;
+          good = q.good;
+        }
     part-plays {s = s} {s' = s'} (Part.step (Part.write f)) ext bs g st (Yields.writes {after = after} {p = p} {value = value} e r) k h u =
         let x = extends-trans s.plain s'.plain y (part-grows single f g.free).plain ext in
         let a = step-y code inputs y bs s.plain st (Writes p value after) g.plain x k e in
@@ -116,13 +126,16 @@ module _ (code : Code) (names : ℕ → ℕ) (inputs : ℕ) where
           yields = Yields.writes e q.yields;
           good = q.good;
         }
-    part-plays {s = s} {s' = s'} (Part.step (Part.kept {t = t} {inside' = inside'} same f1 f2)) ext bs g st (Yields.reads {below = below} {p = p} {u = w} {v = v} {args = args} {value = value} {inside = inside} {rest = rest} e r1 r2) k h u =
+    part-plays {s = s} {s' = s'} (Part.step (Part.kept {t = t} {inside' = inside'} same f1 f2)) ext bs g st
+        (Yields.reads {below = below} {p = p} {u = w} {v = v} {args = args} {value = value} {inside = inside} {rest =
+        rest} e r1 r2) k h u =
         let g1 = part-grows single f1 g.free in
         let xt = extends-trans t.plain s'.plain y (part-grows single f2 g1.free).plain ext in
         let x = extends-trans s.plain t.plain y g1.plain xt in
         let a = step-y code inputs y bs s.plain st (Reads p w v args below) g.plain x k e in
         let q1 = part-plays f1 xt bs g (resumed code w v args value) r1 (given-known inputs bs code w.0 v args value Empty u.2 u.1 tt) h.1 u.3 in
-        let q2 = part-plays f2 ext q1.known q1.good below r2 (stack-more inputs bs q1.known q1.sub below a.2) (pieces-more code s.plain t.plain y g1.plain rest h.2) (uses-more inputs bs q1.known q1.sub rest u.4) in
+        let q2 = part-plays f2 ext q1.known q1.good below r2 (stack-more inputs bs q1.known q1.sub below a.2)
+        (pieces-more code s.plain t.plain y g1.plain rest h.2) (uses-more inputs bs q1.known q1.sub rest u.4) in
         let sub : Subset bs q2.known = λ b i. q2.sub b (q1.sub b i) in
         record {
           known = q2.known;
@@ -137,14 +150,17 @@ module _ (code : Code) (names : ℕ → ℕ) (inputs : ℕ) where
           yields = Yields.reads e (subst (λ z. Yields code y (resumed code w v args z) inside') (sym same) q1.yields) q2.yields;
           good = q2.good;
         }
-    part-plays {s = s} {s' = s'} (Part.step (Part.stale {t = t} {inside' = inside'} apart n f)) ext bs g st (Yields.reads {below = below} {p = p} {u = w} {v = v} {args = args} {value = value} {inside = inside} {rest = rest} e r1 r2) k h u =
+    part-plays {s = s} {s' = s'} (Part.step (Part.stale {t = t} {inside' = inside'} apart n f)) ext bs g st
+        (Yields.reads {below = below} {p = p} {u = w} {v = v} {args = args} {value = value} {inside = inside} {rest =
+        rest} e r1 r2) k h u =
         let g1 = anew-grows single n g.free in
         let xt = extends-trans t.plain s'.plain y (part-grows single f g1.free).plain ext in
         let x = extends-trans s.plain t.plain y g1.plain xt in
         let a = step-y code inputs y bs s.plain st (Reads p w v args below) g.plain x k e in
         let q1 = anew-plays names single code inputs y n xt bs g (given-known inputs bs code w.0 v args (s.store p) Empty u.2 (g.store p) tt) h.1 in
         let sub1 : Subset bs q1.known = mentions-subset q1.mentions in
-        let q2 = part-plays f ext q1.known q1.good below r2 (stack-more inputs bs q1.known sub1 below a.2) (pieces-more code s.plain t.plain y g1.plain rest h.2) (uses-more inputs bs q1.known sub1 rest u.4) in
+        let q2 = part-plays f ext q1.known q1.good below r2 (stack-more inputs bs q1.known sub1 below a.2)
+        (pieces-more code s.plain t.plain y g1.plain rest h.2) (uses-more inputs bs q1.known sub1 rest u.4) in
         let sub : Subset bs q2.known = λ b i. q2.sub b (sub1 b i) in
         record {
           known = q2.known;

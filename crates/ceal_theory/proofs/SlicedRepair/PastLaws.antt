@@ -24,7 +24,8 @@ none-over b (c ∷ bs) h = elim (eqb_tells c b) [
   | inr e ↦ rw e.0 (omega (arith, none-over b bs (omega (arith, h))))
 ]
 
-module _ (code : Code) (inputs : List Block) (f : ℕ) (args : List Word) (fits : Fits code inputs f args) (fuel : ℕ) (first : Option Repaired) (is : IfSome first (λ l. Replays code inputs f args l.items)) (k : Option ℕ) where
+module _ (code : Code) (inputs : List Block) (f : ℕ) (args : List Word) (fits : Fits code inputs f args) (fuel : ℕ)
+    (first : Option Repaired) (is : IfSome first (λ l. Replays code inputs f args l.items)) (k : Option ℕ) where
   of-first : (o : Option Repaired) → IfSome o (λ l. Replays code inputs f args l.items) → IsPastOf code inputs f args (first_past o)
   of-first None h = tt
   of-first (Some l) h = h

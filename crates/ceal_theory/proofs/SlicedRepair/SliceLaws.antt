@@ -70,7 +70,8 @@ module _ {names : ℕ → ℕ} (code : Code) (inputs : List Block) (f : ℕ) (ar
         room = a.work;
       }
     where
-      known : (b : ℕ) (block : Block) → (with_inputs code inputs r.known (Core b) ≡ Some block) ⊎ IsNamed names r.number s'.number b → (r.known (Core b) ≡ Some block) ⊎ IsNamed names r.number s'.number b
+      known : (b : ℕ) (block : Block) → (with_inputs code inputs r.known (Core b) ≡ Some block)
+          ⊎ IsNamed names r.number s'.number b → (r.known (Core b) ≡ Some block) ⊎ IsNamed names r.number s'.number b
       known b block (inl e) = inl (sym (at-core code inputs r.known b) ∙ e)
       known b block (inr e) = inr e
 
@@ -165,14 +166,18 @@ moved : (code : Code) (names : ℕ → ℕ) (inputs : List Block) (r : Repair) (
     → f0 ≡ f → p0 ≡ p → u0 ≡ u → v0 ≡ v → args0 ≡ args → TurnedAt code names inputs r inside back f0 p0 u0 v0 args0 → TurnedAt code names inputs r inside back f p u v args
 moved code names inputs r inside back f0 f p0 p u0 u v0 v args0 args e0 e1 e2 e3 e4 h =
     subst (λ z. TurnedAt code names inputs r inside back f p u v z) e4 (subst (λ z. TurnedAt code names inputs r inside back f p u z args0) e3
-    (subst (λ z. TurnedAt code names inputs r inside back f p z v0 args0) e2 (subst (λ z. TurnedAt code names inputs r inside back f z u0 v0 args0) e1 (subst (λ z. TurnedAt code names inputs r inside back z p0 u0 v0 args0) e0 h))))
+    (subst (λ z. TurnedAt code names inputs r inside back f p z v0 args0) e2
+    (subst (λ z. TurnedAt code names inputs r inside back f z u0 v0 args0) e1
+    (subst (λ z. TurnedAt code names inputs r inside back z p0 u0 v0 args0) e0 h))))
 
 runs-part : (code : Code) (names : ℕ → ℕ) (s : State) (l : Trace) (k : Option ℕ) (t : State) (m : Trace) → Runs code names k s l t m → ¬ (k ≡ Some zero) → (j i : ℕ) × Part code names (suc j) s l i t m
 runs-part code names s l None t m (Runs.whole g) h = let q : AsPart code names s l t m 0 = fix-part g 0 in (q.reads, 1, q.part)
 runs-part code names s l (Some zero) t m (Runs.part p) h = absurd (h refl)
 runs-part code names s l (Some (suc j)) t m (Runs.part {j = i} p) h = (j, i, p)
 
-turned : (code : Code) (names : ℕ → ℕ) (inputs : List Block) (r : Repair) (q : Located code (starting code inputs r.known) r.items) → TurnedAt code names inputs r q.inside q.back q.front q.place q.unit q.var q.args
+turned : (code : Code) (names : ℕ → ℕ) (inputs : List Block) (r : Repair)
+    (q : Located code (starting code inputs r.known) r.items)
+    → TurnedAt code names inputs r q.inside q.back q.front q.place q.unit q.var q.args
 turned code names inputs r q = record {
   slice = λ t out h. sliced-one t out (finishes-anew code names (with_store (goes_on code inputs r) q.store) (resumed code q.unit q.var q.args (q.store q.place)) q.inside t out (to-store t out h));
   over = λ n h k z. none-over n h k z (sliced code names inputs k n r) refl;
@@ -186,7 +191,9 @@ turned code names inputs r q = record {
     to-store t out h = subst (λ z. Finishes code names (alone code names (with_store (goes_on code inputs r) z) (resumed code q.unit q.var q.args (z q.place)) q.inside) t out) (sym w) h
 
     sliced-one : (t : State) (out : List Item) → RanFlat code names (with_store (goes_on code inputs r) q.store) (resumed code q.unit q.var q.args (q.store q.place)) q.inside t out
-        → (m : Trace) × Slices code names inputs (Some 1) r (repair_at t m) × (flat m ≡ q.front ++ Read q.place (store_after code (starting code inputs r.known) q.front q.place) q.unit q.var q.args ∷ (out ++ End ∷ q.back))
+        → (m : Trace) × Slices code names inputs (Some 1) r (repair_at t m) ×
+        (flat m ≡ q.front ++ Read q.place (store_after code
+        (starting code inputs r.known) q.front q.place) q.unit q.var q.args ∷ (out ++ End ∷ q.back))
     sliced-one t out x =
         let y = at-run code names (goes_on code inputs r) q.at-it q.stale x.anew in (
           y.items,
@@ -203,7 +210,9 @@ turned code names inputs r q = record {
         let p = runs-part code names (goes_on code inputs r) r.items k s.0.after s.0.items s.0.runs z in
         let m = at-must code names (goes_on code inputs r) q.at-it q.stale p.2 in
         let f : Finishes code names (unit_alone code inputs r q.front q.place q.unit q.var q.args q.inside) m.state (flat m.new ++ []) =
-        subst (λ z. Finishes code names (alone code names (with_store (goes_on code inputs r) z) (resumed code q.unit q.var q.args (z q.place)) q.inside) m.state (flat m.new ++ [])) w (anew-finishes code names m.anew) in
+        subst (λ z. Finishes code names (alone code names (with_store (goes_on code inputs r) z)
+        (resumed code q.unit q.var q.args (z q.place)) q.inside) m.state (flat m.new ++ [])) w
+        (anew-finishes code names m.anew) in
         absurd (omega (arith, h m.state (flat m.new ++ []) f, m.work, subst (λ a. a.spent ≤ n) s.0.is s.1))
 
 -- the turn at the located read, which is the one that was found
@@ -213,7 +222,9 @@ turn-law code names inputs r front p value u v args after e h n = found (locate 
     read-honest : AgreesAll code (starting code inputs r.known) (front ++ Read p value u v args ∷ after) → store_after code (starting code inputs r.known) front p ≡ value
     read-honest k = (agrees-front code (starting code inputs r.known) front (Read p value u v args ∷ after) k).1.0
 
-    finish : (q : Located code (starting code inputs r.known) r.items) → after ≡ flat q.inside ++ End ∷ q.back → TurnedAt code names inputs r q.inside q.back front p u v args → FirstStale code names inputs r front p u v args after
+    finish : (q : Located code (starting code inputs r.known) r.items) → after ≡ flat q.inside ++ End ∷ q.back
+        → TurnedAt code names inputs r q.inside q.back front p u v args
+        → FirstStale code names inputs r front p u v args after
     finish q i x = record {
       inside = q.inside;
       back = q.back;
@@ -228,15 +239,22 @@ turn-law code names inputs r front p value u v args after e h n = found (locate 
         some-is : {A : Type 0} (k : ℕ) → Some (suc k) ≡ Some zero → A
         some-is k z = absurd (omega (arith, Rattle.ceal_code.proofs.Words.SameIsEqual.some-same (suc k) zero z))
 
-    at : (q : Located code (starting code inputs r.known) r.items) → SameFirst code q.front front q.place p q.value value q.unit u q.var v q.args args (flat q.inside ++ End ∷ q.back) after → FirstStale code names inputs r front p u v args after
-    at q o = finish q (sym o.afters) (moved code names inputs r q.inside q.back q.front front q.place p q.unit u q.var v q.args args o.fronts o.places o.units o.vars o.words (turned code names inputs r q))
+    at : (q : Located code (starting code inputs r.known) r.items)
+        → SameFirst code q.front front q.place p q.value value q.unit u q.var v q.args args
+        (flat q.inside ++ End ∷ q.back) after → FirstStale code names inputs r front p u v args after
+    at q o = finish q (sym o.afters)
+        (moved code names inputs r q.inside q.back q.front front q.place p q.unit u q.var v q.args args o.fronts o.places o.units o.vars o.words
+        (turned code names inputs r q))
 
     found : Ahead code (starting code inputs r.known) r.items → FirstStale code names inputs r front p u v args after
     found (Ahead.honest k) = absurd (n (read-honest (subst (λ is. AgreesAll code (starting code inputs r.known) is) e (flat-honest code k))))
-    found (Ahead.stale q) = at q (one-first code (starting code inputs r.known) q.front front (flat q.inside ++ End ∷ q.back) after q.place p q.value value q.unit u q.var v q.args args (sym (at-flat code q.at-it) ∙ e)
+    found (Ahead.stale q) = at q (one-first code (starting code inputs r.known) q.front front
+        (flat q.inside ++ End ∷ q.back) after q.place p q.value value q.unit u q.var v q.args args
+        (sym (at-flat code q.at-it) ∙ e)
         (at-honest code q.at-it) (subst (λ z. ¬ (z q.place ≡ q.value)) (at-store code q.at-it) q.stale) h n)
 
-known-there : {names : ℕ → ℕ} (code : Code) (inputs : List Block) (f : ℕ) (ws : List Word) → Fits code inputs f ws → (r : Repair) → Sound code names inputs f ws r → (q : Located code (starting code inputs r.known) r.items)
+known-there : {names : ℕ → ℕ} (code : Code) (inputs : List Block) (f : ℕ) (ws : List Word) → Fits code inputs f ws →
+    (r : Repair) → Sound code names inputs f ws r → (q : Located code (starting code inputs r.known) r.items)
     → KnownThere code inputs r q.front q.place q.value q.unit q.var q.args (flat q.inside ++ End ∷ q.back)
 known-there code inputs f ws fits r h q =
     let x = sound-ready code inputs f ws fits r h q.at-it in
@@ -256,7 +274,9 @@ known-there code inputs f ws fits r h q =
 moved-there : (code : Code) (inputs : List Block) (r : Repair) (f0 f : List Item) (p0 p : Place) (value0 value : Word) (u0 u : UnitId) (v0 v : ℕ) (args0 args : List Word) (a0 a : List Item)
     → SameFirst code f0 f p0 p value0 value u0 u v0 v args0 args a0 a → KnownThere code inputs r f0 p0 value0 u0 v0 args0 a0 → KnownThere code inputs r f p value u v args a
 moved-there code inputs r f0 f p0 p value0 value u0 u v0 v args0 args a0 a o h =
-    subst (λ z. KnownThere code inputs r f p value u v args z) o.afters (subst (λ z. KnownThere code inputs r f p value u v z a0) o.words (subst (λ z. KnownThere code inputs r f p value u z args0 a0) o.vars
+    subst (λ z. KnownThere code inputs r f p value u v args z) o.afters
+    (subst (λ z. KnownThere code inputs r f p value u v z a0) o.words
+    (subst (λ z. KnownThere code inputs r f p value u z args0 a0) o.vars
     (subst (λ z. KnownThere code inputs r f p value z v0 args0 a0) o.units (subst (λ z. KnownThere code inputs r f p z u0 v0 args0 a0) o.values
     (subst (λ z. KnownThere code inputs r f z value0 u0 v0 args0 a0) o.places (subst (λ z. KnownThere code inputs r z p0 value0 u0 v0 args0 a0) o.fronts h))))))
 
@@ -264,7 +284,9 @@ pub ready-law : ReadyLaw
 ready-law code names inputs f ws fits r h front p value u v args after e k n = found (locate code r.items (starting code inputs r.known))
   where
     found : Ahead code (starting code inputs r.known) r.items → KnownThere code inputs r front p value u v args after
-    found (Ahead.honest m) = absurd (n (agrees-front code (starting code inputs r.known) front (Read p value u v args ∷ after) (subst (λ is. AgreesAll code (starting code inputs r.known) is) e (flat-honest code m))).1.0)
+    found (Ahead.honest m) = absurd (n
+        (agrees-front code (starting code inputs r.known) front (Read p value u v args ∷ after)
+        (subst (λ is. AgreesAll code (starting code inputs r.known) is) e (flat-honest code m))).1.0)
     found (Ahead.stale q) = moved-there code inputs r q.front front q.place p q.value value q.unit u q.var v q.args args (flat q.inside ++ End ∷ q.back) after
         (one-first code (starting code inputs r.known) q.front front (flat q.inside ++ End ∷ q.back) after q.place p q.value value q.unit u q.var v q.args args (sym (at-flat code q.at-it) ∙ e)
         (at-honest code q.at-it) (subst (λ z. ¬ (z q.place ≡ q.value)) (at-store code q.at-it) q.stale) k n)
@@ -282,7 +304,9 @@ module _ {names : ℕ → ℕ} (code : Code) (inputs : List Block) (f : ℕ) (ar
       let w = from-start code inputs f args fits r h k in
       record { after = record (goes_on code inputs r) { store = w.after }; items = r.items; runs = Runs.part (honest-part code names w.walk (goes_on code inputs r) n); is = refl }
 
-  follow-some : (r : Repair) → Sound code names inputs f args r → (r' : Repair) → Slices code names inputs (Some 1) r r' → (j : ℕ) (z : Repair) → Slices code names inputs (Some j) r' z → Slices code names inputs (Some (suc j)) r z
+  follow-some : (r : Repair) → Sound code names inputs f args r → (r' : Repair) → Slices code names inputs
+      (Some 1) r r' → (j : ℕ) (z : Repair) → Slices code names inputs (Some j) r' z → Slices code names inputs
+      (Some (suc j)) r z
   follow-some r h r' s j z s' =
       subst (λ n. Slices code names inputs (Some n) r z) (omega arith) (follow-law code names inputs f args fits r h 1 r' s (Some j) z s')
 
@@ -291,12 +315,15 @@ module _ {names : ℕ → ℕ} (code : Code) (inputs : List Block) (f : ℕ) (ar
   turns-many r z n h (Turns.turn {r' = r'} s (Turns.turn {n = m} t u)) =
       follow-some r h r' s (suc m) z (turns-many r' z m (slice-law code names inputs f args fits r h (Some 1) r' s).sound (Turns.turn t u))
 
-  turns-whole : (r z : Repair) (n : ℕ) → Sound code names inputs f args r → Turns code names inputs n r z → IsHonest code inputs z.items → Slices code names inputs None r (repair_at (goes_on code inputs z) z.items)
+  turns-whole : (r z : Repair) (n : ℕ) → Sound code names inputs f args r → Turns code names inputs n r z
+      → IsHonest code inputs z.items → Slices code names inputs None r (repair_at (goes_on code inputs z) z.items)
   turns-whole r z n h Turns.none k = stay-whole r h k
   turns-whole r z n h (Turns.turn {n = m} {r' = r'} s t) k =
       follow-law code names inputs f args fits r h 1 r' s None (repair_at (goes_on code inputs z) z.items) (turns-whole r' z m (slice-law code names inputs f args fits r h (Some 1) r' s).sound t k)
 
-  turns-ended : (r z : Repair) (n : ℕ) → Sound code names inputs f args r → Turns code names inputs n r z → IsHonest code inputs z.items → (k : ℕ) → n ≤ k → Slices code names inputs (Some (suc k)) r (repair_at (goes_on code inputs z) z.items)
+  turns-ended : (r z : Repair) (n : ℕ) → Sound code names inputs f args r → Turns code names inputs n r z
+      → IsHonest code inputs z.items → (k : ℕ) → n ≤ k → Slices code names inputs (Some (suc k)) r
+      (repair_at (goes_on code inputs z) z.items)
   turns-ended r z n h Turns.none k j l = stay-part r h k j
   turns-ended r z n h (Turns.turn {n = m} s t) k zero l = absurd (omega (arith, l))
   turns-ended r z n h (Turns.turn {n = m} {r' = r'} s t) k (suc j) l =
@@ -352,33 +379,42 @@ slices-one code names inputs k r a b s t =
     some-same a b (sym (sliced-found code names inputs n r k a s (omega arith)) ∙ sliced-found code names inputs n r k b t (omega arith))
 
 module _ {names : ℕ → ℕ} (code : Code) (inputs : List Block) (f : ℕ) (args : List Word) (fits : Fits code inputs f args) (r : Repair) (h : Sound code names inputs f args r) where
-  stay : (r' : Repair) → Sound code names inputs f args r' → IsHonest code inputs r'.items → (o : Option ℕ) → ¬ (o ≡ Some zero) → Slices code names inputs o r' (repair_at (goes_on code inputs r') r'.items)
+  stay : (r' : Repair) → Sound code names inputs f args r' → IsHonest code inputs r'.items → (o : Option ℕ) → ¬
+      (o ≡ Some zero) → Slices code names inputs o r' (repair_at (goes_on code inputs r') r'.items)
   stay r' h' k None z = stay-whole code inputs f args fits r' h' k
   stay r' h' k (Some zero) z = absurd (z refl)
   stay r' h' k (Some (suc j)) z = stay-part code inputs f args fits r' h' k j
 
   -- the first slice left reads over: it is done
-  split-done : (k : ℕ) (r' : Repair) → Slices code names inputs (Some k) r r' → IsHonest code inputs r'.items → (o : Option ℕ) → ¬ (o ≡ Some zero) → (z : Repair) → Slices code names inputs (and_more k o) r z → Slices code names inputs o r' z
+  split-done : (k : ℕ) (r' : Repair) → Slices code names inputs (Some k) r r' → IsHonest code inputs r'.items →
+      (o : Option ℕ) → ¬ (o ≡ Some zero) → (z : Repair) → Slices code names inputs (and_more k o) r z
+      → Slices code names inputs o r' z
   split-done k r' s k' o n z t =
       let h' = (slice-law code names inputs f args fits r h (Some k) r' s).sound in
       let w = stay r' h' k' o n in
       let w' = follow-law code names inputs f args fits r h k r' s o (repair_at (goes_on code inputs r') r'.items) w in
       subst (λ z. Slices code names inputs o r' z) (slices-one code names inputs (and_more k o) r (repair_at (goes_on code inputs r') r'.items) z w' t) w
 
-  split-left : (k i : ℕ) (t : State) (m : Trace) → Part code names k (goes_on code inputs r) r.items i t m → (o : Option ℕ) → ¬ (o ≡ Some zero) → (z : Repair) → Slices code names inputs (and_more k o) r z → Slices code names inputs o (repair_at t m) z
+  split-left : (k i : ℕ) (t : State) (m : Trace) → Part code names k (goes_on code inputs r) r.items i t m →
+      (o : Option ℕ) → ¬ (o ≡ Some zero) → (z : Repair) → Slices code names inputs (and_more k o) r z
+      → Slices code names inputs o (repair_at t m) z
   split-left k zero t m p o n z w =
       subst (λ z. Slices code names inputs o (repair_at t m) z) (sym w.is) (runs-after code inputs f args fits r h k t m p o n (and_more k o) refl w.after w.items w.runs)
   split-left k (suc i) t m p o n z w =
       let whole : Slices code names inputs None r (repair_at t m) = record { after = t; items = m; runs = Runs.whole (part-fix p); is = refl } in
       split-done k (repair_at t m) (record { after = t; items = m; runs = Runs.part p; is = refl }) (whole-done code inputs f args fits r h (repair_at t m) whole) o n z w
 
-  split-runs : (k : ℕ) (t : State) (m : Trace) → Runs code names (Some k) (goes_on code inputs r) r.items t m → (o : Option ℕ) → ¬ (o ≡ Some zero) → (z : Repair) → Slices code names inputs (and_more k o) r z → Slices code names inputs o (repair_at t m) z
+  split-runs : (k : ℕ) (t : State) (m : Trace) → Runs code names (Some k) (goes_on code inputs r) r.items t m →
+      (o : Option ℕ) → ¬ (o ≡ Some zero) → (z : Repair) → Slices code names inputs (and_more k o) r z
+      → Slices code names inputs o (repair_at t m) z
   split-runs k t m (Runs.part {j = i} p) o n z w = split-left k i t m p o n z w
 
-  split-slices : (k : ℕ) (r' : Repair) → Slices code names inputs (Some k) r r' → (o : Option ℕ) → ¬ (o ≡ Some zero) → (z : Repair) → Slices code names inputs (and_more k o) r z → Slices code names inputs o r' z
+  split-slices : (k : ℕ) (r' : Repair) → Slices code names inputs (Some k) r r' → (o : Option ℕ) → ¬ (o ≡ Some zero) →
+      (z : Repair) → Slices code names inputs (and_more k o) r z → Slices code names inputs o r' z
   split-slices k r' s o n z w = subst (λ r'. Slices code names inputs o r' z) (sym s.is) (split-runs k s.after s.items s.runs o n z w)
 
-  split-over : (k : ℕ) (r' : Repair) → Slices code names inputs (Some k) r r' → (o : Option ℕ) → ¬ (o ≡ Some zero) → (n : ℕ) → sliced code names inputs o n r' ≡ None → sliced code names inputs (and_more k o) n r ≡ None
+  split-over : (k : ℕ) (r' : Repair) → Slices code names inputs (Some k) r r' → (o : Option ℕ) → ¬ (o ≡ Some zero) →
+      (n : ℕ) → sliced code names inputs o n r' ≡ None → sliced code names inputs (and_more k o) n r ≡ None
   split-over k r' s o z n e = go (sliced code names inputs (and_more k o) n r) refl
     where
       go : (q : Option Repair) → sliced code names inputs (and_more k o) n r ≡ q → sliced code names inputs (and_more k o) n r ≡ None
@@ -390,12 +426,16 @@ module _ {names : ℕ → ℕ} (code : Code) (inputs : List Block) (f : ℕ) (ar
 pub split-law : SplitLaw
 split-law code names inputs f args fits r h k r' s o z = record { later = split-slices code inputs f args fits r h k r' s o z; over = split-over code inputs f args fits r h k r' s o z }
 
-turns-over : (code : Code) (names : ℕ → ℕ) (inputs : List Block) (f : ℕ) (args : List Word) → Fits code inputs f args → (r z : Repair) (n : ℕ) → Sound code names inputs f args r → Turns code names inputs n r z → TurnedOver code names inputs n r z
+turns-over : (code : Code) (names : ℕ → ℕ) (inputs : List Block) (f : ℕ) (args : List Word) → Fits code inputs f args
+    → (r z : Repair) (n : ℕ) → Sound code names inputs f args r → Turns code names inputs n r z
+    → TurnedOver code names inputs n r z
 turns-over code names inputs f args fits r z n h Turns.none = record { whole = λ k e. e; part = λ k j e. e' k j e }
   where
     e' : (k j : ℕ) → sliced code names inputs (Some (suc j)) k r ≡ None → sliced code names inputs (Some (zero + suc j)) k r ≡ None
     e' k j e = subst (λ i. sliced code names inputs (Some i) k r ≡ None) (omega arith) e
-turns-over code names inputs f args fits r z n h (Turns.turn {n = m} {r' = r'} s t) = of (turns-over code names inputs f args fits r' z m (slice-law code names inputs f args fits r h (Some 1) r' s).sound t)
+turns-over code names inputs f args fits r z n h (Turns.turn {n = m} {r' = r'} s t) = of
+    (turns-over code names inputs f args fits r' z m
+    (slice-law code names inputs f args fits r h (Some 1) r' s).sound t)
   where
     of : TurnedOver code names inputs m r' z → TurnedOver code names inputs (suc m) r z
     of x = record {

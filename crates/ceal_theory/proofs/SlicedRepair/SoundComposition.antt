@@ -63,14 +63,17 @@ module _ (names : ℕ → ℕ) (single : Single names) (code : Code) (n : ℕ) (
         part = subst (λ z. Part code names (suc k1) (with_store s t) (WasRead p value u v args o l) j (with_store s' q2.after) (WasRead p z u v args o' l')) (sym (w p us.0)) z;
         same = q2.same;
       }
-  part-again {k} {j} {s} {s'} (Part.stale {k = k1} {t = s1} {p = p} {value = value} {u = u} {v = v} {args = args} {inside = o} {inside' = o'} {left = left} {rest = l} {rest' = l'} e a f) ext bs g h us t w =
+  part-again {k} {j} {s} {s'} (Part.stale {k = k1} {t = s1} {p = p} {value = value} {u = u} {v = v} {args =
+      args} {inside = o} {inside' = o'} {left = left} {rest = l} {rest' = l'} e a f) ext bs g h us t w =
       let g1 = anew-grows single a g.free in
       let xt = extends-trans s1.plain s'.plain y (part-grows single f g1.free).plain ext in
       let m = anew-plays names single code n y a xt bs g (given-known n bs code u.0 v args (s.store p) Empty us.2 (g.store p) tt) h.1 in
       let q1 = anew-again code names n a m.mentions t w in
       let sub1 : Subset bs m.known = mentions-subset m.mentions in
       let q2 = part-again f ext m.known m.good (pieces-more code s.plain s1.plain y g1.plain l h.2) (uses-more n bs m.known sub1 l us.4) q1.after q1.same in
-      let a' : Anew code names (with_store s t) (resumed code u v args (t p)) o (with_store s1 q1.after) o' left = subst (λ z. Anew code names (with_store s t) (resumed code u v args z) o (with_store s1 q1.after) o' left) (w p us.0) q1.anew in
+      let a' : Anew code names (with_store s t) (resumed code u v args (t p)) o (with_store s1 q1.after) o' left =
+      subst (λ z. Anew code names (with_store s t) (resumed code u v args z) o (with_store s1 q1.after) o' left)
+      (w p us.0) q1.anew in
       let z : Part code names (suc k1) (with_store s t) (WasRead p value u v args o l) j (with_store s' q2.after) (WasRead p (t p) u v args o' l') = Part.stale (λ i. e (w p us.0 ∙ i)) a' q2.part in
       record {
         known = q2.known;
@@ -97,7 +100,8 @@ module _ {names : ℕ → ℕ} (code : Code) (inputs : List Block) (f : ℕ) (ar
       go (Core c) k = core c k
 
   pieces-of : (k j : ℕ) (s' : State) (m : Trace) (p : Part code names k (goes_on code inputs r) r.items j s' m) → Pieces code (with_inputs code inputs r.known) s'.plain r.items
-  pieces-of k j s' m p = uses-pieces code (length inputs) h.blocks (with_inputs code inputs r.known) s'.plain h.holds (grown code inputs f args fits r h k j s' m p) (yields' code inputs f args fits r h k j s' m p) h.uses
+  pieces-of k j s' m p = uses-pieces code (length inputs) h.blocks (with_inputs code inputs r.known) s'.plain h.holds
+      (grown code inputs f args fits r h k j s' m p) (yields' code inputs f args fits r h k j s' m p) h.uses
 
   -- the part from the store at the beginning of a later repair
   abbrev pub from_later : Plain → State
@@ -106,12 +110,17 @@ module _ {names : ℕ → ℕ} (code : Code) (inputs : List Block) (f : ℕ) (ar
   pub to-later : (k j : ℕ) (t : State) (m : Trace) → Part code names k (goes_on code inputs r) r.items j t m → (z : Plain) → Extends (with_inputs code inputs r.known) z
       → (a : Store) × Part code names k (from_later z) r.items j (with_store t a) m
   to-later k j t m p z ext =
-      let q = part-again names h.single code (length inputs) t.plain p (λ b block e. e) h.blocks (good code inputs f args fits r h) (pieces-of k j t m p) h.uses (starting code inputs z) (default-same z ext) in
+      let q = part-again names h.single code (length inputs) t.plain p (λ b block e. e) h.blocks
+      (good code inputs f args fits r h) (pieces-of k j t m p) h.uses (starting code inputs z)
+      (default-same z ext) in
       (q.after, q.part)
 
-  module _ (k i : ℕ) (t : State) (m : Trace) (p : Part code names k (goes_on code inputs r) r.items zero t m) (j : ℕ) (s' : State) (n : Trace) (g : Part code names (suc j) (goes_on code inputs (repair_at t m)) m i s' n) where
+  module _ (k i : ℕ) (t : State) (m : Trace) (p : Part code names k (goes_on code inputs r) r.items zero t m) (j : ℕ)
+      (s' : State) (n : Trace) (g : Part code names (suc j) (goes_on code inputs (repair_at t m)) m i s' n) where
     second : Part code names (suc j) (with_store t (starting code inputs t.plain)) m i s' n
-    second = subst (λ x. Part code names (suc j) (record { store = starting code inputs t.plain; plain = x; number = t.number; work = t.work }) m i s' n) (same-plain code inputs f args fits r h k zero t m p) g
+    second = subst (λ x. Part code names (suc j)
+        (record { store = starting code inputs t.plain; plain = x; number = t.number; work = t.work }) m i s' n)
+        (same-plain code inputs f args fits r h k zero t m p) g
 
     ext : Extends (with_inputs code inputs r.known) t.plain
     ext = grown code inputs f args fits r h k zero t m p
@@ -122,7 +131,13 @@ module _ {names : ℕ → ℕ} (code : Code) (inputs : List Block) (f : ℕ) (ar
     later-good : Good names (length inputs) h.blocks (from_later t.plain)
     later-good =
         let b = good code inputs f args fits r h in
-        record { plain = b.plain; store = λ p. Rattle.ceal_code.proofs.Words.StepLocality.word-more (length inputs) [] h.blocks (λ b i. elim i [ ]) (starting code inputs t.plain p) (starting-known code inputs fits.blocks t.plain p); free = b.free }
+        record {
+          plain = b.plain;
+          store = λ p. Rattle.ceal_code.proofs.Words.StepLocality.word-more
+              (length inputs) [] h.blocks (λ b i. elim i [ ]) (starting code inputs t.plain p)
+              (starting-known code inputs fits.blocks t.plain p);
+          free = b.free;
+        }
 
     later-grown : Extends (with_inputs code inputs r.known) s'.plain
     later-grown = (part-grows h.single joined later-good.free).plain
@@ -131,7 +146,9 @@ module _ {names : ℕ → ℕ} (code : Code) (inputs : List Block) (f : ℕ) (ar
     later-pieces =
         uses-pieces code (length inputs) h.blocks (with_inputs code inputs r.known) s'.plain h.holds later-grown
         (Rattle.ceal_theory.proofs.Store.Mentions.uses-yields code (length inputs) h.blocks (with_inputs code inputs r.known) s'.plain h.holds
-        (Rattle.ceal_theory.proofs.Repair.RepairInvariant.agrees (length inputs) h.blocks (with_inputs code inputs r.known) s'.plain h.holds later-grown) h.yields (start-known code inputs f args fits r h h.blocks) h.uses) h.uses
+        (Rattle.ceal_theory.proofs.Repair.RepairInvariant.agrees (length inputs) h.blocks
+        (with_inputs code inputs r.known) s'.plain h.holds later-grown) h.yields
+        (start-known code inputs f args fits r h h.blocks) h.uses) h.uses
 
     -- two parts one after the other are one part
     pub two-parts : (a : Store) × Part code names (beyond k (suc j)) (goes_on code inputs r) r.items i (with_store s' a) n
@@ -159,7 +176,8 @@ module _ {names : ℕ → ℕ} (code : Code) (inputs : List Block) (f : ℕ) (ar
     runs-stay (Some (suc j)) s' n (Runs.part {j = i} g) = same-end j i s' n g
 
   -- a slice of a repair that is done leaves it
-  pub done-stays : (r : Repair) → Sound code names inputs f args r → IsHonest code inputs r.items → (k : Option ℕ) (r' : Repair) → Slices code names inputs k r r' → r' ≡ repair_at (goes_on code inputs r) r.items
+  pub done-stays : (r : Repair) → Sound code names inputs f args r → IsHonest code inputs r.items → (k : Option ℕ)
+      (r' : Repair) → Slices code names inputs k r r' → r' ≡ repair_at (goes_on code inputs r) r.items
   done-stays r h honest k r' s = s.is ∙ runs-stay r h honest k s.after s.items s.runs
 
   module _ (r : Repair) (h : Sound code names inputs f args r) where
@@ -199,7 +217,8 @@ module _ {names : ℕ → ℕ} (code : Code) (inputs : List Block) (f : ℕ) (ar
           let honest : IsHonest code inputs m = whole-done code inputs f args fits r h (repair_at t m) w in
           with-left i p honest o z (done-stays (repair_at t m) (slice-sound code inputs f args fits r h None (repair_at t m) w) honest o z s ∙ again-same (suc i) p)
 
-    from-runs : (k : ℕ) (t : State) (m : Trace) → Runs code names (Some k) start r.items t m → (o : Option ℕ) (z : Repair) → Slices code names inputs o (repair_at t m) z → Follows code names inputs k r o z
+    from-runs : (k : ℕ) (t : State) (m : Trace) → Runs code names (Some k) start r.items t m → (o : Option ℕ)
+        (z : Repair) → Slices code names inputs o (repair_at t m) z → Follows code names inputs k r o z
     from-runs k t m (Runs.part {j = i} p) o z s = by-left k t m i p o z s
 
     -- two slices on the same inputs are one

@@ -79,7 +79,9 @@ module _ (code : Code) (old new : List Block) (f : ℕ) (args : List Word) (l : 
       none-some _ (sym i ∙ adjusted-found code new number n l r.items r.spent (slices-adjusts code own old new f args l number number e own-single e.above r s.0) s.1)
   by-cases n (Some a) (Some r) i j =
       let s = sliced-sound code own new n (beginning code new l number) None r j in
-      let same = some-same a (record { items = r.items; work = r.spent }) (sym i ∙ adjusted-found code new number n l r.items r.spent (slices-adjusts code own old new f args l number number e own-single e.above r s.0) s.1) in
+      let same = some-same a (record { items = r.items; work = r.spent })
+      (sym i ∙ adjusted-found code new number n l r.items r.spent
+      (slices-adjusts code own old new f args l number number e own-single e.above r s.0) s.1) in
       SameRepair.some (ap (λ a. a.items) (sym same)) (ap (λ a. a.work) (sym same))
 
   pub begun-adjusted : (n : ℕ) → SameRepair (adjusted code new number n l) (sliced code own new None n (beginning code new l number))

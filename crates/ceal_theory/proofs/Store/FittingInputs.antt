@@ -52,7 +52,8 @@ module _ (code : Code) (inputs : List Block) (fit : inputs_fit code.structs inpu
     where
       go : (t : Bool) → KnownWord (length inputs) [] (if t then unwrap_or (slice_get block.words f) (field_default (field_kind code.structs block.shape f)) else Num (pos 0))
       go true = get-of (KnownWord (length inputs) []) (λ n. tt) tt block.words f (field_default (field_kind code.structs block.shape f))
-          (each-words (length inputs) [] block.words (input-known code.structs inputs fit i block e)) (field_default-of (KnownWord (length inputs) []) (λ n. tt) tt (field_kind code.structs block.shape f))
+          (each-words (length inputs) [] block.words (input-known code.structs inputs fit i block e))
+          (field_default-of (KnownWord (length inputs) []) (λ n. tt) tt (field_kind code.structs block.shape f))
       go false = tt
 
   base-known : (b : BlockId) (f : ℕ) → KnownWord (length inputs) [] (content_in code.structs (input_block inputs b) f)
@@ -108,7 +109,8 @@ module _ (code : Code) (old new : List Block) (more : Extended code old new) whe
   shape-in : (i : ℕ) (b : Block) (o : Option Block) → slice_get old i ≡ Some b → slice_get new i ≡ o → (c : Block) × (slice_get new i ≡ Some c) × (c.shape ≡ b.shape)
   shape-in i b None e h = none-some (plain_block code.structs b) (sym (ap (option_map (plain_block code.structs)) h) ∙ more i b e)
   shape-in i b (Some c) e h =
-      let same : plain_block code.structs c ≡ plain_block code.structs b = some-same (plain_block code.structs c) (plain_block code.structs b) (sym (ap (option_map (plain_block code.structs)) h) ∙ more i b e) in
+      let same : plain_block code.structs c ≡ plain_block code.structs b = some-same (plain_block code.structs c)
+      (plain_block code.structs b) (sym (ap (option_map (plain_block code.structs)) h) ∙ more i b e) in
       (c, h, ap (λ block. block.shape) same)
 
   shapes-kept : ShapesKept before after

@@ -85,7 +85,8 @@ module _ (code : Code) (n : ℕ) (ds : List ℕ) where
 
   -- a read with old items inside
   opened-knows : (bs : List ℕ) (s : State) (u : UnitId) (v : ℕ) (args : List Word) (value now : Word) (inside : Trace) (b : Bool) → same_word now value ≡ b → StateKnows bs s
-      → KnownWords n bs args → KnownWord n bs now → KnownWords n ds args → KnownWord n ds value → Told code s.plain (next code s.plain (resumed code u v args value)) inside → Sure code n ds s.plain inside
+      → KnownWords n bs args → KnownWord n bs now → KnownWords n ds args → KnownWord n ds value → Told code s.plain
+      (next code s.plain (resumed code u v args value)) inside → Sure code n ds s.plain inside
       → KnowsMode code n ds s.plain bs (opened code b u v args now inside)
   opened-knows bs s u v args value now inside true e g ka kn da dv t h =
       let k : KnownWord n bs value = subst (KnownWord n bs) (word-same now value e) kn in
@@ -93,7 +94,8 @@ module _ (code : Code) (n : ℕ) (ds : List ℕ) where
   opened-knows bs s u v args value now inside false e g ka kn da dv t h = (given-known n bs code u.0 v args now Empty ka kn tt, h)
 
   -- with a block whose words are those of a known key
-  clears-knows : (bs : List ℕ) (s : State) (b : ℕ) (key : Key) → StateKnows bs s → KnownKey n bs key → s.plain (Core b) ≡ Some (made code s.plain key) → StateKnows (b ∷ bs) (clears code s (Core b) key)
+  clears-knows : (bs : List ℕ) (s : State) (b : ℕ) (key : Key) → StateKnows bs s → KnownKey n bs key → s.plain
+      (Core b) ≡ Some (made code s.plain key) → StateKnows (b ∷ bs) (clears code s (Core b) key)
   clears-knows bs s b key g k e = record {
     plain = holds-with n bs s.plain s.plain b g.plain (λ c block i. i) (record {
       block = made code s.plain key;
@@ -104,7 +106,8 @@ module _ (code : Code) (n : ℕ) (ds : List ℕ) where
     store = cleared-known code n (b ∷ bs) s.store (Core b) key (store-more n bs (b ∷ bs) s.store (wider b bs) g.store);
   }
 
-  grows-knows : (bs : List ℕ) (names : ℕ → ℕ) (s : State) (key : Key) → StateKnows bs s → KnownKey n bs key → s.plain (Core (names s.number)) ≡ None → StateKnows (names s.number ∷ bs) (grows code names s key)
+  grows-knows : (bs : List ℕ) (names : ℕ → ℕ) (s : State) (key : Key) → StateKnows bs s → KnownKey n bs key → s.plain
+      (Core (names s.number)) ≡ None → StateKnows (names s.number ∷ bs) (grows code names s key)
   grows-knows bs names s key g k e =
       let b = names s.number in
       let ext = extends-at s.plain b (made code s.plain key) e in
@@ -118,7 +121,9 @@ module _ (code : Code) (n : ℕ) (ds : List ℕ) where
         store = cleared-known code n (b ∷ bs) s.store (Core b) key (store-more n bs (b ∷ bs) s.store (wider b bs) g.store);
       }
 
-  run-knows : (bs : List ℕ) (key : Key) (b v u i : ℕ) (env : Variables) (below : Stack) → In b bs → KnownVariables n bs env → KnownStack n bs below → KnownStack n bs (Run u i (set env v (pointer key (Core b))) below)
+  run-knows : (bs : List ℕ) (key : Key) (b v u i : ℕ) (env : Variables) (below : Stack) → In b bs
+      → KnownVariables n bs env → KnownStack n bs below → KnownStack n bs
+      (Run u i (set env v (pointer key (Core b))) below)
   run-knows bs key b v u i env below j h k = (set-known n bs env v (pointer key (Core b)) h (pointer-known n bs key (Core b) j), k)
 
   -- what is after a step that was gone through
@@ -232,13 +237,23 @@ module _ (code : Code) (n : ℕ) (ds : List ℕ) where
   unfolding NewNumber
   making-knows names bs s fs key v u i env below old (Some t) w g ka h k j =
       let a = sure-alloc code n ds s.plain key old h t w in
-      subst (λ d. GoesKnowing code n ds bs (Step ∷ Alloc d key ∷ []) (record { state = clears code (works s) d key; mode = Running (Run u i (set env v (pointer key d)) below) t.leftover; frames = fs })) (sym a.is)
+      subst (λ d. GoesKnowing code n ds bs (Step ∷ Alloc d key ∷ [])
+      (record {
+        state = clears code (works s) d key;
+        mode = Running
+            (Run u i (set env v (pointer key d)) below) t.leftover;
+        frames = fs;
+      })) (sym a.is)
       (record {
         known = a.core ∷ bs;
         items = KnownItems.step (KnownItems.alloc ka.0 KnownItems.none);
         knows = all (a.core ∷ bs) (clears code (works s) (Core a.core) key) (Running (Run u i (set env v (pointer key (Core a.core))) below) t.leftover) fs
-            (clears-knows bs (works s) a.core key (works-knows bs s g) ka.0 a.held)
-            (run-knows (a.core ∷ bs) key a.core v u i env below here (variables-more n bs (a.core ∷ bs) (wider a.core bs) env ka.1) (stack-more n bs (a.core ∷ bs) (wider a.core bs) below ka.2), a.left)
+            (clears-knows bs (works s) a.core key (works-knows bs s g) ka.0 a.held) (
+              run-knows (a.core ∷ bs) key a.core v u i env below here
+                  (variables-more n bs (a.core ∷ bs) (wider a.core bs) env ka.1)
+                  (stack-more n bs (a.core ∷ bs) (wider a.core bs) below ka.2),
+              a.left,
+            )
             (frames-more s.plain s.plain bs (a.core ∷ bs) g.old (λ c block i. i) (wider a.core bs) fs k);
       })
   making-knows names bs s fs key v u i env below old None w g ka h k j =
@@ -250,8 +265,11 @@ module _ (code : Code) (n : ℕ) (ds : List ℕ) where
         known = b ∷ bs;
         items = KnownItems.step (KnownItems.alloc ka.0 KnownItems.none);
         knows = all (b ∷ bs) (grows code names (works s) key) (Running (Run u i (set env v (pointer key (Core b))) below) old) fs
-            (grows-knows bs names (works s) key (works-knows bs s g) ka.0 e)
-            (run-knows (b ∷ bs) key b v u i env below here (variables-more n bs (b ∷ bs) (wider b bs) env ka.1) (stack-more n bs (b ∷ bs) (wider b bs) below ka.2), sure-more code n ds s.plain y g.old ext old h)
+            (grows-knows bs names (works s) key (works-knows bs s g) ka.0 e) (
+              run-knows (b ∷ bs) key b v u i env below here (variables-more n bs (b ∷ bs) (wider b bs) env ka.1)
+                  (stack-more n bs (b ∷ bs) (wider b bs) below ka.2),
+              sure-more code n ds s.plain y g.old ext old h,
+            )
             (frames-more s.plain y bs (b ∷ bs) g.old ext (wider b bs) fs k);
       }
 
@@ -264,18 +282,26 @@ module _ (code : Code) (n : ℕ) (ds : List ℕ) where
         known = bs;
         items = KnownItems.step (KnownItems.read ka.0 (g.store p) ka.1 KnownItems.none);
         knows = all bs (works s) (opened code (same_word (s.store p) r.value) u v args (s.store p) r.inside) (AfterMend below r.leftover fs) (works-knows bs s g)
-            (opened-knows bs (works s) u v args r.value (s.store p) r.inside (same_word (s.store p) r.value) refl (works-knows bs s g) ka.1 (g.store p) a.words a.value a.told a.inside) (ka.2, a.left, k);
+            (opened-knows bs (works s) u v args r.value (s.store p) r.inside (same_word (s.store p) r.value) refl
+            (works-knows bs s g) ka.1 (g.store p) a.words a.value a.told a.inside) (ka.2, a.left, k);
       }
   reading-knows bs s fs p u v args below old None w g ka h k = record {
     known = bs;
     items = KnownItems.step (KnownItems.read ka.0 (g.store p) ka.1 KnownItems.none);
-    knows = all bs (works s) (Running (resumed code u v args (s.store p)) old) (AfterRun below fs) (works-knows bs s g) (given-known n bs code u.0 v args (s.store p) Empty ka.1 (g.store p) tt, h) (ka.2, k);
+    knows = all bs (works s) (Running (resumed code u v args (s.store p)) old) (AfterRun below fs)
+        (works-knows bs s g) (given-known n bs code u.0 v args (s.store p) Empty ka.1 (g.store p) tt, h) (ka.2, k);
   }
 
   acting-knows : (names : ℕ → ℕ) (bs : List ℕ) (s : State) (fs : Frames) (old : Trace) (a : Act) → StateKnows bs s → KnownAct n bs a → Sure code n ds s.plain old → KnowsFrames code n ds s.plain bs fs
       → NewNumber names s (acting code names s fs old a) → Then code n ds bs (acting code names s fs old a)
   acting-knows names bs s fs old Over g ka h k j = closed-knows bs s old fs g h k
-  acting-knows names bs s fs old (Quiet after) g ka h k j = record { known = bs; items = KnownItems.step KnownItems.none; knows = all bs (works s) (Running after old) fs (works-knows bs s g) (ka, h) k }
+  acting-knows names bs s fs old (Quiet after) g ka h k j =
+      record {
+        known = bs;
+        items = KnownItems.step KnownItems.none;
+        knows = all bs (works s) (Running after old) fs
+            (works-knows bs s g) (ka, h) k;
+      }
   acting-knows names bs s fs old (Makes key v u i env below) g ka h k j = making-knows names bs s fs key v u i env below old (take_alloc key old) refl g ka h k j
   acting-knows names bs s fs old (Writes p value after) g ka h k j = record {
     known = bs;
@@ -321,7 +347,9 @@ module _ (code : Code) (n : ℕ) (ds : List ℕ) where
   unfolding turn
   stays-knows bs s fs fs' [] back k h e = record { known = bs; items = KnownItems.none; knows = subst (λ gs. Knows code n ds bs (flat_machine s GoesThrough gs back)) (some-same fs fs' e) k }
   stays-knows bs s fs fs' (Step ∷ front) back k h e =
-      one-more bs (flat_machine s GoesThrough fs (Step ∷ front ++ back)) (flat_machine s GoesThrough fs (front ++ back)) _ Step front k (λ names. refl) refl (λ cs q. stays-knows cs s fs fs' front back q h.1 e)
+      one-more bs (flat_machine s GoesThrough fs (Step ∷ front ++ back))
+      (flat_machine s GoesThrough fs (front ++ back)) _ Step front k (λ names. refl) refl
+      (λ cs q. stays-knows cs s fs fs' front back q h.1 e)
   stays-knows bs s fs fs' (Alloc b key ∷ front) back k h e =
       one-more bs (flat_machine s GoesThrough fs (Alloc b key ∷ front ++ back)) (flat_machine (clears code s b key) GoesThrough fs (front ++ back)) _ (Alloc b key) front k (λ names. refl) refl
       (λ cs q. stays-knows cs (clears code s b key) fs fs' front back q h.1 e)
@@ -332,7 +360,9 @@ module _ (code : Code) (n : ℕ) (ds : List ℕ) where
       one-more bs (flat_machine s GoesThrough fs (Read p v u x args ∷ front ++ back)) (flat_machine s GoesThrough (Fixes ∷ fs) (front ++ back)) _ (Read p v u x args) front k
       (λ names. read-turn code names s fs p v u x args (front ++ back) h.0) refl (λ cs q. stays-knows cs s (Fixes ∷ fs) fs' front back q h.1 e)
   stays-knows bs s (Fixes ∷ fs) fs' (End ∷ front) back k h e =
-      one-more bs (flat_machine s GoesThrough (Fixes ∷ fs) (End ∷ front ++ back)) (flat_machine s GoesThrough fs (front ++ back)) _ End front k (λ names. refl) refl (λ cs q. stays-knows cs s fs fs' front back q h.1 e)
+      one-more bs (flat_machine s GoesThrough (Fixes ∷ fs) (End ∷ front ++ back))
+      (flat_machine s GoesThrough fs (front ++ back)) _ End front k (λ names. refl) refl
+      (λ cs q. stays-knows cs s fs fs' front back q h.1 e)
   stays-knows bs s (Mends below m ∷ fs) fs' (End ∷ front) back k h e = none-some fs' e
   stays-knows bs s (GoesOn below ∷ fs) fs' (End ∷ front) back k h e = none-some fs' e
   stays-knows bs s [] fs' (End ∷ front) back k h e = none-some fs' e
@@ -356,7 +386,9 @@ module _ (code : Code) where
         old = held;
         store = bases-known code new e.fit;
         mode = (
-          whole-at code (length new) e.trace.known [] x none held (started code f args) known (stack-more (length new) [] e.trace.known (λ b i. elim i [ ]) (started code f args) known) (yields-told code x yields),
+          whole-at code (length new) e.trace.known [] x none held (started code f args) known
+              (stack-more (length new) [] e.trace.known (λ b i. elim i [ ]) (started code f args) known)
+              (yields-told code x yields),
           yields-sure code (length new) e.trace.known x yields [] e.trace.known (mentions-new code old new f args e.call e.fit e.extended l e.trace) (λ b i. i),
         );
         frames = tt;

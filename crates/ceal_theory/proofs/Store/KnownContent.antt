@@ -49,7 +49,8 @@ module _ (code : Code) (n : ℕ) where
   inputs-same (KnownItems.write {p = q} {value = v} k l h) p i e w = inputs-same h p i e (if same_place p q then v else w)
   inputs-same (KnownItems.read k l j h) p i e w = inputs-same h p i e w
 
-  after-same : {bs cs : List ℕ} {is : List Item} → KnownItems n bs is cs → (p : Place) (b : ℕ) → p.block ≡ Core b → count b (allocs is) ≡ 0 → (w : Word) → content_after code p w is ≡ written_after p w is
+  after-same : {bs cs : List ℕ} {is : List Item} → KnownItems n bs is cs → (p : Place) (b : ℕ) → p.block ≡ Core b
+      → count b (allocs is) ≡ 0 → (w : Word) → content_after code p w is ≡ written_after p w is
   after-same KnownItems.none p b e z w = refl
   after-same (KnownItems.step h) p b e z w = after-same h p b e z w
   after-same (KnownItems.close h) p b e z w = after-same h p b e z w

@@ -75,7 +75,8 @@ module _ (code : Code) (names : ℕ → ℕ) (n : ℕ) where
     pub same : SameAt n cs s'.store after
 
   mutual
-    pub fix-again : {s s' : State} {old new : Trace} → Fix code names s old s' new → {bs cs : List ℕ} → Mentions n bs new cs → (t : Store) → SameAt n bs s.store t → FixAgain s' (with_store s t) old new cs
+    pub fix-again : {s s' : State} {old new : Trace} → Fix code names s old s' new → {bs cs : List ℕ}
+        → Mentions n bs new cs → (t : Store) → SameAt n bs s.store t → FixAgain s' (with_store s t) old new cs
     fix-again Fix.end Mentions.end t h = record { after = t; fix = Fix.end; same = h }
     fix-again (Fix.step f) (Mentions.step m) t h = let q = fix-again f m t h in record { after = q.after; fix = Fix.step q.fix; same = q.same }
     fix-again {s} (Fix.alloc f) {bs} (Mentions.alloc {b = b} {key = key} a m) t h =
@@ -86,7 +87,12 @@ module _ (code : Code) (names : ℕ → ℕ) (n : ℕ) where
         let q1 = mend-again m a m1 t h in
         let q2 = fix-again f m2 q1.after q1.same in
         let z : Fix code names (with_store s t) (WasRead p value u v args i l) (with_store s' q2.after) (WasRead p (t p) u v args i' l') = Fix.read q1.mend q2.fix in
-        record { after = q2.after; fix = subst (λ w. Fix code names (with_store s t) (WasRead p value u v args i l) (with_store s' q2.after) (WasRead p w u v args i' l')) (sym (h p a)) z; same = q2.same }
+        record {
+          after = q2.after;
+          fix = subst (λ w. Fix code names (with_store s t) (WasRead p value u v args i l)
+              (with_store s' q2.after) (WasRead p w u v args i' l')) (sym (h p a)) z;
+          same = q2.same;
+        }
 
     pub mend-again : {s s' : State} {p : Place} {u : UnitId} {v : ℕ} {args : List Word} {value : Word} {old new : Trace} → Mend code names s p u v args value old s' new
         → {bs cs : List ℕ} → KnownBlock n bs p.block → Mentions n bs new cs → (t : Store) → SameAt n bs s.store t → MendAgain s' (with_store s t) p u v args value old new cs
@@ -114,7 +120,8 @@ module _ (code : Code) (names : ℕ → ℕ) (n : ℕ) where
         let q2 = anew-again f m2 q1.after q1.same in
         let z : Anew code names (with_store s t) st old (with_store s' q2.after) (Stepped (WasRead p (t p) u v args i' l')) left = Anew.takes_read e w q1.mend q2.anew in
         record { after = q2.after; anew = subst (λ w. Anew code names (with_store s t) st old (with_store s' q2.after) (Stepped (WasRead p w u v args i' l')) left) (sym (h p a)) z; same = q2.same }
-    anew-again {s} {s'} {st} {old} (Anew.reads {t = s1} {p = p} {u = u} {v = v} {args = args} {between = between} {inside' = i'} {new = l'} {left = left} e w g f) (Mentions.step (Mentions.read a b c m1 m2)) t h =
+    anew-again {s} {s'} {st} {old} (Anew.reads {t = s1} {p = p} {u = u} {v = v} {args = args} {between =
+        between} {inside' = i'} {new = l'} {left = left} e w g f) (Mentions.step (Mentions.read a b c m1 m2)) t h =
         let q1 = anew-again g m1 t h in
         let q2 = anew-again f m2 q1.after q1.same in
         let y : Anew code names (works (with_store s t)) (resumed code u v args (t p)) old (with_store s1 q1.after) i' between =

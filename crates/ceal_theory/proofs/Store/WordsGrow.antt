@@ -64,7 +64,8 @@ mutual
   mend-grows single (Mend.kept e f) h = fix-grows single f h
   mend-grows single (Mend.stale e a) h = anew-grows single a h
 
-  pub anew-grows : {code : Code} {names : ℕ → ℕ} {s s' : State} {st : Stack} {old new left : Trace} → Single names → Anew code names s st old s' new left → FreeFrom names s.plain s.number → Grown names s s'
+  pub anew-grows : {code : Code} {names : ℕ → ℕ} {s s' : State} {st : Stack} {old new left : Trace} → Single names
+      → Anew code names s st old s' new left → FreeFrom names s.plain s.number → Grown names s s'
   anew-grows single (Anew.over e) h = record { plain = λ b block e. e; free = h }
   anew-grows single (Anew.quiet e a) h = let g = anew-grows single a h in record { plain = g.plain; free = g.free }
   anew-grows single (Anew.takes_alloc e t a) h = let g = anew-grows single a h in record { plain = g.plain; free = g.free }

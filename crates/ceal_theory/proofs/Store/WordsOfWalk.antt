@@ -94,7 +94,8 @@ module _ (code : Code) (inputs : ℕ) where
   makes-same : (bs : List ℕ) (x z : Plain) (key : Key) → Holds inputs bs x → Extends x z → KnownKey inputs bs key → made code x key ≡ made code z key
   makes-same bs x z key h ext k = made-same inputs bs x h z (agrees inputs bs x z h ext) code key k
 
-  pub walked : (y : Plain) {st : Stack} {l : Trace} → Yields code y st l → (bs cs : List ℕ) (x : Plain) → Holds inputs bs x → Extends x y → KnownStack inputs bs st → Mentions inputs bs l cs → Walked x y st l cs
+  pub walked : (y : Plain) {st : Stack} {l : Trace} → Yields code y st l → (bs cs : List ℕ) (x : Plain)
+      → Holds inputs bs x → Extends x y → KnownStack inputs bs st → Mentions inputs bs l cs → Walked x y st l cs
   walked y {st} (Yields.over e) bs cs x h ext k Mentions.end = record {
     from = λ b block i. i;
     within = ext;
@@ -143,7 +144,8 @@ module _ (code : Code) (inputs : ℕ) where
         mono = q.mono;
         yields = λ z w. Yields.writes (knows y bs x z st (Writes p v after) h ext (extends-trans x (plain_after code x rest) z q.from w) k e) (q.yields z w);
       }
-  walked y {st} (Yields.reads {below = below} {p = p} {u = u} {v = v} {args = args} {value = value} {inside = inside} {rest = rest} e r1 r2) bs cs x h ext k (Mentions.step (Mentions.read {ds = ds} mp mv ma m1 m2)) =
+  walked y {st} (Yields.reads {below = below} {p = p} {u = u} {v = v} {args = args} {value = value} {inside =
+      inside} {rest = rest} e r1 r2) bs cs x h ext k (Mentions.step (Mentions.read {ds = ds} mp mv ma m1 m2)) =
       let a = step-y code inputs y bs x st (Reads p u v args below) h ext k e in
       let q1 = walked y r1 bs ds x h ext (given-known inputs bs code u.0 v args value Empty a.1 mv tt) m1 in
       let x' = plain_after code x inside in
@@ -158,7 +160,8 @@ module _ (code : Code) (inputs : ℕ) where
       }
 
   -- what is held of the blocks that the items allocate makes them pieces
-  pub yields-pieces : (y : Plain) {st : Stack} {l : Trace} → Yields code y st l → (bs cs ds : List ℕ) (x : Plain) → Holds inputs ds x → Extends x y → Subset cs ds → Mentions inputs bs l cs → Pieces code x y l
+  pub yields-pieces : (y : Plain) {st : Stack} {l : Trace} → Yields code y st l → (bs cs ds : List ℕ) (x : Plain)
+      → Holds inputs ds x → Extends x y → Subset cs ds → Mentions inputs bs l cs → Pieces code x y l
   yields-pieces y (Yields.over e) bs cs ds x h ext sub Mentions.end = tt
   yields-pieces y (Yields.quiet e r) bs cs ds x h ext sub (Mentions.step m) = yields-pieces y r bs cs ds x h ext sub m
   yields-pieces y (Yields.makes {key = key} {b = b} e g r) bs cs ds x h ext sub (Mentions.step (Mentions.alloc mk m)) =

@@ -119,7 +119,9 @@ module _ {names : ℕ → ℕ} (code : Code) (inputs : List Block) (f : ℕ) (ar
   }
 
   knows : Knows code (length inputs) h.blocks [] (flat_machine (goes_on code inputs r) GoesThrough [] (front ++ back))
-  knows = subst (λ m. Knows code (length inputs) h.blocks [] m) (sym (ap (flat_machine (goes_on code inputs r) GoesThrough []) (sym e) ∙ begins code names (goes_on code inputs r) r.items)) begins-knowing
+  knows = subst (λ m. Knows code (length inputs) h.blocks [] m)
+      (sym (ap (flat_machine (goes_on code inputs r) GoesThrough []) (sym e) ∙ begins code names
+      (goes_on code inputs r) r.items)) begins-knowing
 
   known-front : KnownItems (length inputs) [] front (known_after [] front)
   known-front =

@@ -143,7 +143,9 @@ module _ (code : Code) where
         let d : FirstsAs code inputs names f args r.items m.state.work = record { after = m.state; left = r.left; anew = r.anew; counted = refl } in
         let q = first-back code inputs f args fits names single-first m.state.work r.items m.state.work d (omega arith) in
         let walk = anew-honest r.anew in
-        let steps : steps_of r.items ≡ m.state.work = sym (steps-alike q.3.alike) ∙ (first-steps code inputs f args fits q.0.items q.0.work (first-sound code inputs m.state.work f args q.0 q.1).0 ∙ q.2) in
+        let steps : steps_of r.items ≡ m.state.work = sym (steps-alike q.3.alike) ∙
+        (first-steps code inputs f args fits q.0.items q.0.work
+        (first-sound code inputs m.state.work f args q.0 q.1).0 ∙ q.2) in
         record {
           bound = most chosen;
           a = q.0;

@@ -49,9 +49,13 @@ module _ (code : Code) (names : ℕ → ℕ) where
   stays s fs fs' (Step ∷ front) back h e =
       one-item (flat_machine s GoesThrough fs (Step ∷ front ++ back)) (flat_machine s GoesThrough fs (front ++ back)) _ Step front refl (stays s fs fs' front back h.1 e)
   stays s fs fs' (Alloc b key ∷ front) back h e =
-      one-item (flat_machine s GoesThrough fs (Alloc b key ∷ front ++ back)) (flat_machine (clears code s b key) GoesThrough fs (front ++ back)) _ (Alloc b key) front refl (stays (clears code s b key) fs fs' front back h.1 e)
+      one-item (flat_machine s GoesThrough fs (Alloc b key ∷ front ++ back))
+      (flat_machine (clears code s b key) GoesThrough fs (front ++ back)) _ (Alloc b key) front refl
+      (stays (clears code s b key) fs fs' front back h.1 e)
   stays s fs fs' (Write p v ∷ front) back h e =
-      one-item (flat_machine s GoesThrough fs (Write p v ∷ front ++ back)) (flat_machine (puts s p v) GoesThrough fs (front ++ back)) _ (Write p v) front refl (stays (puts s p v) fs fs' front back h.1 e)
+      one-item (flat_machine s GoesThrough fs (Write p v ∷ front ++ back))
+      (flat_machine (puts s p v) GoesThrough fs (front ++ back)) _ (Write p v) front refl
+      (stays (puts s p v) fs fs' front back h.1 e)
   stays s fs fs' (Read p v u x args ∷ front) back h e =
       one-item (flat_machine s GoesThrough fs (Read p v u x args ∷ front ++ back)) (flat_machine s GoesThrough (Fixes ∷ fs) (front ++ back)) _ (Read p v u x args) front
       (read-turn s fs p v u x args (front ++ back) h.0) (stays s (Fixes ∷ fs) fs' front back h.1 e)
@@ -62,7 +66,9 @@ module _ (code : Code) (names : ℕ → ℕ) where
   stays s [] fs' (End ∷ front) back h e = none-some fs' e
 
   stale-turn : (s : State) (fs : List FlatFrame) (p : Place) (value : Word) (u : UnitId) (v : ℕ) (args : List Word) (is : List Item) → ¬ (s.store p ≡ value)
-      → turn code names (flat_machine s GoesThrough fs (Read p value u v args ∷ is)) ≡ Went (Read p (s.store p) u v args ∷ []) (flat_machine s (Runs (resumed code u v args (s.store p)) 1) (Fixes ∷ fs) is)
+      → turn code names (flat_machine s GoesThrough fs (Read p value u v args ∷ is)) ≡ Went
+      (Read p (s.store p) u v args ∷ []) (flat_machine s (Runs (resumed code u v args (s.store p)) 1)
+      (Fixes ∷ fs) is)
   unfolding turn
   stale-turn s fs p value u v args is h = rw (differ (s.store p) value h, loose-one (levels is)) refl
 
@@ -106,13 +112,17 @@ module _ (code : Code) (names : ℕ → ℕ) where
 
   makes-turn : (s : State) (fs : List FlatFrame) (st below : Stack) (key : Key) (v u i : ℕ) (env : Variables) (n : ℕ) (is : List Item) → next code s.plain st ≡ Makes key v u i env below
       → find_alloc key n is ≡ None → (b : ℕ) → names s.number ≡ b
-      → turn code names (flat_machine s (Runs st n) fs is) ≡ Went (Step ∷ Alloc (Core b) key ∷ []) (flat_machine (grows code (λ k. b) (works s) key) (Runs (Run u i (set env v (pointer key (Core b))) below) n) fs is)
+      → turn code names (flat_machine s (Runs st n) fs is) ≡ Went (Step ∷ Alloc (Core b) key ∷ [])
+      (flat_machine (grows code (λ k. b) (works s) key)
+      (Runs (Run u i (set env v (pointer key (Core b))) below) n) fs is)
   unfolding turn
   makes-turn s fs st below key v u i env n is e w b h = rw (e, take-found key is n, w, h) refl
 
   takes-alloc-turn : (s : State) (fs : List FlatFrame) (st below : Stack) (key : Key) (v u i : ℕ) (env : Variables) (n : ℕ) (is : List Item) → next code s.plain st ≡ Makes key v u i env below
       → (f : FoundAlloc) → find_alloc key n is ≡ Some f
-      → turn code names (flat_machine s (Runs st n) fs is) ≡ Went (Step ∷ Alloc f.block key ∷ []) (flat_machine (clears code (works s) f.block key) (Runs (Run u i (set env v (pointer key f.block)) below) f.levels) fs f.rest)
+      → turn code names (flat_machine s (Runs st n) fs is) ≡ Went (Step ∷ Alloc f.block key ∷ [])
+      (flat_machine (clears code (works s) f.block key)
+      (Runs (Run u i (set env v (pointer key f.block)) below) f.levels) fs f.rest)
   unfolding turn
   takes-alloc-turn s fs st below key v u i env n is e f w = rw (e, take-found key is n, w, found-beyond key is n f w) refl
 
@@ -130,7 +140,8 @@ module _ (code : Code) (names : ℕ → ℕ) where
 
   takes-stale-turn : (s : State) (fs : List FlatFrame) (st below : Stack) (p : Place) (u : UnitId) (v : ℕ) (args : List Word) (n : ℕ) (is : List Item) → next code s.plain st ≡ Reads p u v args below
       → (f : FoundRead) → find_read p u v args n is ≡ Some f → same_word (s.store p) f.value ≡ false
-      → turn code names (flat_machine s (Runs st n) fs is) ≡ Went (Step ∷ Read p (s.store p) u v args ∷ []) (flat_machine (works s) (Runs (resumed code u v args (s.store p)) 1) (Mends below f.levels ∷ fs) f.rest)
+      → turn code names (flat_machine s (Runs st n) fs is) ≡ Went (Step ∷ Read p (s.store p) u v args ∷ [])
+      (flat_machine (works s) (Runs (resumed code u v args (s.store p)) 1) (Mends below f.levels ∷ fs) f.rest)
   unfolding turn
   takes-stale-turn s fs st below p u v args n is e f w k = rw (e, take-found-read p u v args is n, w, k, found-beyond-read p u v args is n f w, loose-one (levels f.rest)) refl
 
@@ -183,6 +194,7 @@ prefix-law code names s s' l m f h =
     let o = passes-front h.front back [] [] (ap (λ is. passes_all is []) (sym h.split) ∙ whole) in
     let j = stays code names s [] o.0 h.front back h.agrees o.1 in
     let at : flat_machine s GoesThrough [] (h.front ++ back) ≡ record { state = s; mode = Fixing l; frames = Bottom } = ap (flat_machine s GoesThrough []) (sym h.split) ∙ begins code names s l in
-    let start : Finishes code names (flat_machine s GoesThrough [] (h.front ++ back)) s' (flat m ++ []) = subst (λ k. Finishes code names k s' (flat m ++ [])) (sym at) (Finishes.fixes f Resumes.bottom) in
+    let start : Finishes code names (flat_machine s GoesThrough [] (h.front ++ back)) s' (flat m ++ []) = subst
+    (λ k. Finishes code names k s' (flat m ++ [])) (sym at) (Finishes.fixes f Resumes.bottom) in
     let g = j.ahead s' (flat m ++ []) start in
     (g.rest, sym (append-nil (flat m)) ∙ g.same)

@@ -76,7 +76,9 @@ record Inside (code : Code) (names : ℕ → ℕ) (s : State) (p : Place) (u : U
   resumes : Resumes code names state left fs s' later
   same : out ≡ flat items ++ later
 
-opened-inside : (code : Code) (names : ℕ → ℕ) (s : State) (p : Place) (u : UnitId) (v : ℕ) (args : List Word) (value : Word) (inside : Trace) (fs : Frames) (s' : State) (out : List Item) (b : Bool) → same_word (s.store p) value ≡ b
+opened-inside : (code : Code) (names : ℕ → ℕ) (s : State) (p : Place) (u : UnitId) (v : ℕ) (args : List Word)
+    (value : Word) (inside : Trace) (fs : Frames) (s' : State) (out : List Item) (b : Bool) → same_word
+    (s.store p) value ≡ b
     → Finishes code names (at s (opened code b u v args (s.store p) inside) fs) s' out → Inside code names s p u v args value inside fs s' out
 opened-inside code names s p u v args value inside fs s' out true e (Finishes.fixes {t = t} {new = new} {out = later} f r) =
     record { state = t; items = new; left = Nothing; later = later; mend = Mend.kept (word-same (s.store p) value e) f; resumes = r; same = refl }
@@ -98,7 +100,9 @@ fix-turn code names s fs Nothing = fix-closed code names s fs
 fix-turn code names s fs (Stepped rest) = λ s' out.
     on-fixing code names s s' rest fs out (λ o. Finishes code names (at s (Fixing (Stepped rest)) fs) s' (Step ∷ o)) (λ t new later f r. Finishes.fixes (Fix.step f) r)
 fix-turn code names s fs (Allocated b key rest) = λ s' out.
-    on-fixing code names (clears code s b key) s' rest fs out (λ o. Finishes code names (at s (Fixing (Allocated b key rest)) fs) s' (Alloc b key ∷ o)) (λ t new later f r. Finishes.fixes (Fix.alloc f) r)
+    on-fixing code names (clears code s b key) s' rest fs out
+    (λ o. Finishes code names (at s (Fixing (Allocated b key rest)) fs) s' (Alloc b key ∷ o))
+    (λ t new later f r. Finishes.fixes (Fix.alloc f) r)
 fix-turn code names s fs (Wrote p value rest) = λ s' out.
     on-fixing code names (puts s p value) s' rest fs out (λ o. Finishes code names (at s (Fixing (Wrote p value rest)) fs) s' (Write p value ∷ o)) (λ t new later f r. Finishes.fixes (Fix.write f) r)
 fix-turn code names s fs (WasRead p value u v args inside rest) = λ s' out h.
@@ -107,9 +111,15 @@ fix-turn code names s fs (WasRead p value u v args inside rest) = λ s' out h.
 make-turn : (code : Code) (names : ℕ → ℕ) (s : State) (st : Stack) (fs : Frames) (key : Key) (v u i : ℕ) (env : Variables) (below : Stack) (old : Trace) (o : Option TakenAlloc)
     → next code s.plain st ≡ Makes key v u i env below → take_alloc key old ≡ o → Kept code names (at s (Running st old) fs) (making code names s fs key v u i env below old o)
 make-turn code names s st fs key v u i env below old (Some x) e w = λ s' out.
-    on-running code names (clears code (works s) x.block key) s' (Run u i (set env v (pointer key x.block)) below) x.leftover fs out (λ o. Finishes code names (at s (Running st old) fs) s' (Step ∷ Alloc x.block key ∷ o)) (λ t new left later a r. Finishes.runs (Anew.takes_alloc e w a) r)
+    on-running code names (clears code (works s) x.block key) s'
+    (Run u i (set env v (pointer key x.block)) below) x.leftover fs out
+    (λ o. Finishes code names (at s (Running st old) fs) s' (Step ∷ Alloc x.block key ∷ o))
+    (λ t new left later a r. Finishes.runs (Anew.takes_alloc e w a) r)
 make-turn code names s st fs key v u i env below old None e w = λ s' out.
-    on-running code names (grows code names (works s) key) s' (Run u i (set env v (pointer key (Core (names s.number)))) below) old fs out (λ o. Finishes code names (at s (Running st old) fs) s' (Step ∷ Alloc (Core (names s.number)) key ∷ o)) (λ t new left later a r. Finishes.runs (Anew.makes e w a) r)
+    on-running code names (grows code names (works s) key) s'
+    (Run u i (set env v (pointer key (Core (names s.number)))) below) old fs out
+    (λ o. Finishes code names (at s (Running st old) fs) s' (Step ∷ Alloc (Core (names s.number)) key ∷ o))
+    (λ t new left later a r. Finishes.runs (Anew.makes e w a) r)
 
 took-read : (code : Code) (names : ℕ → ℕ) (s : State) (st below : Stack) (fs : Frames) (p : Place) (u : UnitId) (v : ℕ) (args : List Word) (old : Trace) (x : TakenRead) (s' : State) (out : List Item)
     → next code s.plain st ≡ Reads p u v args below → take_read p u v args old ≡ Some x
@@ -117,12 +127,15 @@ took-read : (code : Code) (names : ℕ → ℕ) (s : State) (st below : Stack) (
     → Finishes code names (at s (Running st old) fs) s' (Step ∷ Read p (s.store p) u v args ∷ out)
 took-read code names s st below fs p u v args old x s' out e w i = go i.state i.items i.left i.later i.mend i.resumes i.same
   where
-    go : (t : State) (items left : Trace) (later : List Item) → Mend code names (works s) p u v args x.value x.inside t items → Resumes code names t left (AfterMend below x.leftover fs) s' later → out ≡ flat items ++ later
+    go : (t : State) (items left : Trace) (later : List Item) → Mend code names
+        (works s) p u v args x.value x.inside t items → Resumes code names t left
+        (AfterMend below x.leftover fs) s' later → out ≡ flat items ++ later
         → Finishes code names (at s (Running st old) fs) s' (Step ∷ Read p (s.store p) u v args ∷ out)
     go t items left later m (Resumes.after_mend {new = new} {out = out'} a r) k =
         rw (k, ← append-end items out' (flat new)) (Finishes.runs (Anew.takes_read e w m a) r)
 
-ran-read : (code : Code) (names : ℕ → ℕ) (s : State) (st below : Stack) (fs : Frames) (p : Place) (u : UnitId) (v : ℕ) (args : List Word) (old : Trace) (s' t : State) (items left : Trace) (later : List Item)
+ran-read : (code : Code) (names : ℕ → ℕ) (s : State) (st below : Stack) (fs : Frames) (p : Place) (u : UnitId) (v : ℕ)
+    (args : List Word) (old : Trace) (s' t : State) (items left : Trace) (later : List Item)
     → next code s.plain st ≡ Reads p u v args below → take_read p u v args old ≡ None
     → Anew code names (works s) (resumed code u v args (s.store p)) old t items left → Resumes code names t left (AfterRun below fs) s' later
     → Finishes code names (at s (Running st old) fs) s' (Step ∷ Read p (s.store p) u v args ∷ (flat items ++ later))
@@ -132,18 +145,23 @@ ran-read code names s st below fs p u v args old s' t items left later e w m (Re
 read-turn : (code : Code) (names : ℕ → ℕ) (s : State) (st : Stack) (fs : Frames) (p : Place) (u : UnitId) (v : ℕ) (args : List Word) (below : Stack) (old : Trace) (o : Option TakenRead)
     → next code s.plain st ≡ Reads p u v args below → take_read p u v args old ≡ o → Kept code names (at s (Running st old) fs) (reading code s fs p u v args below old o)
 read-turn code names s st fs p u v args below old (Some x) e w = λ s' out h.
-    took-read code names s st below fs p u v args old x s' out e w (opened-inside code names (works s) p u v args x.value x.inside (AfterMend below x.leftover fs) s' out (same_word (s.store p) x.value) refl h)
+    took-read code names s st below fs p u v args old x s' out e w
+    (opened-inside code names (works s) p u v args x.value x.inside (AfterMend below x.leftover fs) s' out
+    (same_word (s.store p) x.value) refl h)
 read-turn code names s st fs p u v args below old None e w = λ s' out.
     on-running code names (works s) s' (resumed code u v args (s.store p)) old (AfterRun below fs) out (λ o. Finishes code names (at s (Running st old) fs) s' (Step ∷ Read p (s.store p) u v args ∷ o))
     (λ t new left later a r. ran-read code names s st below fs p u v args old s' t new left later e w a r)
 
-act-turn : (code : Code) (names : ℕ → ℕ) (s : State) (st : Stack) (fs : Frames) (old : Trace) (a : Act) → next code s.plain st ≡ a → Kept code names (at s (Running st old) fs) (acting code names s fs old a)
+act-turn : (code : Code) (names : ℕ → ℕ) (s : State) (st : Stack) (fs : Frames) (old : Trace) (a : Act)
+    → next code s.plain st ≡ a → Kept code names (at s (Running st old) fs) (acting code names s fs old a)
 act-turn code names s st fs old Over e = run-closed code names s st old fs e
 act-turn code names s st fs old (Quiet after) e = λ s' out.
     on-running code names (works s) s' after old fs out (λ o. Finishes code names (at s (Running st old) fs) s' (Step ∷ o)) (λ t new left later a r. Finishes.runs (Anew.quiet e a) r)
 act-turn code names s st fs old (Makes key v u i env below) e = make-turn code names s st fs key v u i env below old (take_alloc key old) e refl
 act-turn code names s st fs old (Writes p value after) e = λ s' out.
-    on-running code names (puts (works s) p value) s' after old fs out (λ o. Finishes code names (at s (Running st old) fs) s' (Step ∷ Write p value ∷ o)) (λ t new left later a r. Finishes.runs (Anew.writes e a) r)
+    on-running code names (puts (works s) p value) s' after old fs out
+    (λ o. Finishes code names (at s (Running st old) fs) s' (Step ∷ Write p value ∷ o))
+    (λ t new left later a r. Finishes.runs (Anew.writes e a) r)
 act-turn code names s st fs old (Reads p u v args below) e = read-turn code names s st fs p u v args below old (take_read p u v args old) e refl
 
 mode-turn : (code : Code) (names : ℕ → ℕ) (s : State) (fs : Frames) (m : Mode) → Kept code names (at s m fs) (moving code names s fs m)
@@ -186,7 +204,9 @@ turn-ahead code names (Finishes.fixes Fix.end r) = closed-ahead code names r
 turn-ahead code names (Finishes.fixes {out = out} (Fix.step {rest' = new} f) r) = record { rest = flat new ++ out; same = refl; finishes = Finishes.fixes f r }
 turn-ahead code names (Finishes.fixes {out = out} (Fix.alloc {rest' = new} f) r) = record { rest = flat new ++ out; same = refl; finishes = Finishes.fixes f r }
 turn-ahead code names (Finishes.fixes {out = out} (Fix.write {rest' = new} f) r) = record { rest = flat new ++ out; same = refl; finishes = Finishes.fixes f r }
-turn-ahead code names {s' = s'} (Finishes.fixes {fs = fs} {out = out} (Fix.read {s = s} {t = t} {p = p} {value = value} {u = u} {v = v} {args = args} {inside = inside} {inside' = new} {rest = rest} {rest' = rest'} m f) r) =
+turn-ahead code names {s' = s'} (Finishes.fixes {fs = fs} {out = out}
+    (Fix.read {s = s} {t = t} {p = p} {value = value} {u = u} {v = v} {args = args} {inside = inside} {inside' =
+    new} {rest = rest} {rest' = rest'} m f) r) =
     record {
       rest = flat new ++ (End ∷ (flat rest' ++ out));
       same = ap (λ o. Read p (s.store p) u v args ∷ o) (append-end new out (flat rest'));
@@ -197,7 +217,9 @@ turn-ahead code names (Finishes.runs {out = out} (Anew.quiet {new = new} e a) r)
 turn-ahead code names (Finishes.runs {out = out} (Anew.takes_alloc {new = new} e w a) r) = rw (e, w) (record { rest = flat new ++ out; same = refl; finishes = Finishes.runs a r })
 turn-ahead code names (Finishes.runs {out = out} (Anew.makes {new = new} e w a) r) = rw (e, w) (record { rest = flat new ++ out; same = refl; finishes = Finishes.runs a r })
 turn-ahead code names (Finishes.runs {out = out} (Anew.writes {new = new} e a) r) = rw e (record { rest = flat new ++ out; same = refl; finishes = Finishes.runs a r })
-turn-ahead code names {s' = s'} (Finishes.runs {fs = fs} {out = out} (Anew.takes_read {s = s} {t = t} {below = below} {p = p} {u = u} {v = v} {args = args} {inside' = i} {new = new} {r = x} e w m a) r) =
+turn-ahead code names {s' = s'} (Finishes.runs {fs = fs} {out = out}
+    (Anew.takes_read {s = s} {t = t} {below = below} {p = p} {u = u} {v = v} {args = args} {inside' = i} {new =
+    new} {r = x} e w m a) r) =
     rw (e, w) (record {
       rest = flat i ++ (End ∷ (flat new ++ out));
       same = ap (λ o. Step ∷ Read p (s.store p) u v args ∷ o) (append-end i out (flat new));
@@ -226,7 +248,8 @@ pub record RanFlat (code : Code) (names : ℕ → ℕ) (s : State) (st : Stack) 
   pub same : out ≡ flat items
 
 -- and one that begins with a stack is its run
-pub finishes-anew : (code : Code) (names : ℕ → ℕ) (s : State) (st : Stack) (old : Trace) (s' : State) (out : List Item) → Finishes code names (at s (Running st old) Bottom) s' out → RanFlat code names s st old s' out
+pub finishes-anew : (code : Code) (names : ℕ → ℕ) (s : State) (st : Stack) (old : Trace) (s' : State)
+    (out : List Item) → Finishes code names (at s (Running st old) Bottom) s' out → RanFlat code names s st old s' out
 finishes-anew code names s st old s' out (Finishes.runs {new = new} {left = left} a Resumes.bottom) =
     record { items = new; left = left; anew = a; same = append-nil (flat new) }
 

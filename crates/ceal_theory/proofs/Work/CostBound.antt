@@ -210,7 +210,8 @@ module _ (ps : Pairs) (one : OneToOne ps) (rs : Pairs) (two : OneToOne rs) where
   other-too qs' after p q v w u u' x x' args args' i j j0 l m k e n a =
       record { pairs = a.pairs; beside = subst (λ n. Beside qs' (WasRead p v u x args i l) (WasRead q w u' x' args' j m) a.pairs (n + k)) n (Beside.other e a.beside); renamed = a.renamed }
 
-  beside-too : {qs after : Pairs} {l m : Trace} {n : ℕ} → Beside qs l m after n → {l' m' : Trace} → TraceAlike ps l l' → TraceAlike rs m m' → (qs' : Pairs) → Renamed qs qs' → BesideToo qs' after l' m' n
+  beside-too : {qs after : Pairs} {l m : Trace} {n : ℕ} → Beside qs l m after n → {l' m' : Trace} → TraceAlike ps l l'
+      → TraceAlike rs m m' → (qs' : Pairs) → Renamed qs qs' → BesideToo qs' after l' m' n
   beside-too Beside.end TraceAlike.nothing TraceAlike.nothing qs' h = record { pairs = qs'; beside = Beside.end; renamed = h }
   beside-too (Beside.step d) (TraceAlike.stepped s) (TraceAlike.stepped t) qs' h =
       let a = beside-too d s t qs' h in record { pairs = a.pairs; beside = Beside.step a.beside; renamed = a.renamed }
@@ -218,9 +219,13 @@ module _ (ps : Pairs) (one : OneToOne ps) (rs : Pairs) (two : OneToOne rs) where
       let a = beside-too d s t (with_pair qs' b' c') (with-both qs qs' h i i') in record { pairs = a.pairs; beside = Beside.alloc a.beside; renamed = a.renamed }
   beside-too (Beside.write d) (TraceAlike.wrote p v s) (TraceAlike.wrote q w t) qs' h =
       let a = beside-too d s t qs' h in record { pairs = a.pairs; beside = Beside.write a.beside; renamed = a.renamed }
-  beside-too {qs} {after} (Beside.same {qs = mid} {n = n} {k = k} e d1 d2) (TraceAlike.was_read {q = p'} {w = v'} {u = u} {x = x} {ws = args} {j = i'} {m = l'} kp kv ka si s) (TraceAlike.was_read {q = q'} {w = w'} {u = u'} {x = x'} {ws = args'} {j = j'} {m = m'} lp lv la ti t) qs' h =
+  beside-too {qs} {after} (Beside.same {qs = mid} {n = n} {k = k} e d1 d2)
+      (TraceAlike.was_read {q = p'} {w = v'} {u = u} {x = x} {ws = args} {j = i'} {m = l'} kp kv ka si s)
+      (TraceAlike.was_read {q = q'} {w = w'} {u = u'} {x = x'} {ws = args'} {j = j'} {m = m'} lp lv la ti t) qs' h =
       same-too qs' mid after p' q' v' w' u u' x x' args args' i' j' l' m' n k (sym (value-both qs qs' h kv lv) ∙ e) (beside-too d1 si ti qs' h) (λ rs' h'. beside-too d2 s t rs' h')
-  beside-too {qs} {after} (Beside.other {j = j} {k = k} e d) (TraceAlike.was_read {q = p'} {w = v'} {u = u} {x = x} {ws = args} {j = i'} {m = l'} kp kv ka si s) (TraceAlike.was_read {q = q'} {w = w'} {u = u'} {x = x'} {ws = args'} {j = j'} {m = m'} lp lv la ti t) qs' h =
+  beside-too {qs} {after} (Beside.other {j = j} {k = k} e d)
+      (TraceAlike.was_read {q = p'} {w = v'} {u = u} {x = x} {ws = args} {j = i'} {m = l'} kp kv ka si s)
+      (TraceAlike.was_read {q = q'} {w = w'} {u = u'} {x = x'} {ws = args'} {j = j'} {m = m'} lp lv la ti t) qs' h =
       other-too qs' after p' q' v' w' u u' x x' args args' i' j' j l' m' k (sym (value-both qs qs' h kv lv) ∙ e) (sym (steps-alike ti)) (beside-too d s t qs' h)
 
 none-paired : (ps rs : Pairs) (one : OneToOne ps) (two : OneToOne rs) → Renamed ps one rs two [] []

@@ -21,7 +21,9 @@ steps-followed (Allocated b k rest) g = steps-followed rest g
 steps-followed (Wrote p v rest) g = steps-followed rest g
 steps-followed (WasRead p v u x args inside rest) g = omega (arith, steps-followed rest g)
 
-alloc-then-steps : (rest : Trace) (a c : Option TakenAlloc) (n : ℕ) (t : TakenAlloc) → ((t : TakenAlloc) → a ≡ Some t → steps_of t.leftover ≤ n) → ((t : TakenAlloc) → c ≡ Some t → steps_of t.leftover ≤ steps_of rest)
+alloc-then-steps : (rest : Trace) (a c : Option TakenAlloc) (n : ℕ) (t : TakenAlloc) →
+    ((t : TakenAlloc) → a ≡ Some t → steps_of t.leftover ≤ n) →
+    ((t : TakenAlloc) → c ≡ Some t → steps_of t.leftover ≤ steps_of rest)
     → alloc_then rest a c ≡ Some t → steps_of t.leftover ≤ n + steps_of rest
 alloc-then-steps rest None c n t h k e = omega (arith, k t e)
 alloc-then-steps rest (Some a) c n t h k e =
@@ -44,11 +46,16 @@ read-then-steps : (rest : Trace) (a c : Option TakenRead) (n : ℕ) (t : TakenRe
     → ((t : TakenRead) → c ≡ Some t → steps_of t.inside + steps_of t.leftover ≤ steps_of rest) → read_then rest a c ≡ Some t → steps_of t.inside + steps_of t.leftover ≤ n + steps_of rest
 read-then-steps rest None c n t h k e = omega (arith, k t e)
 read-then-steps rest (Some a) c n t h k e =
-    subst (λ t. steps_of t.inside + steps_of t.leftover ≤ n + steps_of rest) (some-same (record a { leftover = followed a.leftover rest }) t e) (omega (arith, steps-followed a.leftover rest, h a refl))
+    subst (λ t. steps_of t.inside + steps_of t.leftover ≤ n + steps_of rest)
+    (some-same (record a { leftover = followed a.leftover rest }) t e)
+    (omega (arith, steps-followed a.leftover rest, h a refl))
 
-read-if-steps : (v : Word) (inside rest : Trace) (test : Bool) (c : Option TakenRead) (t : TakenRead) → ((t : TakenRead) → c ≡ Some t → steps_of t.inside + steps_of t.leftover ≤ steps_of inside + steps_of rest)
+read-if-steps : (v : Word) (inside rest : Trace) (test : Bool) (c : Option TakenRead) (t : TakenRead) →
+    ((t : TakenRead) → c ≡ Some t → steps_of t.inside + steps_of t.leftover ≤ steps_of inside + steps_of rest)
     → (if test then Some (record { value = v; inside = inside; leftover = rest }) else c) ≡ Some t → steps_of t.inside + steps_of t.leftover ≤ steps_of inside + steps_of rest
-read-if-steps v inside rest true c t h e = subst (λ t. steps_of t.inside + steps_of t.leftover ≤ steps_of inside + steps_of rest) (some-same (record { value = v; inside = inside; leftover = rest }) t e) (omega arith)
+read-if-steps v inside rest true c t h e = subst
+    (λ t. steps_of t.inside + steps_of t.leftover ≤ steps_of inside + steps_of rest)
+    (some-same (record { value = v; inside = inside; leftover = rest }) t e) (omega arith)
 read-if-steps v inside rest false c t h e = h t e
 
 read-steps : (p : Place) (u : UnitId) (v : ℕ) (args : List Word) (old : Trace) (t : TakenRead) → take_read p u v args old ≡ Some t → steps_of t.inside + steps_of t.leftover ≤ steps_of old

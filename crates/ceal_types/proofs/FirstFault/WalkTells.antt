@@ -29,7 +29,8 @@ right-four a b c d = ap (λ (l : List Fault). a ++ l) (right-three b c d) ∙ ri
 
 pub right-five : (a b c d e : List Fault) → a ++ (b ++ (c ++ (d ++ e))) ≡ a ++ b ++ c ++ d ++ e
 right-five a b c d e =
-    ap (λ (l : List Fault). a ++ l) (right-four b c d e) ∙ right-three a (b ++ c ++ d) e ∙ ap (λ (l : List Fault). l ++ e) (sym (ap (λ (l : List Fault). a ++ l) (right-three b c d)) ∙ right-four a b c d)
+    ap (λ (l : List Fault). a ++ l) (right-four b c d e) ∙ right-three a (b ++ c ++ d) e ∙ ap
+    (λ (l : List Fault). l ++ e) (sym (ap (λ (l : List Fault). a ++ l) (right-three b c d)) ∙ right-four a b c d)
 
 -- both lists are empty where they are together
 pub none-of-both : (fs gs : List Fault) → fs ++ gs ≡ [] → (fs ≡ []) × (gs ≡ [])

@@ -244,7 +244,9 @@ module _ (p : Program) (fs : List TypedFunction) (names : p.names ≡ map struct
       stmt-resolves (Call name args) v =
           still-resolves v (Call name args) (call p own v.scope name args) (λ t. refl) (called-resolved v.scope name args (find p.functions name.text) refl)
       stmt-resolves (If' at test _ first _ second) v =
-          after-keeps (ExprResolves (Whole p fs) (numbers v.scope) test) (StepResolves v (If' at test _ first _ second)) (branch at (inner_block (typed_row p own first)) (inner_block (typed_row p own second)) v)
+          after-keeps (ExprResolves (Whole p fs) (numbers v.scope) test)
+          (StepResolves v (If' at test _ first _ second))
+          (branch at (inner_block (typed_row p own first)) (inner_block (typed_row p own second)) v)
           (condition p own v.scope test) (condition-resolved p fs own v.scope test)
           (λ x h. after-keeps (NestedResolves v first) (StepResolves v (If' at test _ first _ second)) (choose at x (inner_block (typed_row p own second))) (inner_block (typed_row p own first) v)
           (nested-resolves v first (row-goes first (empty_block v)))
@@ -303,5 +305,6 @@ module _ (p : Program) (fs : List TypedFunction) (names : p.names ≡ map struct
 
     pub body-resolves : (ss : List Stmt) (v : Variables) → IfOk (inner_block (typed_stmts p own ss) v) (λ b. StmtsResolve (Whole p fs) (numbers v.scope) ss b.stmts)
     body-resolves ss v =
-        mapped-keeps (StmtsGo (empty_block v) ss) (λ b. StmtsResolve (Whole p fs) (numbers v.scope) ss b.stmts) (block_end (length v.scope)) (typed_stmts p own ss (empty_block v)) (stmts-go ss (empty_block v))
+        mapped-keeps (StmtsGo (empty_block v) ss) (λ b. StmtsResolve (Whole p fs) (numbers v.scope) ss b.stmts)
+        (block_end (length v.scope)) (typed_stmts p own ss (empty_block v)) (stmts-go ss (empty_block v))
         (λ b k. subst (λ (l : List TypedStmt). StmtsResolve (Whole p fs) (numbers v.scope) ss l) (sym k.is) k.agrees)

@@ -126,14 +126,18 @@ module _ (names : List Name) (structs : List StructInfo) (all : length names ≤
   added-good name None fields kind h k r none = record {
     apart = distinct-more fields name.text (record { kind = kind; row = 0 }) h.apart none;
     known = All-push (λ f. Known f.1.kind) fields (name.text, record { kind = kind; row = 0 }) h.known k;
-    rows = rw (map-append field_info fields ((name.text, record { kind = kind; row = 0 }) ∷ [])) (rows-append (map field_info fields) (field_info (name.text, record { kind = kind; row = 0 }) ∷ []) h.rows (tt, tt));
+    rows = rw (map-append field_info fields ((name.text, record { kind = kind; row = 0 }) ∷ []))
+        (rows-append (map field_info fields) (field_info (name.text, record { kind = kind; row = 0 }) ∷ []) h.rows
+        (tt, tt));
   }
   added-good name (Some row) fields kind h k r none =
       weaken (ElementsGood name kind row row fields) FieldsGood (with_elements name kind row row fields)
       (λ more g. record {
         apart = g.apart;
         known = g.known;
-        rows = rw (g.is, map-append field_info fields (elements name kind row row)) (rows-append (map field_info fields) (map field_info (elements name kind row row)) h.rows (row-whole name kind row r));
+        rows = rw (g.is, map-append field_info fields (elements name kind row row))
+            (rows-append (map field_info fields) (map field_info (elements name kind row row)) h.rows
+            (row-whole name kind row r));
       })
       (elements-good name kind row row fields h k)
 

@@ -393,7 +393,9 @@ module _ (p : Program) (fs : List TypedFunction) (own : Option ℕ) (heads : Hea
         still-good v seen (call p own v.scope name args) known good
         (λ more g. called-still more seen (length v.kinds) v.scope (scope-grows v.scope seen v.kinds more g good) name args (find p.functions name.text) (find-place p.functions name.text))
     stmt-good (If' at test _ first _ second) v seen known good =
-        after-keeps (Test v seen) (StepGood v seen) (branch at (inner_block (typed_row p own first)) (inner_block (typed_row p own second)) v) (condition p own v.scope test) (test-good v seen test good)
+        after-keeps (Test v seen) (StepGood v seen)
+        (branch at (inner_block (typed_row p own first)) (inner_block (typed_row p own second)) v)
+        (condition p own v.scope test) (test-good v seen test good)
         (λ t h. after-keeps (NestedGood v seen) (StepGood v seen) (choose at t (inner_block (typed_row p own second))) (inner_block (typed_row p own first) v)
         (nested-good v seen (typed_row p own first) known good (row-good first v seen))
         (λ a k. mapped-keeps (NestedGood a.variables seen) (StepGood v seen) (if_step at t a) (inner_block (typed_row p own second) a.variables)

@@ -8,7 +8,8 @@ use Rattle.ceal_adjust.proofs.adjust.first_forest.Goals as goal
 pub returns : goal.returns
 returns c = record {
   answer = first-answer c.args.code.now c.args.inputs.now c.args.function c.args.args.now c.requires.fits c.args.fuel c.in_ok-answer.answer
-      (answered-by c.args.code.now (code_of c.new-repair.result) c.args.fuel (machine_in c.new-repair.result) (begin c.args.code.now c.args.inputs.now c.args.function c.args.args.now) c.in_ok-answer.answer
+      (answered-by c.args.code.now (code_of c.new-repair.result) c.args.fuel (machine_in c.new-repair.result)
+      (begin c.args.code.now c.args.inputs.now c.args.function c.args.args.now) c.in_ok-answer.answer
       (c.new-repair.ensures.code ∙ c.new-memory.ensures.code)
       (c.new-repair.ensures.machine
       ∙ first-begins c.args.code.now c.args.inputs.now c.args.function c.args.args.now (plain_in c.new-memory.result) (store_in c.new-memory.result) c.in_ok-stack.stack c.in_ok-old.old

@@ -8,4 +8,6 @@ returns-in-None c = has-run-out (code_of c.args.repair) c.args.fuel (machine_in 
 pub returns : goal.returns
 returns c =
     rw c.new.ensures.value
-    (has-completed (code_of c.args.repair) c.args.fuel (machine_in c.args.repair) c.in-Some.out.items (state_in c.turn_to_end.new.repair) c.work.result (rw c.in-Some.is at c.in_ok-turn_to_end.ensures.ended) c.work.ensures.value)
+    (has-completed (code_of c.args.repair) c.args.fuel (machine_in c.args.repair) c.in-Some.out.items
+    (state_in c.turn_to_end.new.repair) c.work.result
+    (rw c.in-Some.is at c.in_ok-turn_to_end.ensures.ended) c.work.ensures.value)

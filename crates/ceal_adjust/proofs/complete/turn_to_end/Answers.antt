@@ -21,8 +21,11 @@ pub loop-turn-preserved : goal.loop-turn-preserved
 loop-turn-preserved c = record {
   code = c.in_ok-turn.ensures.code ∙ c.loop-turn.invariant.code;
   leads = rw c.in_ok-write-in-Went.ensures
-      (leads-more (code_of c.args.repair.now) (machine_in c.args.repair.now) (machine_in c.loop-turn.repair) (machine_in c.turn.new.self) c.loop-turn.out.items (written c.in-Went.stepped c.in-Went.item)
-      c.loop-turn.invariant.leads (turned (code_of c.args.repair.now) (code_of c.loop-turn.repair) (machine_in c.loop-turn.repair) _ c.loop-turn.invariant.code (rw c.in-Went.is at c.in_ok-turn.ensures.turn)));
+      (leads-more (code_of c.args.repair.now) (machine_in c.args.repair.now) (machine_in c.loop-turn.repair)
+      (machine_in c.turn.new.self) c.loop-turn.out.items (written c.in-Went.stepped c.in-Went.item)
+      c.loop-turn.invariant.leads (turned (code_of c.args.repair.now) (code_of c.loop-turn.repair)
+      (machine_in c.loop-turn.repair) _ c.loop-turn.invariant.code
+      (rw c.in-Went.is at c.in_ok-turn.ensures.turn)));
   counted = rw (c.in_ok-write-in-Went.ensures, steps_in-append c.loop-turn.out.items (written c.in-Went.stepped c.in-Went.item))
       (omega (arith, c.in_ok-steps-in-Went.ensures, c.loop-turn.invariant.counted, c.steps_among.ensures));
 }

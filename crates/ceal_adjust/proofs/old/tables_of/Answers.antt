@@ -14,7 +14,9 @@ loop-item-init c = record {
 
 pub loop-item-preserved : goal.loop-item-preserved
 loop-item-preserved c =
-    let at : slice_get c.args.items.now c.loop-item.item-index ≡ Some c.item-item.result = slice_get_read c.args.items.now (length c.args.items.now) c.loop-item.item-index _ refl (omega arith) c.item-item.is in
+    let at : slice_get c.args.items.now c.loop-item.item-index ≡ Some c.item-item.result =
+    slice_get_read c.args.items.now (length c.args.items.now) c.loop-item.item-index _ refl
+    (omega arith) c.item-item.is in
     record {
       counted = omega (arith, c.loop-item.invariant.counted);
       nested = depth-next c.args.items.now c.loop-item.item-index c.loop-item.depth c.in_ok-depth.depth _ at c.loop-item.invariant.nested c.in_ok-depth.ensures;

@@ -8,7 +8,9 @@ returns-in_default c = record { value = alloc-absent c.args.old.now c.args.rest 
 
 pub returns-in_default-item : goal.returns-in_default-item
 returns-in_default-item c = record {
-  value = found-some c.args.old.now c.args.rest c.args.levels (Made c.args.key.now) c.in-Some.spot.at c.in-Some.spot.levels (rw c.in-Some.is at c.in_ok-spot.ensures.found) c.in_default-item.ensures.value;
+  value = found-some c.args.old.now c.args.rest c.args.levels
+      (Made c.args.key.now) c.in-Some.spot.at c.in-Some.spot.levels
+      (rw c.in-Some.is at c.in_ok-spot.ensures.found) c.in_default-item.ensures.value;
 }
 
 pub returns-in-None : goal.returns-in-None

@@ -14,7 +14,8 @@ pub returns-then-is_last-clause-slice : goal.returns-then-is_last-clause-slice
 returns-then-is_last-clause-slice c =
     if-acts c.concluded.result _ _ (λ s h. λ r f args fits stands sound.
     let z = c.loop-turns.invariant.reached r f args fits stands sound in
-    is-concluded c.args.code.now c.args.inputs.now f args fits c.args.fuel r sound c.loop-turns.turns c.loop-turns.repair z c.loop-turns.invariant.few c.args.reads (c.is_last.ensures.0 c.if-is_last.true) s
+    is-concluded c.args.code.now c.args.inputs.now f args fits c.args.fuel r sound c.loop-turns.turns c.loop-turns.repair z c.loop-turns.invariant.few c.args.reads
+    (c.is_last.ensures.0 c.if-is_last.true) s
     (h z.repair f args fits z.stands z.sound)) c.concluded.ensures
 
 pub returns-then-is_last-clause-holds : goal.returns-then-is_last-clause-holds
@@ -22,7 +23,8 @@ returns-then-is_last-clause-holds c =
     if-acts c.concluded.result _ _ (λ s h. λ f args held.
     let z = c.loop-turns.invariant.reached held.repair f args held.fits held.stands held.sound in
     given-holds c.args.code.now c.args.inputs.now f args held.fits c.args.fuel held.repair held.sound c.args.reads s
-    (is-concluded c.args.code.now c.args.inputs.now f args held.fits c.args.fuel held.repair held.sound c.loop-turns.turns c.loop-turns.repair z c.loop-turns.invariant.few c.args.reads (c.is_last.ensures.0 c.if-is_last.true) s
+    (is-concluded c.args.code.now c.args.inputs.now f args held.fits c.args.fuel held.repair held.sound c.loop-turns.turns c.loop-turns.repair z c.loop-turns.invariant.few c.args.reads
+    (c.is_last.ensures.0 c.if-is_last.true) s
     (h z.repair f args held.fits z.stands z.sound))) c.concluded.ensures
 
 pub returns-in-Honest-clause-slice : goal.returns-in-Honest-clause-slice
@@ -47,7 +49,8 @@ returns-in-Honest-clause-holds c = λ f args held.
 pub returns-in-Over-clause-slice : goal.returns-in-Over-clause-slice
 returns-in-Over-clause-slice c = λ r f args fits stands sound.
     let z = c.loop-turns.invariant.reached r f args fits stands sound in
-    is-spent c.args.code.now c.args.inputs.now f args fits c.args.fuel r sound c.loop-turns.turns c.loop-turns.repair z ((rw c.in-Over.is at c.in_ok-turn.ensures) z.repair f args fits z.stands z.sound)
+    is-spent c.args.code.now c.args.inputs.now f args fits c.args.fuel r sound c.loop-turns.turns c.loop-turns.repair z
+    ((rw c.in-Over.is at c.in_ok-turn.ensures) z.repair f args fits z.stands z.sound)
     c.args.reads c.loop-turns.invariant.within
     (λ e. let t = c.is_last.ensures.1 e in
     let d = c.if-is_last.false in
@@ -64,5 +67,6 @@ loop-turns-preserved c = record {
       absurd cc);
   reached = λ r f args fits stands sound.
       let z = c.loop-turns.invariant.reached r f args fits stands sound in
-      reached-more c.args.code.now c.args.inputs.now f args fits c.args.fuel r sound c.loop-turns.turns c.loop-turns.repair z c.in-Went.next ((rw c.in-Went.is at c.in_ok-turn.ensures) z.repair f args fits z.stands z.sound);
+      reached-more c.args.code.now c.args.inputs.now f args fits c.args.fuel r sound c.loop-turns.turns c.loop-turns.repair z c.in-Went.next
+      ((rw c.in-Went.is at c.in_ok-turn.ensures) z.repair f args fits z.stands z.sound);
 }

@@ -8,7 +8,8 @@ returns-in_default c = sym (skipped-empty c.loop-levels.levels c.loop-levels.ite
 
 pub loop-levels-preserved : goal.loop-levels-preserved
 loop-levels-preserved c =
-    skipped-next c.loop-levels.levels c.in_ok-levels.levels c.loop-levels.items.now c.in-Some.item.now c.in-Some.more.now c.in-Some.ensures.cases.0 (omega (arith, c.loop-levels-test.true)) c.in_ok-levels.ensures ∙ c.loop-levels.invariant
+    skipped-next c.loop-levels.levels c.in_ok-levels.levels c.loop-levels.items.now c.in-Some.item.now c.in-Some.more.now c.in-Some.ensures.cases.0
+    (omega (arith, c.loop-levels-test.true)) c.in_ok-levels.ensures ∙ c.loop-levels.invariant
 
 pub returns : goal.returns
 returns c = sym (skipped-none c.loop-levels.levels c.loop-levels.items.now (omega (arith, c.loop-levels-test.false))) ∙ c.loop-levels.invariant

@@ -10,7 +10,8 @@ use Rattle.ceal_adjust.proofs.turn.turn.Goals as goal
 pub returns-in-None : goal.returns-in-None
 returns-in-None c = λ r f args fits stands sound.
     agrees-done c.args.code.now c.args.inputs.now f args fits 0 r sound
-    (agrees-there c.args.code.now (code_in c.in_ok-memory.memory) (starting c.args.code.now c.args.inputs.now r.known) (store_in c.in_ok-memory.memory) c.items.result.now (flat r.items) c.in_ok-memory.ensures.code
+    (agrees-there c.args.code.now (code_in c.in_ok-memory.memory) (starting c.args.code.now c.args.inputs.now r.known)
+    (store_in c.in_ok-memory.memory) c.items.result.now (flat r.items) c.in_ok-memory.ensures.code
     (c.in_ok-memory.ensures.store r stands) (c.items.ensures.value ∙ stands.items) (rw c.in-None.is at c.in_ok-first_stale.ensures.stale))
 
 pub returns-in-Some : goal.returns-in-Some
@@ -22,6 +23,8 @@ returns-in-Some c =
       store = (rw c.in-Some.is at c.in_ok-first_stale.ensures.store)
           ∙ (ap (λ k. store_after k (store_in c.in_ok-memory.memory) c.in-Some.stale.front.now) c.in_ok-memory.ensures.code
           ∙ ap (λ s. store_after c.args.code.now s c.in-Some.stale.front.now) (c.in_ok-memory.ensures.store r stands));
-      stale = stale-there c.args.code.now (code_in c.in_ok-memory.memory) (starting c.args.code.now c.args.inputs.now r.known) (store_in c.in_ok-memory.memory) c.items.result.now (flat r.items) c.in-Some.stale
+      stale = stale-there c.args.code.now (code_in c.in_ok-memory.memory)
+          (starting c.args.code.now c.args.inputs.now r.known) (store_in c.in_ok-memory.memory) c.items.result.now
+          (flat r.items) c.in-Some.stale
           c.in_ok-memory.ensures.code (c.in_ok-memory.ensures.store r stands) (c.items.ensures.value ∙ stands.items) (rw c.in-Some.is at c.in_ok-first_stale.ensures.stale);
     })) c.run_stale.ensures

@@ -2,5 +2,9 @@ use Rattle.ceal_cli.proofs.Outputs.OutputByMode.{not_accepted}
 use Rattle.ceal_cli.proofs.answer.check.Goals as goal
 
 pub returns-in_ok-refuse-in-Err-Fault-clause-taken : goal.returns-in_ok-refuse-in-Err-Fault-clause-taken
-returns-in_ok-refuse-in-Err-Fault-clause-taken g c =
-    ((λ t. absurd (cc t)), λ a. absurd (not_accepted c.args.input.bytes.now c.in-Err-Fault.fault (c.one_answer.ensures.law c.args.input.bytes.now) (rw (c.in-Err-Fault.field-0-is) at c.in-Err-Fault.ensures.fault) a))
+returns-in_ok-refuse-in-Err-Fault-clause-taken g c = (
+  (λ t. absurd (cc t)),
+  λ a. absurd (not_accepted c.args.input.bytes.now c.in-Err-Fault.fault
+      (c.one_answer.ensures.law c.args.input.bytes.now)
+      (rw (c.in-Err-Fault.field-0-is) at c.in-Err-Fault.ensures.fault) a),
+)

@@ -10,7 +10,9 @@ loop-left-preserved c =
     let now = blocks_from l.left l.reader in
     let next = blocks_from (l.left - 1) c.line.new.reader in
     let all = blocks_from c.args.count c.args.reader.now in
-    let first = many-first line_at l.left l.reader c.line.new.reader c.in_ok-block.block (omega (arith, c.loop-left-test.true)) (sym c.is_empty.ensures.value ∙ c.if-not-is_empty.true) c.in_ok-block.ensures.value c.in_ok-block.ensures.rest in
+    let first = many-first line_at l.left l.reader c.line.new.reader c.in_ok-block.block
+    (omega (arith, c.loop-left-test.true)) (sym c.is_empty.ensures.value
+    ∙ c.if-not-is_empty.true) c.in_ok-block.ensures.value c.in_ok-block.ensures.rest in
     record {
       same = more-same l.blocks.items now next all l.invariant.same l.invariant.rest c.in_ok-block.block c.push.new.self.items first c.in_ok-push.ensures.items;
       rest = more-rest l.blocks.items now next all l.invariant.same l.invariant.rest c.in_ok-block.block first;
@@ -22,7 +24,8 @@ returns-clause-value c =
     let now = blocks_from l.left l.reader in
     let all = blocks_from c.args.count c.args.reader.now in
     elim c.loop-left-test.branch [
-      | then-loop-left-test+else-not-is_empty w ↦ done-same l.blocks.items now all all l.invariant.same l.invariant.rest l.reader (many-out line_at l.left l.reader (sym w.is_empty.ensures.value ∙ w.if-not-is_empty.false))
+      | then-loop-left-test+else-not-is_empty w ↦ done-same l.blocks.items now all all l.invariant.same l.invariant.rest l.reader
+          (many-out line_at l.left l.reader (sym w.is_empty.ensures.value ∙ w.if-not-is_empty.false))
       | else-loop-left-test w ↦ done-same l.blocks.items now all all l.invariant.same l.invariant.rest l.reader (many-none line_at l.left l.reader (omega (arith, w.loop-left-test.false)))
     ]
 
@@ -32,6 +35,7 @@ returns-clause-rest c =
     let now = blocks_from l.left l.reader in
     let all = blocks_from c.args.count c.args.reader.now in
     elim c.loop-left-test.branch [
-      | then-loop-left-test+else-not-is_empty w ↦ done-rest l.blocks.items now all all l.invariant.same l.invariant.rest l.reader (many-out line_at l.left l.reader (sym w.is_empty.ensures.value ∙ w.if-not-is_empty.false))
+      | then-loop-left-test+else-not-is_empty w ↦ done-rest l.blocks.items now all all l.invariant.same l.invariant.rest l.reader
+          (many-out line_at l.left l.reader (sym w.is_empty.ensures.value ∙ w.if-not-is_empty.false))
       | else-loop-left-test w ↦ done-rest l.blocks.items now all all l.invariant.same l.invariant.rest l.reader (many-none line_at l.left l.reader (omega (arith, w.loop-left-test.false)))
     ]

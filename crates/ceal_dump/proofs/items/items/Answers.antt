@@ -10,7 +10,9 @@ loop-left-preserved c =
     let now = items_from l.left l.reader in
     let next = items_from (l.left - 1) c.item.new.reader in
     let all = items_from c.args.count c.args.reader.now in
-    let first = many-first item_at l.left l.reader c.item.new.reader c.in_ok-item.item (omega (arith, c.loop-left-test.true)) (sym c.is_empty.ensures.value ∙ c.if-not-is_empty.true) c.in_ok-item.ensures.value c.in_ok-item.ensures.rest in
+    let first = many-first item_at l.left l.reader c.item.new.reader c.in_ok-item.item
+    (omega (arith, c.loop-left-test.true)) (sym c.is_empty.ensures.value
+    ∙ c.if-not-is_empty.true) c.in_ok-item.ensures.value c.in_ok-item.ensures.rest in
     record {
       same = more-same l.items.items now next all l.invariant.same l.invariant.rest c.in_ok-item.item c.push.new.self.items first c.in_ok-push.ensures.items;
       rest = more-rest l.items.items now next all l.invariant.same l.invariant.rest c.in_ok-item.item first;
@@ -22,7 +24,8 @@ returns-clause-value c =
     let now = items_from l.left l.reader in
     let all = items_from c.args.count c.args.reader.now in
     elim c.loop-left-test.branch [
-      | then-loop-left-test+else-not-is_empty w ↦ done-same l.items.items now all all l.invariant.same l.invariant.rest l.reader (many-out item_at l.left l.reader (sym w.is_empty.ensures.value ∙ w.if-not-is_empty.false))
+      | then-loop-left-test+else-not-is_empty w ↦ done-same l.items.items now all all l.invariant.same l.invariant.rest l.reader
+          (many-out item_at l.left l.reader (sym w.is_empty.ensures.value ∙ w.if-not-is_empty.false))
       | else-loop-left-test w ↦ done-same l.items.items now all all l.invariant.same l.invariant.rest l.reader (many-none item_at l.left l.reader (omega (arith, w.loop-left-test.false)))
     ]
 
@@ -32,6 +35,7 @@ returns-clause-rest c =
     let now = items_from l.left l.reader in
     let all = items_from c.args.count c.args.reader.now in
     elim c.loop-left-test.branch [
-      | then-loop-left-test+else-not-is_empty w ↦ done-rest l.items.items now all all l.invariant.same l.invariant.rest l.reader (many-out item_at l.left l.reader (sym w.is_empty.ensures.value ∙ w.if-not-is_empty.false))
+      | then-loop-left-test+else-not-is_empty w ↦ done-rest l.items.items now all all l.invariant.same l.invariant.rest l.reader
+          (many-out item_at l.left l.reader (sym w.is_empty.ensures.value ∙ w.if-not-is_empty.false))
       | else-loop-left-test w ↦ done-rest l.items.items now all all l.invariant.same l.invariant.rest l.reader (many-none item_at l.left l.reader (omega (arith, w.loop-left-test.false)))
     ]

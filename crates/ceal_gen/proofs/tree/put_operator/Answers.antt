@@ -10,5 +10,15 @@ pub returns : goal.returns
 unfolding operator_line
 returns c =
     let i = c.args.node in
-    rw (c.in_ok-append_str-5.ensures.ok, c.in_ok-put_node_name-3.ensures, c.in_ok-append_str-4.ensures.ok, c.in_ok-put_node_name-2.ensures, c.in_ok-append_str-3.ensures.ok, c.in_ok-append_number.ensures.ok, c.in_ok-append_str-2.ensures.ok, c.in_ok-put_node_name.ensures, c.in_ok-append_str.ensures.ok)
+    rw (
+      c.in_ok-append_str-5.ensures.ok,
+      c.in_ok-put_node_name-3.ensures,
+      c.in_ok-append_str-4.ensures.ok,
+      c.in_ok-put_node_name-2.ensures,
+      c.in_ok-append_str-3.ensures.ok,
+      c.in_ok-append_number.ensures.ok,
+      c.in_ok-append_str-2.ensures.ok,
+      c.in_ok-put_node_name.ensures,
+      c.in_ok-append_str.ensures.ok,
+    )
     (nine c.args.out.now (codes "new ") (node_name i) (codes " node ") (decimal c.args.operator) (codes " 0 ") (node_name (2 * i)) (codes " ") (node_name (2 * i + 1)) (codes "\n"))

@@ -11,4 +11,5 @@ pub returns-in_ok-short_sign-in-None-clause-longest :
     goal.returns-in_ok-short_sign-in-None-clause-longest
 returns-in_ok-short_sign-in-None-clause-longest c =
     let bytes = c.args.bytes.now in
-    short_front bytes (get_or bytes 0 0) (get_or bytes 1 0) (drop 2 bytes) (two_bytes bytes c.in-len2-up.len_at_least) c.in_ok-short_sign-in-None.field-0 c.in_ok-short_sign-in-None.ensures.spelled c.in-None.ensures.none
+    short_front bytes (get_or bytes 0 0) (get_or bytes 1 0) (drop 2 bytes)
+    (two_bytes bytes c.in-len2-up.len_at_least) c.in_ok-short_sign-in-None.field-0 c.in_ok-short_sign-in-None.ensures.spelled c.in-None.ensures.none

@@ -5,38 +5,47 @@ use Rattle.ceal_many.proofs.many.answer_for.Goals as goal
 
 pub answer-requires : goal.answer-requires
 answer-requires g c = ready g.M.Made.Answerer.stands c.args.name.now g.M.Made.Answerer.needs c.args.sessions.now.items c.in-Some.at c.index_mut.result.now
-    (sought g.M.Made.Answerer.stands c.args.name.now c.args.sessions.now.items c.deref.result.now c.place_of.result (Some c.in-Some.at) c.deref.ensures.value c.place_of.ensures c.in-Some.is) c.index_mut.ensures.value c.requires.sessions
+    (sought g.M.Made.Answerer.stands c.args.name.now c.args.sessions.now.items c.deref.result.now c.place_of.result
+    (Some c.in-Some.at) c.deref.ensures.value c.place_of.ensures c.in-Some.is) c.index_mut.ensures.value c.requires.sessions
 
 pub returns-in-Some-clause-reply : goal.returns-in-Some-clause-reply
 returns-in-Some-clause-reply g c =
     there-replied g.M.Made.Answerer.stands g.M.Made.Answerer.answers g.M.Made.Answerer.leaves (g.M.Made.Answerer.opening (g.M.Maker.beginning c.args.maker.now))
     c.args.sessions.now.items c.args.name.now c.args.line.now c.in-Some.at c.index_mut.result.now c.answer.new.entry
-    (sought g.M.Made.Answerer.stands c.args.name.now c.args.sessions.now.items c.deref.result.now c.place_of.result (Some c.in-Some.at) c.deref.ensures.value c.place_of.ensures c.in-Some.is) c.index_mut.ensures.value c.answer.ensures.name c.answer.result c.answer.ensures.reply
+    (sought g.M.Made.Answerer.stands c.args.name.now c.args.sessions.now.items c.deref.result.now c.place_of.result
+    (Some c.in-Some.at) c.deref.ensures.value c.place_of.ensures c.in-Some.is) c.index_mut.ensures.value c.answer.ensures.name c.answer.result c.answer.ensures.reply
 
 pub returns-in-Some-clause-left : goal.returns-in-Some-clause-left
 returns-in-Some-clause-left g c =
     there-lost g.M.Made.Answerer.stands g.M.Made.Answerer.answers g.M.Made.Answerer.leaves (g.M.Made.Answerer.opening (g.M.Maker.beginning c.args.maker.now))
     c.args.sessions.now.items c.args.name.now c.args.line.now c.in-Some.at c.index_mut.result.now c.answer.new.entry
-    (sought g.M.Made.Answerer.stands c.args.name.now c.args.sessions.now.items c.deref.result.now c.place_of.result (Some c.in-Some.at) c.deref.ensures.value c.place_of.ensures c.in-Some.is) c.index_mut.ensures.value c.answer.ensures.name c.answer.result c.answer.ensures.left
+    (sought g.M.Made.Answerer.stands c.args.name.now c.args.sessions.now.items c.deref.result.now c.place_of.result
+    (Some c.in-Some.at) c.deref.ensures.value c.place_of.ensures c.in-Some.is) c.index_mut.ensures.value c.answer.ensures.name c.answer.result c.answer.ensures.left
 
 pub returns-then-len-ge-MOST-clause-reply : goal.returns-then-len-ge-MOST-clause-reply
 returns-then-len-ge-MOST-clause-reply g c =
     full-replied g.M.Made.Answerer.stands g.M.Made.Answerer.answers g.M.Made.Answerer.leaves (g.M.Made.Answerer.opening (g.M.Maker.beginning c.args.maker.now))
-    c.args.sessions.now.items c.args.name.now c.args.line.now (sought g.M.Made.Answerer.stands c.args.name.now c.args.sessions.now.items c.deref.result.now c.place_of.result None c.deref.ensures.value c.place_of.ensures c.in-None.is) (grind (arith, c.if-len-ge-MOST.true, c.len.ensures))
+    c.args.sessions.now.items c.args.name.now c.args.line.now
+    (sought g.M.Made.Answerer.stands c.args.name.now c.args.sessions.now.items c.deref.result.now c.place_of.result None c.deref.ensures.value c.place_of.ensures c.in-None.is)
+    (grind (arith, c.if-len-ge-MOST.true, c.len.ensures))
     c.from_slice.result c.from_slice.ensures.equal
 
 pub returns-then-len-ge-MOST-clause-left : goal.returns-then-len-ge-MOST-clause-left
 returns-then-len-ge-MOST-clause-left g c =
     full-lost g.M.Made.Answerer.stands g.M.Made.Answerer.answers g.M.Made.Answerer.leaves (g.M.Made.Answerer.opening (g.M.Maker.beginning c.args.maker.now))
-    c.args.sessions.now.items c.args.name.now c.args.line.now (sought g.M.Made.Answerer.stands c.args.name.now c.args.sessions.now.items c.deref.result.now c.place_of.result None c.deref.ensures.value c.place_of.ensures c.in-None.is) c.from_slice.result
+    c.args.sessions.now.items c.args.name.now c.args.line.now
+    (sought g.M.Made.Answerer.stands c.args.name.now c.args.sessions.now.items c.deref.result.now c.place_of.result None c.deref.ensures.value c.place_of.ensures c.in-None.is) c.from_slice.result
 
 pub returns-else-len-ge-MOST-clause-reply : goal.returns-else-len-ge-MOST-clause-reply
 returns-else-len-ge-MOST-clause-reply g c =
     begun-replied g.M.Made.Answerer.stands g.M.Made.Answerer.answers g.M.Made.Answerer.leaves (g.M.Made.Answerer.opening (g.M.Maker.beginning c.args.maker.now))
-    c.args.sessions.now.items c.args.name.now c.args.line.now (sought g.M.Made.Answerer.stands c.args.name.now c.args.sessions.now.items c.deref.result.now c.place_of.result None c.deref.ensures.value c.place_of.ensures c.in-None.is) (grind (arith, c.if-len-ge-MOST.false, c.len.ensures))
+    c.args.sessions.now.items c.args.name.now c.args.line.now
+    (sought g.M.Made.Answerer.stands c.args.name.now c.args.sessions.now.items c.deref.result.now c.place_of.result None c.deref.ensures.value c.place_of.ensures c.in-None.is)
+    (grind (arith, c.if-len-ge-MOST.false, c.len.ensures))
     c.begin.new.sessions.items c.begin.result c.begin.ensures.reply
 
 pub returns-else-len-ge-MOST-clause-left : goal.returns-else-len-ge-MOST-clause-left
 returns-else-len-ge-MOST-clause-left g c =
     begun-lost g.M.Made.Answerer.stands g.M.Made.Answerer.answers g.M.Made.Answerer.leaves (g.M.Made.Answerer.opening (g.M.Maker.beginning c.args.maker.now))
-    c.args.sessions.now.items c.args.name.now c.args.line.now (sought g.M.Made.Answerer.stands c.args.name.now c.args.sessions.now.items c.deref.result.now c.place_of.result None c.deref.ensures.value c.place_of.ensures c.in-None.is) c.begin.new.sessions.items c.begin.result c.begin.ensures.left
+    c.args.sessions.now.items c.args.name.now c.args.line.now
+    (sought g.M.Made.Answerer.stands c.args.name.now c.args.sessions.now.items c.deref.result.now c.place_of.result None c.deref.ensures.value c.place_of.ensures c.in-None.is) c.begin.new.sessions.items c.begin.result c.begin.ensures.left

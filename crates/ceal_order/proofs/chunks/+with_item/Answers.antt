@@ -26,5 +26,6 @@ returns-clause-ok g t c =
     let told = rw (c.replace-later.ensures.value, c.deref_mut-in-Fork.ensures.value, c.deref_mut.ensures.value) at c.with_item-later.ensures.ok in
     let made = rw (c.replace-earlier.ensures.value, c.deref_mut-in-Fork.ensures.value, c.deref_mut.ensures.value) at c.joined-in-Fork.ensures.items in
     rw (c.in-Fork.is, made, insert-last _ c.in-Fork.fork.value.items.items _ _ _ c.args.item at)
-    (on_ok_weaker {P = items_of c.with_item-later.result.0 ≡ insert (items_of c.in-Fork.fork.value.later) (c.args.index - c.count-before.result - c.len-here.result) c.args.item} c.with_item-later.result.1
+    (on_ok_weaker {P = items_of c.with_item-later.result.0 ≡ insert (items_of c.in-Fork.fork.value.later)
+    (c.args.index - c.count-before.result - c.len-here.result) c.args.item} c.with_item-later.result.1
     (λ same. rw same refl) told)

@@ -11,7 +11,9 @@ returns-then-here-eq1-clause-items g t c =
     let long = length-parts (items_of c.in-Fork.fork.value.earlier) c.in-Fork.fork.value.items.items (items_of c.in-Fork.fork.value.later) in
     let at : c.args.index ≡ length (items_of c.in-Fork.fork.value.earlier) + (c.args.index - c.count-before.result) = omega (arith, before, few, long, c.if-index-before.false) in
     let made = rw (c.replace-earlier.ensures.value, c.replace-later.ensures.value, c.deref_mut-in-Fork.ensures.value, c.deref_mut.ensures.value) at c.merged.ensures.items in
-    rw c.in-Fork.is (made ∙ sym (remove-fork _ c.in-Fork.fork.value.items.items _ _ _ at (omega (arith, here, c.if-index-before-2.true, c.in-Fork.fork.value.items.ok.0)) (omega (arith, here, c.if-here-eq1.true, c.in-Fork.fork.value.items.ok.0))))
+    rw c.in-Fork.is (made ∙ sym (remove-fork _ c.in-Fork.fork.value.items.items _ _ _ at
+    (omega (arith, here, c.if-index-before-2.true, c.in-Fork.fork.value.items.ok.0))
+    (omega (arith, here, c.if-here-eq1.true, c.in-Fork.fork.value.items.ok.0))))
 
 pub returns-then-index-before-2-clause-items : goal.returns-then-index-before-2-clause-items
 returns-then-index-before-2-clause-items g t c =
@@ -21,7 +23,13 @@ returns-then-index-before-2-clause-items g t c =
     let long = length-parts (items_of c.in-Fork.fork.value.earlier) c.in-Fork.fork.value.items.items (items_of c.in-Fork.fork.value.later) in
     let at : c.args.index ≡ length (items_of c.in-Fork.fork.value.earlier) + (c.args.index - c.count-before.result) = omega (arith, before, few, long, c.if-index-before.false) in
     let less = rw c.remove.ensures.items at c.filled.ensures.items in
-    let made = rw (c.deref_mut-then-index-before-2.ensures.value, c.replace-earlier.ensures.value, c.replace-later.ensures.value, c.deref_mut-in-Fork.ensures.value, c.deref_mut.ensures.value) at less in
+    let made = rw (
+      c.deref_mut-then-index-before-2.ensures.value,
+      c.replace-earlier.ensures.value,
+      c.replace-later.ensures.value,
+      c.deref_mut-in-Fork.ensures.value,
+      c.deref_mut.ensures.value,
+    ) at less in
     rw c.in-Fork.is (made ∙ sym (remove-middle _ _ _ _ _ at (omega (arith, here, c.if-index-before-2.true, c.in-Fork.fork.value.items.ok.0))))
 
 pub returns-clause-items : goal.returns-clause-items

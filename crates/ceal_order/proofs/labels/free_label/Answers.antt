@@ -17,7 +17,8 @@ overflow_sub-low c =
 pub label_at-high-requires : goal.label_at-high-requires
 label_at-high-requires c =
     let inside : next_of c.args.links.now c.args.at ≢ no_link = λ e. c.if-next.false (c.next_at-next.ensures ∙ e) in
-    rw c.next_at-next.ensures (link_in c.args.links.now (stamps_of c.args.links.now) c.requires.line _ (after_is c.args.links.now (stamps_of c.args.links.now) c.requires.line c.args.at c.requires.here inside).0)
+    rw c.next_at-next.ensures (link_in c.args.links.now (stamps_of c.args.links.now) c.requires.line _
+    (after_is c.args.links.now (stamps_of c.args.links.now) c.requires.line c.args.at c.requires.here inside).0)
 
 pub overflow_sub-room : goal.overflow_sub-room
 overflow_sub-room c =

@@ -15,7 +15,8 @@ returns-then-after-clause-none c =
 pub label_at-requires : goal.label_at-requires
 label_at-requires c =
     let inside : next_of c.args.links.now c.args.at ≢ no_link = λ e. c.if-after.false (c.next_at-after.ensures ∙ e) in
-    rw c.next_at-after.ensures (link_in c.args.links.now (stamps_of c.args.links.now) c.requires.line _ (after_is c.args.links.now (stamps_of c.args.links.now) c.requires.line c.args.at c.requires.here inside).0)
+    rw c.next_at-after.ensures (link_in c.args.links.now (stamps_of c.args.links.now) c.requires.line _
+    (after_is c.args.links.now (stamps_of c.args.links.now) c.requires.line c.args.at c.requires.here inside).0)
 
 pub returns-then-label_at-high-clause-none : goal.returns-then-label_at-high-clause-none
 returns-then-label_at-high-clause-none c =

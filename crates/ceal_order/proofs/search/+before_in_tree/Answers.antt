@@ -27,7 +27,17 @@ before_in_tree-later-requires t c =
     let rising = rw c.in-Fork.is at c.requires.rising in
     let few = rw c.in-Fork.is at c.requires.few in
     let long = length-parts (items_of c.in-Fork.fork.value.earlier) c.in-Fork.fork.value.items.items (items_of c.in-Fork.fork.value.later) in
-    rw c.deref-in-Fork-3.ensures (omega (arith, size), (c.requires.here, (rise_later c.args.order.now.stamps (items_of c.in-Fork.fork.value.earlier) c.in-Fork.fork.value.items.items _ rising, (counted.2, omega (arith, few, long)))))
+    rw c.deref-in-Fork-3.ensures (
+      omega (arith, size),
+      (
+        c.requires.here,
+        (
+          rise_later c.args.order.now.stamps
+              (items_of c.in-Fork.fork.value.earlier) c.in-Fork.fork.value.items.items _ rising,
+          (counted.2, omega (arith, few, long)),
+        ),
+      ),
+    )
 
 pub before_in_tree-requires-then-here-eq0-2 : goal.before_in_tree-requires-then-here-eq0-2
 before_in_tree-requires-then-here-eq0-2 t c =
@@ -47,7 +57,10 @@ returns-then-here-eq0 t c =
     let here = rw (c.deref-in-Fork.ensures.value, c.deref.ensures) at c.before_in_chunk-here.ensures.count in
     let size = rw c.deref-in-Fork-2.ensures at c.len.ensures in
     let ok = c.in-Fork.fork.value.items.ok.0 in
-    let none = none_later c.args.order.now.stamps (items_of c.in-Fork.fork.value.earlier) c.in-Fork.fork.value.items.items (items_of c.in-Fork.fork.value.later) rising c.args.stamp.0 (omega (arith, here, size, ok, c.if-here-len.true)) in
+    let none = none_later c.args.order.now.stamps
+    (items_of c.in-Fork.fork.value.earlier) c.in-Fork.fork.value.items.items
+    (items_of c.in-Fork.fork.value.later) rising c.args.stamp.0
+    (omega (arith, here, size, ok, c.if-here-len.true)) in
     let found = rw c.deref-then-here-eq0.ensures at c.before_in_tree.ensures in
     rw c.in-Fork.is (omega (arith, sum, here, none, found, c.if-here-eq0.true))
 
@@ -60,8 +73,13 @@ returns-then-here-len t c =
     let here = rw (c.deref-in-Fork.ensures.value, c.deref.ensures) at c.before_in_chunk-here.ensures.count in
     let size = rw c.deref-in-Fork-2.ensures at c.len.ensures in
     let ok = c.in-Fork.fork.value.items.ok.0 in
-    let none = none_later c.args.order.now.stamps (items_of c.in-Fork.fork.value.earlier) c.in-Fork.fork.value.items.items (items_of c.in-Fork.fork.value.later) rising c.args.stamp.0 (omega (arith, here, size, ok, c.if-here-len.true)) in
-    let all = all_earlier c.args.order.now.stamps (items_of c.in-Fork.fork.value.earlier) c.in-Fork.fork.value.items.items (items_of c.in-Fork.fork.value.later) rising c.args.stamp.0 (omega (arith, here, c.if-here-eq0.false)) in
+    let none = none_later c.args.order.now.stamps
+    (items_of c.in-Fork.fork.value.earlier) c.in-Fork.fork.value.items.items
+    (items_of c.in-Fork.fork.value.later) rising c.args.stamp.0
+    (omega (arith, here, size, ok, c.if-here-len.true)) in
+    let all = all_earlier c.args.order.now.stamps
+    (items_of c.in-Fork.fork.value.earlier) c.in-Fork.fork.value.items.items
+    (items_of c.in-Fork.fork.value.later) rising c.args.stamp.0 (omega (arith, here, c.if-here-eq0.false)) in
     let found = rw c.deref-then-here-len.ensures at c.count.ensures in
     rw c.in-Fork.is (omega (arith, sum, here, none, all, found, few, long))
 
@@ -122,6 +140,8 @@ returns-else-here-eq0-2 t c =
     let in_later = count_within c.args.order.now.stamps c.args.stamp.0 (items_of c.in-Fork.fork.value.later) in
     let in_earlier = count_within c.args.order.now.stamps c.args.stamp.0 (items_of c.in-Fork.fork.value.earlier) in
     let in_here = count_within c.args.order.now.stamps c.args.stamp.0 c.in-Fork.fork.value.items.items in
-    let all = all_earlier c.args.order.now.stamps (items_of c.in-Fork.fork.value.earlier) c.in-Fork.fork.value.items.items (items_of c.in-Fork.fork.value.later) rising c.args.stamp.0 (omega (arith, here, c.if-here-eq0-2.false)) in
+    let all = all_earlier c.args.order.now.stamps
+    (items_of c.in-Fork.fork.value.earlier) c.in-Fork.fork.value.items.items
+    (items_of c.in-Fork.fork.value.later) rising c.args.stamp.0 (omega (arith, here, c.if-here-eq0-2.false)) in
     let found = rw c.deref-in-Fork-4.ensures at c.count-in-Fork.ensures in
     rw c.in-Fork.is (omega (arith, sum, here, found, behind, all, few, long))

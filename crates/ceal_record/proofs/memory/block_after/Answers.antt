@@ -9,4 +9,6 @@ returns-in-None c = block-none (memory_in c.args.memory.now c.args.id) (sym c.in
 pub returns-in_ok-words-in-Some : goal.returns-in_ok-words-in-Some
 returns-in_ok-words-in-Some c =
     rw c.new.ensures.value
-    (block-is (memory_in c.args.memory.now c.args.id) c.in-Some.shape c.in_ok-words-in-Some.words.items (sym c.in-Some.is ∙ (c.shape.ensures ∙ sym (shape-after c.args.memory.now c.args.id))) c.in_ok-words-in-Some.ensures)
+    (block-is (memory_in c.args.memory.now c.args.id) c.in-Some.shape c.in_ok-words-in-Some.words.items
+    (sym c.in-Some.is ∙ (c.shape.ensures ∙ sym
+    (shape-after c.args.memory.now c.args.id))) c.in_ok-words-in-Some.ensures)

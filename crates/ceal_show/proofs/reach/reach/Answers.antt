@@ -8,12 +8,14 @@ loop-at-init g c =
 
 pub with_targets-requires-clause-there : goal.with_targets-requires-clause-there
 with_targets-requires-clause-there g c =
-    there_search (g.V.View.declared c.args.view.now) (g.V.View.memory c.args.view.now) c.requires.whole c.args.root c.loop-at.at c.loop-at.met c.block-block.result c.loop-at.invariant c.block-block.ensures.value
+    there_search (g.V.View.declared c.args.view.now)
+    (g.V.View.memory c.args.view.now) c.requires.whole c.args.root c.loop-at.at c.loop-at.met c.block-block.result c.loop-at.invariant c.block-block.ensures.value
 
 pub loop-at-preserved : goal.loop-at-preserved
 loop-at-preserved g c =
     rw c.in_ok-met-2.ensures
-    (more_search (g.V.View.declared c.args.view.now) (g.V.View.memory c.args.view.now) c.requires.whole c.args.root c.loop-at.at c.loop-at.met c.block-block.result c.loop-at.invariant c.block-block.ensures.value)
+    (more_search (g.V.View.declared c.args.view.now)
+    (g.V.View.memory c.args.view.now) c.requires.whole c.args.root c.loop-at.at c.loop-at.met c.block-block.result c.loop-at.invariant c.block-block.ensures.value)
 
 pub returns-clause-reached : goal.returns-clause-reached
 returns-clause-reached g c =

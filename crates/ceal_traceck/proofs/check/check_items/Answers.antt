@@ -8,7 +8,15 @@ returns-then-not-branch c =
     let code = c.args.code.now in
     let r = c.args.kept.now in
     let is = c.items-items.result.now in
-    let begun : Begun code r c.new-memory.result is r.args = record { program = c.new-memory.ensures.code; plain = c.new-memory.ensures.plain; store = c.new-memory.ensures.store; items = c.items-items.ensures.value; arguments = refl } in
+    let begun : Begun code r c.new-memory.result is r.args =
+    record {
+      program = c.new-memory.ensures.code;
+      plain = c.new-memory.ensures.plain;
+      store =
+          c.new-memory.ensures.store;
+      items = c.items-items.ensures.value;
+      arguments = refl;
+    } in
     (c.requires, unnamed code r c.new-memory.result is r.args c.requires begun (sym c.in_ok-learn_named.ensures.answer ∙ c.if-not-branch.true))
 
 pub returns-then-not-branch-2 : goal.returns-then-not-branch-2
@@ -16,50 +24,118 @@ returns-then-not-branch-2 c =
     let code = c.args.code.now in
     let r = c.args.kept.now in
     let is = c.items-items.result.now in
-    let begun : Begun code r c.new-memory.result is c.items.result.now = record { program = c.new-memory.ensures.code; plain = c.new-memory.ensures.plain; store = c.new-memory.ensures.store; items = c.items-items.ensures.value; arguments = c.items.ensures.value } in
+    let begun : Begun code r c.new-memory.result is c.items.result.now =
+    record {
+      program = c.new-memory.ensures.code;
+      plain = c.new-memory.ensures.plain;
+      store =
+          c.new-memory.ensures.store;
+      items = c.items-items.ensures.value;
+      arguments = c.items.ensures.value;
+    } in
     let n = c.in_ok-learn_named.ensures in
-    let learns : Learns c.new-memory.result c.learn_named.new.memory is = record { program = n.code; plain = n.plain c.if-not-branch.false; store = n.store } in
-    (c.requires, unaccepted code r c.new-memory.result is c.items.result.now c.requires begun c.learn_named.new.memory learns (λ k. false≢true (sym c.if-not-branch-2.true ∙ c.in_ok-are_replayed.ensures.answer.1 k)))
+    let learns : Learns c.new-memory.result c.learn_named.new.memory is = record { program = n.code; plain = n.plain c.if-not-branch.false; store = n.store } in (
+      c.requires,
+      unaccepted code r c.new-memory.result is c.items.result.now c.requires begun c.learn_named.new.memory learns
+          (λ k. false≢true (sym c.if-not-branch-2.true ∙ c.in_ok-are_replayed.ensures.answer.1 k)),
+    )
 
 pub returns-then-not-branch-3 : goal.returns-then-not-branch-3
 returns-then-not-branch-3 c =
     let code = c.args.code.now in
     let r = c.args.kept.now in
     let is = c.items-items.result.now in
-    let begun : Begun code r c.new-memory.result is c.items.result.now = record { program = c.new-memory.ensures.code; plain = c.new-memory.ensures.plain; store = c.new-memory.ensures.store; items = c.items-items.ensures.value; arguments = c.items.ensures.value } in
+    let begun : Begun code r c.new-memory.result is c.items.result.now =
+    record {
+      program = c.new-memory.ensures.code;
+      plain = c.new-memory.ensures.plain;
+      store =
+          c.new-memory.ensures.store;
+      items = c.items-items.ensures.value;
+      arguments = c.items.ensures.value;
+    } in
     let n = c.in_ok-learn_named.ensures in
     let named = sym n.answer ∙ c.if-not-branch.false in
     let learns : Learns c.new-memory.result c.learn_named.new.memory is = record { program = n.code; plain = n.plain c.if-not-branch.false; store = n.store } in
     let accepts = c.in_ok-are_replayed.ensures.answer.0 c.if-not-branch-2.false in
-    let replays = found code r c.new-memory.result is c.items.result.now c.requires begun c.learn_named.new.memory learns named accepts in
-    (c.requires, (replays.0, replays.1, dishonest code r c.new-memory.result is c.items.result.now c.requires begun c.learn_named.new.memory learns named accepts (sym c.in_ok-store_honest.ensures.answer ∙ c.if-not-branch-3.true)))
+    let replays = found code r c.new-memory.result is c.items.result.now c.requires begun c.learn_named.new.memory learns named accepts in (
+      c.requires,
+      (
+        replays.0,
+        replays.1,
+        dishonest code r c.new-memory.result is c.items.result.now c.requires begun c.learn_named.new.memory learns named accepts
+            (sym c.in_ok-store_honest.ensures.answer ∙ c.if-not-branch-3.true),
+      ),
+    )
 
 pub returns-then-branch : goal.returns-then-branch
 returns-then-branch c =
     let code = c.args.code.now in
     let r = c.args.kept.now in
     let is = c.items-items.result.now in
-    let begun : Begun code r c.new-memory.result is c.items.result.now = record { program = c.new-memory.ensures.code; plain = c.new-memory.ensures.plain; store = c.new-memory.ensures.store; items = c.items-items.ensures.value; arguments = c.items.ensures.value } in
+    let begun : Begun code r c.new-memory.result is c.items.result.now =
+    record {
+      program = c.new-memory.ensures.code;
+      plain = c.new-memory.ensures.plain;
+      store =
+          c.new-memory.ensures.store;
+      items = c.items-items.ensures.value;
+      arguments = c.items.ensures.value;
+    } in
     let n = c.in_ok-learn_named.ensures in
     let named = sym n.answer ∙ c.if-not-branch.false in
     let learns : Learns c.new-memory.result c.learn_named.new.memory is = record { program = n.code; plain = n.plain c.if-not-branch.false; store = n.store } in
     let accepts = c.in_ok-are_replayed.ensures.answer.0 c.if-not-branch-2.false in
     let replays = found code r c.new-memory.result is c.items.result.now c.requires begun c.learn_named.new.memory learns named accepts in
-    let stores : Stores c.learn_named.new.memory c.store_honest.new.memory is = record { program = c.in_ok-store_honest.ensures.code; plain = c.in_ok-store_honest.ensures.plain; store = c.in_ok-store_honest.ensures.store c.if-not-branch-3.false } in
-    let asks = asked-there code r c.new-memory.result is c.items.result.now c.requires begun c.learn_named.new.memory learns named accepts c.store_honest.new.memory stores c.items-2.result.now c.items-2.ensures.value in
-    (c.requires, (replays.0, replays.1, is-honest code r c.new-memory.result is c.items.result.now c.requires begun c.learn_named.new.memory learns named accepts (sym c.in_ok-store_honest.ensures.answer ∙ c.if-not-branch-3.false), asks.0 (c.in_ok-is_remembered.ensures.answer.0 c.if-branch.true)))
+    let stores : Stores c.learn_named.new.memory c.store_honest.new.memory is =
+    record {
+      program = c.in_ok-store_honest.ensures.code;
+      plain = c.in_ok-store_honest.ensures.plain;
+      store =
+          c.in_ok-store_honest.ensures.store c.if-not-branch-3.false;
+    } in
+    let asks = asked-there code r c.new-memory.result is c.items.result.now c.requires begun c.learn_named.new.memory learns named accepts c.store_honest.new.memory stores c.items-2.result.now c.items-2.ensures.value in (
+      c.requires,
+      (
+        replays.0,
+        replays.1,
+        is-honest code r c.new-memory.result is c.items.result.now c.requires begun c.learn_named.new.memory learns named accepts (sym c.in_ok-store_honest.ensures.answer ∙ c.if-not-branch-3.false),
+        asks.0 (c.in_ok-is_remembered.ensures.answer.0 c.if-branch.true),
+      ),
+    )
 
 pub returns : goal.returns
 returns c =
     let code = c.args.code.now in
     let r = c.args.kept.now in
     let is = c.items-items.result.now in
-    let begun : Begun code r c.new-memory.result is c.items.result.now = record { program = c.new-memory.ensures.code; plain = c.new-memory.ensures.plain; store = c.new-memory.ensures.store; items = c.items-items.ensures.value; arguments = c.items.ensures.value } in
+    let begun : Begun code r c.new-memory.result is c.items.result.now =
+    record {
+      program = c.new-memory.ensures.code;
+      plain = c.new-memory.ensures.plain;
+      store =
+          c.new-memory.ensures.store;
+      items = c.items-items.ensures.value;
+      arguments = c.items.ensures.value;
+    } in
     let n = c.in_ok-learn_named.ensures in
     let named = sym n.answer ∙ c.if-not-branch.false in
     let learns : Learns c.new-memory.result c.learn_named.new.memory is = record { program = n.code; plain = n.plain c.if-not-branch.false; store = n.store } in
     let accepts = c.in_ok-are_replayed.ensures.answer.0 c.if-not-branch-2.false in
     let replays = found code r c.new-memory.result is c.items.result.now c.requires begun c.learn_named.new.memory learns named accepts in
-    let stores : Stores c.learn_named.new.memory c.store_honest.new.memory is = record { program = c.in_ok-store_honest.ensures.code; plain = c.in_ok-store_honest.ensures.plain; store = c.in_ok-store_honest.ensures.store c.if-not-branch-3.false } in
-    let asks = asked-there code r c.new-memory.result is c.items.result.now c.requires begun c.learn_named.new.memory learns named accepts c.store_honest.new.memory stores c.items-2.result.now c.items-2.ensures.value in
-    (c.requires, (replays.0, replays.1, is-honest code r c.new-memory.result is c.items.result.now c.requires begun c.learn_named.new.memory learns named accepts (sym c.in_ok-store_honest.ensures.answer ∙ c.if-not-branch-3.false), λ k. false≢true (sym c.if-branch.false ∙ c.in_ok-is_remembered.ensures.answer.1 (asks.1 k))))
+    let stores : Stores c.learn_named.new.memory c.store_honest.new.memory is =
+    record {
+      program = c.in_ok-store_honest.ensures.code;
+      plain = c.in_ok-store_honest.ensures.plain;
+      store =
+          c.in_ok-store_honest.ensures.store c.if-not-branch-3.false;
+    } in
+    let asks = asked-there code r c.new-memory.result is c.items.result.now c.requires begun c.learn_named.new.memory learns named accepts c.store_honest.new.memory stores c.items-2.result.now c.items-2.ensures.value in (
+      c.requires,
+      (
+        replays.0,
+        replays.1,
+        is-honest code r c.new-memory.result is c.items.result.now c.requires begun c.learn_named.new.memory learns named accepts (sym c.in_ok-store_honest.ensures.answer ∙ c.if-not-branch-3.false),
+        λ k. false≢true (sym c.if-branch.false ∙ c.in_ok-is_remembered.ensures.answer.1 (asks.1 k)),
+      ),
+    )

@@ -8,7 +8,9 @@ use Rattle.ceal_traceck.proofs.memory.is_block.Goals as goal
 pub returns-then-not-is_shape : goal.returns-then-not-is_shape
 returns-then-not-is_shape c =
     let m = c.args.memory.now in
-    told-no (λ h. false≢true (c.if-not-is_shape.ensures.1 (c.shape.ensures ∙ (sym (shape-after (code_in m) (plain_in m) (store_in m) c.args.id) ∙ (ap block_shape h ∙ ap Some (sym c.recorded_shape.ensures))))))
+    told-no (λ h. false≢true (c.if-not-is_shape.ensures.1
+    (c.shape.ensures ∙ (sym (shape-after (code_in m) (plain_in m) (store_in m) c.args.id) ∙
+    (ap block_shape h ∙ ap Some (sym c.recorded_shape.ensures))))))
 
 pub returns : goal.returns
 returns c =

@@ -4,7 +4,8 @@ use Rattle.ceal_traceck.proofs.memory.left_over.Goals as goal
 
 pub returns-in-Alloc-clause-none : goal.returns-in-Alloc-clause-none
 returns-in-Alloc-clause-none c =
-    if-ok c.behind.result _ _ (λ found h. if-none found _ _ (λ absent. alloc-wrong (memory_in c.args.memory.now) c.args.item.now c.in-Alloc.block c.in-Alloc.key c.args.blocks.now c.in-Alloc.is absent) h) c.behind.ensures.none
+    if-ok c.behind.result _ _ (λ found h. if-none found _ _
+    (λ absent. alloc-wrong (memory_in c.args.memory.now) c.args.item.now c.in-Alloc.block c.in-Alloc.key c.args.blocks.now c.in-Alloc.is absent) h) c.behind.ensures.none
 
 pub returns-in-Alloc-clause-some : goal.returns-in-Alloc-clause-some
 returns-in-Alloc-clause-some c =

@@ -10,5 +10,7 @@ returns c =
 
 pub loop-name-preserved : goal.loop-name-preserved
 loop-name-preserved c =
-    rw (c.in_ok-push.ensures.items, c.in_ok-fields.ensures) (last-taken struct_info c.loop-name.structs c.pop.new.self (c.in-Some.name, c.in-Some.fields) c.loop-name.infos.items c.in-Some.ensures.taken
+    rw (c.in_ok-push.ensures.items, c.in_ok-fields.ensures)
+    (last-taken struct_info c.loop-name.structs c.pop.new.self
+    (c.in-Some.name, c.in-Some.fields) c.loop-name.infos.items c.in-Some.ensures.taken
     ∙ c.loop-name.invariant)

@@ -9,7 +9,10 @@ check_core_body-returns-in_err-check_core_stmt t c =
     let stmts = c.args.stmts.now in
     let within : c.loop-s.s-index < length c.args.stmts.now = omega arith in
     let p = err_from_is_err_and c.from_residual.result c.from_residual.ensures.1 in
-    record { first = rw (p.1, p.2) (each-failed (core_faults c.args.functions.now c.args.looped) stmts _ c.s-item.result _ _ c.s-item.is within c.loop-s.invariant c.in_err-check_core_stmt.ensures.first) }
+    record {
+      first = rw (p.1, p.2) (each-failed
+          (core_faults c.args.functions.now c.args.looped) stmts _ c.s-item.result _ _ c.s-item.is within c.loop-s.invariant c.in_err-check_core_stmt.ensures.first);
+    }
 
 pub check_core_body-loop-s-preserved : goal.check_core_body-loop-s-preserved
 check_core_body-loop-s-preserved t c =

@@ -10,4 +10,5 @@ returns-in-None c =
 
 pub returns-in-Some-next_end : goal.returns-in-Some-next_end
 returns-in-Some-next_end c =
-    ends-next c.args.self.now c.args.from c.args.levels c.in-Some.outside (omega (arith, c.if-levels-eq0.false)) (omega (arith, c.in-Some.ensures, c.depth.ensures)) c.in-Some-next_end.at c.in-Some-next_end.ensures.next
+    ends-next c.args.self.now c.args.from c.args.levels c.in-Some.outside (omega (arith, c.if-levels-eq0.false))
+    (omega (arith, c.in-Some.ensures, c.depth.ensures)) c.in-Some-next_end.at c.in-Some-next_end.ensures.next
