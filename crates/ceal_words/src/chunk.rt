@@ -1,7 +1,7 @@
 // The memory of one size class.
 
-ghost use Rattle.std.specs.Prelude.{◌≡◌, ◌<◌, ◌≤◌, ℕ, List, ◌++◌, Some, length, drop, replicate, slice_index};
-ghost use Rattle.std.specs.Prelude.{slice_set, IfOk, OnOk};
+ghost use Rattle.std.specs.Prelude.{◌≡◌, ◌-◌, ◌<◌, ◌≤◌, ℕ, List, ◌++◌, Some, length, map, take, drop, replicate};
+ghost use Rattle.std.specs.Prelude.{slice_index, slice_set, IfOk, OnOk};
 
 use crate::block::{Block, Deed};
 use ceal_base::no_memory::NoMemory;
@@ -54,7 +54,31 @@ impl Chunk {
         match Block::new(&alloc, count) {
             None => Err(NoMemory),
             Some((block, deed)) => {
-                let block = cleared(block, count);
+                let block = cleared(block, 0, count);
+                Ok(Chunk {
+                    block,
+                    deed,
+                    count,
+                    alloc,
+                })
+            }
+        }
+    }
+
+    // The same words and zeros after them, `count` in all, in memory of their own.
+    fn longer(&self, count: usize) -> Result<Chunk, NoMemory>
+        requires { length self.now ≤ count }
+        ensures { IfOk result (λ c. c ≡ self.now ++ replicate (count - length self.now) 0) }
+    {
+        if MOST_WORDS < count {
+            return Err(NoMemory);
+        }
+        let alloc = self.alloc;
+        match Block::new(&alloc, count) {
+            None => Err(NoMemory),
+            Some((block, deed)) => {
+                let block = copied(self, block);
+                let block = cleared(block, self.count, count);
                 Ok(Chunk {
                     block,
                     deed,
@@ -74,8 +98,8 @@ impl Chunk {
         if len <= count {
             return Ok(());
         }
-        let larger = Chunk::zeros(self.alloc, len.max(count.saturating_mul(2)))?;
-        *self = copied(self, larger);
+        let larger = self.longer(len.max(count.saturating_mul(2)))?;
+        *self = larger;
         Ok(())
     }
 
@@ -100,26 +124,28 @@ impl Chunk {
     }
 }
 
-// Writes 0 into each cell.
-fn cleared(mut block: Block, count: usize) -> Block
-    requires { length block.words ≡ count }
-    ensures words { result.words ≡ replicate count (Some 0) }
+// Writes 0 into each cell from an index on.
+fn cleared(mut block: Block, from: usize, count: usize) -> Block
+    requires count { length block.words ≡ count }
+    requires within { from ≤ count }
+    ensures words { result.words ≡ take from block.words ++ replicate (count - from) (Some 0) }
     ensures at { result.at ≡ block.at }
 {
-    for index in 0..count {
+    for index in from..count {
         block.write(index, 0);
     }
     block
 }
 
-// The larger chunk with the words of the other one first.
-fn copied(chunk: &Chunk, mut larger: Chunk) -> Chunk
-    requires { length chunk.now ≤ length larger }
-    ensures { result ≡ chunk.now ++ drop (length chunk.now) larger }
+// Writes the words of a chunk into the first cells.
+fn copied(chunk: &Chunk, mut block: Block) -> Block
+    requires { length chunk.now ≤ length block.words }
+    ensures words { result.words ≡ map Some chunk.now ++ drop (length chunk.now) block.words }
+    ensures at { result.at ≡ block.at }
 {
     let count = chunk.len();
     for at in 0..count {
-        larger.set(at, chunk.get(at));
+        block.write(at, chunk.get(at));
     }
-    larger
+    block
 }
