@@ -27,7 +27,8 @@ use Rattle.ceal_theory.specs.Slices.{beginning, sliced, is_done, with_inputs, st
 
 -- the trace of a run on 4 is repaired where a is 9: one step is re-executed
 repaired : IsAnswer (adjusted inc (inputs 9 0) 0 2 (items 4 5)) (fresh inc 0 args (inputs 9 0) 2) (IsDone (flat (items 9 10)) 1)
-unfolding adjusted anew fresh run next settled chosen bound woven set unset expr_value values bases input_plain plain_of stored hidden-the_row-CodeExpr-0 shape-the_row-CodeExpr-0 denote.Hole.Carrier.hidden
+unfolding adjusted anew fresh run next settled chosen bound woven set unset expr_value values bases input_plain
+    plain_of stored hidden-the_row-CodeExpr-0 shape-the_row-CodeExpr-0 denote.Hole.Carrier.hidden
 repaired = record {
   items = items 9 10;
   flat_form = refl;
@@ -38,7 +39,8 @@ repaired = record {
 
 -- nothing has changed: nothing is re-executed
 unchanged : IsAnswer (adjusted inc (inputs 4 7) 0 2 (items 4 5)) (fresh inc 0 args (inputs 4 7) 2) (IsDone (flat (items 4 5)) 0)
-unfolding adjusted anew fresh run next settled chosen bound woven set unset expr_value values bases input_plain plain_of stored hidden-the_row-CodeExpr-0 shape-the_row-CodeExpr-0 denote.Hole.Carrier.hidden
+unfolding adjusted anew fresh run next settled chosen bound woven set unset expr_value values bases input_plain
+    plain_of stored hidden-the_row-CodeExpr-0 shape-the_row-CodeExpr-0 denote.Hole.Carrier.hidden
 unchanged = record {
   items = items 4 5;
   flat_form = refl;
@@ -49,12 +51,15 @@ unchanged = record {
 
 -- a run from scratch takes two steps, and with fuel for one there is no repair
 out_of_fuel : IsAnswer (adjusted inc (inputs 9 0) 0 1 (items 4 5)) (fresh inc 0 args (inputs 9 0) 1) OutOfFuel
-unfolding adjusted anew fresh run next settled chosen bound woven set unset expr_value values bases input_plain plain_of stored hidden-the_row-CodeExpr-0 shape-the_row-CodeExpr-0 denote.Hole.Carrier.hidden
+unfolding adjusted anew fresh run next settled chosen bound woven set unset expr_value values bases input_plain
+    plain_of stored hidden-the_row-CodeExpr-0 shape-the_row-CodeExpr-0 denote.Hole.Carrier.hidden
 out_of_fuel = refl
 
 -- the same in a slice of one read, after which none is stale
 in_a_slice : Comes inc (inputs 9 0) (Some 1) 2 (beginning inc (inputs 9 0) (items 4 5) 0) (Ends (record { forest = flat (items 9 10); known = []; next = 0; spent = 1 }))
-unfolding sliced is_done with_inputs starting anew knowing next settled chosen bound woven set unset expr_value values bases input_plain plain_of stored hidden-the_row-CodeExpr-0 shape-the_row-CodeExpr-0 denote.Hole.Carrier.hidden
+unfolding sliced is_done with_inputs starting anew knowing next settled chosen bound woven set unset expr_value
+    values bases input_plain plain_of stored hidden-the_row-CodeExpr-0 shape-the_row-CodeExpr-0
+    denote.Hole.Carrier.hidden
 in_a_slice = record {
   repair = record { items = items 9 10; known = with_inputs inc (inputs 9 0) (plain_of inc (inputs 9 0) (items 4 5)); number = 0; spent = 1 };
   is = refl;
@@ -64,7 +69,8 @@ in_a_slice = record {
 
 -- without a step no slice is there
 no_slice : Comes inc (inputs 9 0) (Some 1) 0 (beginning inc (inputs 9 0) (items 4 5) 0) Spent
-unfolding sliced with_inputs starting anew next settled chosen bound woven set unset expr_value values bases input_plain plain_of stored hidden-the_row-CodeExpr-0 shape-the_row-CodeExpr-0 denote.Hole.Carrier.hidden
+unfolding sliced with_inputs starting anew next settled chosen bound woven set unset expr_value values bases
+    input_plain plain_of stored hidden-the_row-CodeExpr-0 shape-the_row-CodeExpr-0 denote.Hole.Carrier.hidden
 no_slice = refl
 
 -- the read is found by its closure, and after it one level is left over around the items inside

@@ -154,7 +154,8 @@ module _ (code : Code) (inputs : List Block) (f : ℕ) (args : List Word) (fits 
     course : (machine : Machine) (out : List Item) → Leads code own (alone code (state_of m q) x) machine out
         → TurnCourse code own inputs r x.front.now x.closure.place x.closure.unit x.closure.var x.closure.args first_read.inside first_read.back machine out
     course machine out leads =
-        turn-course-law code own inputs r x.front.now x.closure.place there.stale.value x.closure.unit x.closure.var x.closure.args first_read.inside first_read.back split there.stale.agrees there.stale.stale
+        turn-course-law code own inputs r x.front.now x.closure.place there.stale.value x.closure.unit x.closure.var
+        x.closure.args first_read.inside first_read.back split there.stale.agrees there.stale.stale
         machine out (rw begins at leads)
 
     -- more steps were re-executed than the fuel allows

@@ -23,7 +23,8 @@ use Rattle.ceal_theory.specs.Take.{take_read}
 
 -- where a is 4 on the one side and 9 on the other the reads differ, and the step inside the second one counts
 other_value : first_cost inc 2 (inputs 4 0) (inputs 9 0) 0 args ≡ 1
-unfolding first_of anew cost_from next settled chosen bound woven set unset expr_value values bases input_plain stored take_read hidden-the_row-CodeExpr-0 shape-the_row-CodeExpr-0 denote.Hole.Carrier.hidden
+unfolding first_of anew cost_from next settled chosen bound woven set unset expr_value values bases input_plain
+    stored take_read hidden-the_row-CodeExpr-0 shape-the_row-CodeExpr-0 denote.Hole.Carrier.hidden
 other_value = refl
 
 -- so much work is the repair
@@ -33,7 +34,8 @@ its_work = refl
 
 -- the value of b is not read, and costs nothing
 same_value : first_cost inc 2 (inputs 4 0) (inputs 4 7) 0 args ≡ 0
-unfolding first_of anew cost_from next settled chosen bound woven set unset expr_value values bases input_plain stored take_read hidden-the_row-CodeExpr-0 shape-the_row-CodeExpr-0 denote.Hole.Carrier.hidden
+unfolding first_of anew cost_from next settled chosen bound woven set unset expr_value values bases input_plain
+    stored take_read hidden-the_row-CodeExpr-0 shape-the_row-CodeExpr-0 denote.Hole.Carrier.hidden
 same_value = refl
 
 -- levels of the one side beside those of the other

@@ -18,11 +18,13 @@ folded_body body = (folded_unit [] (record { function = 0; params = var 0 ∷ []
 -- `v1 := 2; v2 := v1 + 3; *v0 := v2`: the sum is a number, which is in the write, and neither move is used then
 constants : folded_body (Move (var 1) (NumExpr (pos 2)) ∷ Move (var 2) (Binary Add (Var (var 1)) (NumExpr (pos 3))) ∷ Write (Var (var 0)) (Var (var 2)) ∷ Done ∷ [])
     ≡ Tick ∷ Tick ∷ Write (Var (var 0)) (NumExpr (pos 5)) ∷ Done ∷ []
-unfolding folded_expr folded_exprs no_copies copies_with is_among copies_past folded_commands mentions all_mention used_in used without_unused hidden-the_row-CodeExpr-0 shape-the_row-CodeExpr-0 denote.Hole.Carrier.hidden
+unfolding folded_expr folded_exprs no_copies copies_with is_among copies_past folded_commands mentions all_mention
+    used_in used without_unused hidden-the_row-CodeExpr-0 shape-the_row-CodeExpr-0 denote.Hole.Carrier.hidden
 constants = refl
 
 -- `v1 := v2; v2 := 1; *v0 := v1`: what v1 is a copy of is assigned before it is used
 assigned_since : folded_body (Move (var 1) (Var (var 2)) ∷ Move (var 2) (NumExpr (pos 1)) ∷ Write (Var (var 0)) (Var (var 1)) ∷ Done ∷ [])
     ≡ Move (var 1) (Var (var 2)) ∷ Tick ∷ Write (Var (var 0)) (Var (var 1)) ∷ Done ∷ []
-unfolding folded_expr folded_exprs no_copies copies_with is_among copies_past folded_commands mentions all_mention used_in used without_unused hidden-the_row-CodeExpr-0 shape-the_row-CodeExpr-0 denote.Hole.Carrier.hidden
+unfolding folded_expr folded_exprs no_copies copies_with is_among copies_past folded_commands mentions all_mention
+    used_in used without_unused hidden-the_row-CodeExpr-0 shape-the_row-CodeExpr-0 denote.Hole.Carrier.hidden
 assigned_since = refl

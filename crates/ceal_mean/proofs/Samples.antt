@@ -59,11 +59,13 @@ inc = program (function (ModInt ∷ ModInt ∷ Int ∷ [])
     ∷ []))
 
 inc_of_four : fresh inc 0 (place 0 ∷ place 1 ∷ []) (two 4 0).inputs 2 ≡ Some (record { memory = two 4 5; steps = 2; blocks = 0 })
-unfolding run_settled ready out-TypedStmt form_value hidden-the_row-TypedExpr-0 shape-the_row-TypedExpr-0 denote.Hole.Carrier.hidden denote.Hole.Carrier.out shown-the_row-TypedStmt-0 denote.Hole.Carrier.shown
+unfolding run_settled ready out-TypedStmt form_value hidden-the_row-TypedExpr-0 shape-the_row-TypedExpr-0
+    denote.Hole.Carrier.hidden denote.Hole.Carrier.out shown-the_row-TypedStmt-0 denote.Hole.Carrier.shown
 inc_of_four = refl
 
 inc_out_of_fuel : fresh inc 0 (place 0 ∷ place 1 ∷ []) (two 4 0).inputs 1 ≡ None
-unfolding run_settled ready out-TypedStmt form_value hidden-the_row-TypedExpr-0 shape-the_row-TypedExpr-0 denote.Hole.Carrier.hidden denote.Hole.Carrier.out shown-the_row-TypedStmt-0 denote.Hole.Carrier.shown
+unfolding run_settled ready out-TypedStmt form_value hidden-the_row-TypedExpr-0 shape-the_row-TypedExpr-0
+    denote.Hole.Carrier.hidden denote.Hole.Carrier.out shown-the_row-TypedStmt-0 denote.Hole.Carrier.shown
 inc_out_of_fuel = refl
 
 -- int n = read(a); while (n != 0) { n = n - 1; } write(b, 7);
@@ -76,7 +78,8 @@ loop = program (function (ModInt ∷ ModInt ∷ Int ∷ [])
     ∷ []))
 
 loop_of_three : fresh loop 0 (place 0 ∷ place 1 ∷ []) (two 3 0).inputs 100 ≡ Some (record { memory = two 3 7; steps = 9; blocks = 0 })
-unfolding run_settled ready out-TypedStmt form_value hidden-the_row-TypedExpr-0 shape-the_row-TypedExpr-0 denote.Hole.Carrier.hidden denote.Hole.Carrier.out shown-the_row-TypedStmt-0 denote.Hole.Carrier.shown
+unfolding run_settled ready out-TypedStmt form_value hidden-the_row-TypedExpr-0 shape-the_row-TypedExpr-0
+    denote.Hole.Carrier.hidden denote.Hole.Carrier.out shown-the_row-TypedStmt-0 denote.Hole.Carrier.shown
 loop_of_three = refl
 
 abbrev var : ℕ → TypedExpr
@@ -100,7 +103,8 @@ scan = program (function (ModInt ∷ ModInt ∷ Int ∷ Int ∷ Int ∷ [])
     ∷ []))
 
 scan_of_two : fresh scan 0 (place 0 ∷ place 1 ∷ []) (two 2 0).inputs 16 ≡ Some (record { memory = two 2 1; steps = 16; blocks = 0 })
-unfolding run_settled ready out-TypedStmt form_value hidden-the_row-TypedExpr-0 shape-the_row-TypedExpr-0 denote.Hole.Carrier.hidden denote.Hole.Carrier.out shown-the_row-TypedStmt-0 denote.Hole.Carrier.shown
+unfolding run_settled ready out-TypedStmt form_value hidden-the_row-TypedExpr-0 shape-the_row-TypedExpr-0
+    denote.Hole.Carrier.hidden denote.Hole.Carrier.out shown-the_row-TypedStmt-0 denote.Hole.Carrier.shown
 scan_of_two = refl
 
 -- while (1) { while (1) { break; write(b, 1); } break; } write(b, 7); continue; write(b, 2);
@@ -113,7 +117,8 @@ leave = program (function (ModInt ∷ ModInt ∷ [])
     ∷ []))
 
 leave_both : fresh leave 0 (place 0 ∷ place 1 ∷ []) (two 0 0).inputs 100 ≡ Some (record { memory = two 0 7; steps = 3; blocks = 0 })
-unfolding run_settled ready out-TypedStmt form_value hidden-the_row-TypedExpr-0 shape-the_row-TypedExpr-0 denote.Hole.Carrier.hidden denote.Hole.Carrier.out shown-the_row-TypedStmt-0 denote.Hole.Carrier.shown
+unfolding run_settled ready out-TypedStmt form_value hidden-the_row-TypedExpr-0 shape-the_row-TypedExpr-0
+    denote.Hole.Carrier.hidden denote.Hole.Carrier.out shown-the_row-TypedStmt-0 denote.Hole.Carrier.shown
 leave_both = refl
 
 abbrev cell : StructInfo
@@ -152,5 +157,7 @@ copy_of_three : fresh copy 1 (BlockWord (Input 0) ∷ At (record { block = Input
       steps = 2;
       blocks = 1;
     })
-unfolding run_settled ready out-TypedStmt form_value hidden-the_row-TypedExpr-0 shape-the_row-TypedExpr-0 denote.Hole.Carrier.hidden denote.Hole.Carrier.out shown-the_row-TypedStmt-0 denote.Hole.Carrier.shown set_by_all set_by values_of
+unfolding run_settled ready out-TypedStmt form_value hidden-the_row-TypedExpr-0 shape-the_row-TypedExpr-0
+    denote.Hole.Carrier.hidden denote.Hole.Carrier.out shown-the_row-TypedStmt-0 denote.Hole.Carrier.shown set_by_all
+    set_by values_of
 copy_of_three = refl

@@ -27,7 +27,9 @@ recorded read written after = record {
 }
 
 fits : (read written after : ℕ) → CallFits inc (recorded read written after)
-unfolding valid structs_ok functions_ok units_ok unit_ok is_prefix kinds_ok below all_forward is_tree reached all_followers all_true paths_ok with_params type_of params_fit others hidden-the_row-CodeExpr-0 shape-the_row-CodeExpr-0 denote.Hole.Carrier.hidden
+unfolding valid structs_ok functions_ok units_ok unit_ok is_prefix kinds_ok below all_forward is_tree reached
+    all_followers all_true paths_ok with_params type_of params_fit others hidden-the_row-CodeExpr-0
+    shape-the_row-CodeExpr-0 denote.Hole.Carrier.hidden
 fits read written after = record { call = record { is_valid = refl; blocks = refl; words = refl }; shapes = refl }
 
 replays : (after : ℕ) → Replayed inc (recorded 4 5 after) (items 4 5)

@@ -85,7 +85,9 @@ inc : checked (program (
     Declare (at 4) forms.Int (named (codes "x") 5) (Read (at 6) (variable (codes "a") 7))
     ∷ Write (at 8) (variable (codes "b") 9) (record { span = at 10; form = Binary Add (at 11) (variable (codes "x") 10) (number 1 12) })
     ∷ [])) ≡ Ok typed_inc
-unfolding checked heads struct_names in_turn with_entry head_of with_parameter with_body typed_function typed_stmt typed_value typed_form hidden-the_row-Expr-0 shape-the_row-Expr-0 hidden-the_row-Stmt-0 shape-the_row-Stmt-0 find denote.Hole.Carrier.hidden
+unfolding checked heads struct_names in_turn with_entry head_of with_parameter with_body typed_function typed_stmt
+    typed_value typed_form hidden-the_row-Expr-0 shape-the_row-Expr-0 hidden-the_row-Stmt-0 shape-the_row-Stmt-0 find
+    denote.Hole.Carrier.hidden
 inc = refl
 
 -- `if (null == null) { int x = 1; } x = 2;`: the comparison is allowed, and `x` is out of scope after the block
@@ -94,7 +96,9 @@ out_of_scope : checked (program (
     (Declare (at 8) forms.Int (named (codes "x") 9) (Plain (number 1 10)) ∷ []) []
     ∷ Assign (named (codes "x") 11) (Plain (number 2 12))
     ∷ [])) ≡ fault N1 (at 11)
-unfolding checked heads struct_names in_turn with_entry head_of with_parameter with_body typed_function typed_stmt typed_value typed_form hidden-the_row-Expr-0 shape-the_row-Expr-0 hidden-the_row-Stmt-0 shape-the_row-Stmt-0 find denote.Hole.Carrier.hidden
+unfolding checked heads struct_names in_turn with_entry head_of with_parameter with_body typed_function typed_stmt
+    typed_value typed_form hidden-the_row-Expr-0 shape-the_row-Expr-0 hidden-the_row-Stmt-0 shape-the_row-Stmt-0 find
+    denote.Hole.Carrier.hidden
 out_of_scope = refl
 
 -- `int x = 1; if (x) { int x = 2; }`: the outer `x` is still in scope
@@ -102,15 +106,21 @@ defined_twice : checked (program (
     Declare (at 4) forms.Int (named (codes "x") 5) (Plain (number 1 6))
     ∷ If (at 7) (variable (codes "x") 8) (Declare (at 9) forms.Int (named (codes "x") 10) (Plain (number 2 11)) ∷ []) []
     ∷ [])) ≡ fault N2 (at 10)
-unfolding checked heads struct_names in_turn with_entry head_of with_parameter with_body typed_function typed_stmt typed_value typed_form hidden-the_row-Expr-0 shape-the_row-Expr-0 hidden-the_row-Stmt-0 shape-the_row-Stmt-0 find denote.Hole.Carrier.hidden
+unfolding checked heads struct_names in_turn with_entry head_of with_parameter with_body typed_function typed_stmt
+    typed_value typed_form hidden-the_row-Expr-0 shape-the_row-Expr-0 hidden-the_row-Stmt-0 shape-the_row-Stmt-0 find
+    denote.Hole.Carrier.hidden
 defined_twice = refl
 
 -- `f(y);`: the arguments are looked at before their number
 unknown_argument : checked (program (Call (named (codes "f") 4) (variable (codes "y") 5 ∷ []) ∷ [])) ≡ fault N1 (at 5)
-unfolding checked heads struct_names in_turn with_entry head_of with_parameter with_body typed_function typed_stmt typed_value typed_form hidden-the_row-Expr-0 shape-the_row-Expr-0 hidden-the_row-Stmt-0 shape-the_row-Stmt-0 find denote.Hole.Carrier.hidden
+unfolding checked heads struct_names in_turn with_entry head_of with_parameter with_body typed_function typed_stmt
+    typed_value typed_form hidden-the_row-Expr-0 shape-the_row-Expr-0 hidden-the_row-Stmt-0 shape-the_row-Stmt-0 find
+    denote.Hole.Carrier.hidden
 unknown_argument = refl
 
 -- `f(a);`
 one_argument : checked (program (Call (named (codes "f") 4) (variable (codes "a") 5 ∷ []) ∷ [])) ≡ fault T2 (at 4)
-unfolding checked heads struct_names in_turn with_entry head_of with_parameter with_body typed_function typed_stmt typed_value typed_form hidden-the_row-Expr-0 shape-the_row-Expr-0 hidden-the_row-Stmt-0 shape-the_row-Stmt-0 find denote.Hole.Carrier.hidden
+unfolding checked heads struct_names in_turn with_entry head_of with_parameter with_body typed_function typed_stmt
+    typed_value typed_form hidden-the_row-Expr-0 shape-the_row-Expr-0 hidden-the_row-Stmt-0 shape-the_row-Stmt-0 find
+    denote.Hole.Carrier.hidden
 one_argument = refl

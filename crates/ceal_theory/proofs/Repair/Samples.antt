@@ -112,13 +112,17 @@ map_again None = None
 map_again (Some r) = adjusted mapping (map_inputs 5) 3 10 r.items
 
 mapped : report map_first ≡ 18 ∷ 18 ∷ 0 ∷ 1 ∷ 2 ∷ []
-unfolding first_of anew next settled chosen bound woven set unset expr_value values bases input_plain stored cleared learnt made set_by set_by_all arguments take_read take_alloc hidden-the_row-CodeExpr-0 shape-the_row-CodeExpr-0 denote.Hole.Carrier.hidden
+unfolding first_of anew next settled chosen bound woven set unset expr_value values bases input_plain stored cleared
+    learnt made set_by set_by_all arguments take_read take_alloc hidden-the_row-CodeExpr-0 shape-the_row-CodeExpr-0
+    denote.Hole.Carrier.hidden
 mapped = refl
 
 -- a new first cell: five steps and a block for it, and five for the old first cell, whose block is taken and the read
 -- of whose tail is taken whole
 mapped_again : report (map_again map_first) ≡ 10 ∷ 23 ∷ 3 ∷ 0 ∷ 1 ∷ 2 ∷ []
-unfolding first_of adjusted anew next settled chosen bound woven set unset expr_value values bases input_plain plain_of stored cleared learnt made set_by set_by_all arguments take_read take_alloc hidden-the_row-CodeExpr-0 shape-the_row-CodeExpr-0 denote.Hole.Carrier.hidden
+unfolding first_of adjusted anew next settled chosen bound woven set unset expr_value values bases input_plain
+    plain_of stored cleared learnt made set_by set_by_all arguments take_read take_alloc hidden-the_row-CodeExpr-0
+    shape-the_row-CodeExpr-0 denote.Hole.Carrier.hidden
 mapped_again = refl
 
 abbrev box_again : Option Repaired → Option Repaired
@@ -126,13 +130,17 @@ box_again None = None
 box_again (Some r) = adjusted box (box_inputs 2) 1 5 r.items
 
 boxed : report box_first ≡ 11 ∷ 11 ∷ 0 ∷ []
-unfolding first_of anew next settled chosen bound woven set unset expr_value values bases input_plain stored cleared learnt made set_by set_by_all arguments take_read take_alloc hidden-the_row-CodeExpr-0 shape-the_row-CodeExpr-0 denote.Hole.Carrier.hidden
+unfolding first_of anew next settled chosen bound woven set unset expr_value values bases input_plain stored cleared
+    learnt made set_by set_by_all arguments take_read take_alloc hidden-the_row-CodeExpr-0 shape-the_row-CodeExpr-0
+    denote.Hole.Carrier.hidden
 boxed = refl
 
 -- the first box is revoked and the second is new: were its number that of the first, the read of it would look
 -- unchanged
 boxed_again : report (box_again box_first) ≡ 5 ∷ 11 ∷ 1 ∷ []
-unfolding first_of adjusted anew next settled chosen bound woven set unset expr_value values bases input_plain plain_of stored cleared learnt made set_by set_by_all arguments take_read take_alloc hidden-the_row-CodeExpr-0 shape-the_row-CodeExpr-0 denote.Hole.Carrier.hidden
+unfolding first_of adjusted anew next settled chosen bound woven set unset expr_value values bases input_plain
+    plain_of stored cleared learnt made set_by set_by_all arguments take_read take_alloc hidden-the_row-CodeExpr-0
+    shape-the_row-CodeExpr-0 denote.Hole.Carrier.hidden
 boxed_again = refl
 
 -- the cost of the one first trace beside the other
@@ -144,7 +152,9 @@ abbrev map_other : Option Repaired
 map_other = first_of mapping (map_inputs 5) 23 1 inc_args
 
 mapped_cost : beside map_first map_other ≡ 22
-unfolding first_of anew next settled chosen bound woven set unset expr_value values bases input_plain stored cleared learnt made set_by set_by_all arguments take_read take_alloc cost_from hidden-the_row-CodeExpr-0 shape-the_row-CodeExpr-0 denote.Hole.Carrier.hidden
+unfolding first_of anew next settled chosen bound woven set unset expr_value values bases input_plain stored cleared
+    learnt made set_by set_by_all arguments take_read take_alloc cost_from hidden-the_row-CodeExpr-0
+    shape-the_row-CodeExpr-0 denote.Hole.Carrier.hidden
 mapped_cost = refl
 
 inc_cost : aligned (inc_items 4 5) (inc_items 9 10) ≡ 1
@@ -155,5 +165,7 @@ abbrev box_other : Option Repaired
 box_other = first_of box (box_inputs 2) 11 3 (At (place 0) ∷ At (place 1) ∷ At (place 2) ∷ [])
 
 boxed_cost : beside box_first box_other ≡ 5
-unfolding first_of anew next settled chosen bound woven set unset expr_value values bases input_plain stored cleared learnt made set_by set_by_all arguments take_read take_alloc cost_from hidden-the_row-CodeExpr-0 shape-the_row-CodeExpr-0 denote.Hole.Carrier.hidden
+unfolding first_of anew next settled chosen bound woven set unset expr_value values bases input_plain stored cleared
+    learnt made set_by set_by_all arguments take_read take_alloc cost_from hidden-the_row-CodeExpr-0
+    shape-the_row-CodeExpr-0 denote.Hole.Carrier.hidden
 boxed_cost = refl

@@ -19,7 +19,9 @@ returns-in_default-item c = record {
 
 pub returns-in-None : goal.returns-in-None
 returns-in-None c = record {
-  value = rw c.in-None.is at (read-found c.args.old.now c.args.rest c.args.levels c.args.closure.now.place c.args.closure.now.unit c.args.closure.now.var c.args.closure.now.args c.in-Some.spot.at c.in-Some.spot.levels (rw c.in-Some.is at c.in_ok-spot.ensures.found)
+  value = rw c.in-None.is at (read-found c.args.old.now c.args.rest c.args.levels c.args.closure.now.place
+      c.args.closure.now.unit c.args.closure.now.var c.args.closure.now.args c.in-Some.spot.at c.in-Some.spot.levels
+      (rw c.in-Some.is at c.in_ok-spot.ensures.found)
       c.in-Some-item.item.now (drop (c.in-Some.spot.at + 1) c.args.old.now) c.in-Some-item.ensures.value c.was_read.result c.was_read.ensures);
 }
 

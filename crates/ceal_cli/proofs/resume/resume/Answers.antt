@@ -46,7 +46,8 @@ returns-in_ok-write_all-in-Err-Unreadable-clause-writes g c =
     let why = rw c.in-Err-Unreadable.field-0-is at c.in-Err-Unreadable.ensures.unreadable in
     let w = writes_text _ _ _ _ _ (IsOutput Resume c.args.input.bytes.now) unreadable_save
     (inr (is-unreadable c.args.input.bytes.now c.args.input.part c.requires.split c.args.program c.requires.program c.requires.compiled c.script-bytes.result.now c.script-bytes.ensures (why refl)))
-    c.in_ok-write_all-in-Err-Unreadable.ensures.all c.in_ok-write_all-in-Err-Unreadable.ensures.prefix c.in_ok-write_all-in-Err-Unreadable.ensures.fault c.in_ok-write_all-in-Err-Unreadable.ensures.later in
+    c.in_ok-write_all-in-Err-Unreadable.ensures.all c.in_ok-write_all-in-Err-Unreadable.ensures.prefix
+    c.in_ok-write_all-in-Err-Unreadable.ensures.fault c.in_ok-write_all-in-Err-Unreadable.ensures.later in
     record { all = w.all; part = w.part; fault = search rules; later = w.later }
 
 pub returns-in_err-write_all-in-Err-Unsound-clause-writes : goal.returns-in_err-write_all-in-Err-Unsound-clause-writes

@@ -17,8 +17,10 @@ loop-reader-preserved c =
     let word = c.word.ensures.value ∙ ap (λ bs. (word_at bs).0) c.skip.ensures.rest in
     record {
       few = omega (arith, space-shorter bs space, ap length next, ap length c.in_ok-push.ensures.items, length-append words (c.word.result ∷ []), c.loop-reader.invariant.few);
-      same = words-same c.args.reader.now bs words c.loop-reader.invariant.same c.loop-reader.invariant.rest c.word.result c.push.new.self.items c.word.new.reader space word next c.in_ok-push.ensures.items;
-      rest = words-rest c.args.reader.now bs words c.loop-reader.invariant.same c.loop-reader.invariant.rest c.word.result c.push.new.self.items c.word.new.reader space next c.in_ok-push.ensures.items;
+      same = words-same c.args.reader.now bs words c.loop-reader.invariant.same c.loop-reader.invariant.rest
+          c.word.result c.push.new.self.items c.word.new.reader space word next c.in_ok-push.ensures.items;
+      rest = words-rest c.args.reader.now bs words c.loop-reader.invariant.same c.loop-reader.invariant.rest
+          c.word.result c.push.new.self.items c.word.new.reader space next c.in_ok-push.ensures.items;
     }
 
 pub returns-clause-value : goal.returns-clause-value

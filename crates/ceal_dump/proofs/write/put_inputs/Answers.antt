@@ -13,4 +13,5 @@ returns-clause-text c =
     on-ok c.put_blocks.result _ _ (λ e.
     joined out (head ++ decimal (length bs) ++ codes "\n") (block_lines bs) c.append-2.new.self c.put_blocks.new.out
     (joined out (head ++ decimal (length bs)) (codes "\n") c.append_number.new.self c.append-2.new.self
-    (joined out head (decimal (length bs)) c.append.new.self c.append_number.new.self c.in_ok-append.ensures.ok c.in_ok-append_number.ensures.ok) c.in_ok-append-2.ensures.ok) e) c.put_blocks.ensures.text
+    (joined out head (decimal (length bs)) c.append.new.self c.append_number.new.self c.in_ok-append.ensures.ok
+    c.in_ok-append_number.ensures.ok) c.in_ok-append-2.ensures.ok) e) c.put_blocks.ensures.text

@@ -48,4 +48,6 @@ pub returns-else-len-ge-MOST-clause-left : goal.returns-else-len-ge-MOST-clause-
 returns-else-len-ge-MOST-clause-left g c =
     begun-lost g.M.Made.Answerer.stands g.M.Made.Answerer.answers g.M.Made.Answerer.leaves (g.M.Made.Answerer.opening (g.M.Maker.beginning c.args.maker.now))
     c.args.sessions.now.items c.args.name.now c.args.line.now
-    (sought g.M.Made.Answerer.stands c.args.name.now c.args.sessions.now.items c.deref.result.now c.place_of.result None c.deref.ensures.value c.place_of.ensures c.in-None.is) c.begin.new.sessions.items c.begin.result c.begin.ensures.left
+    (sought g.M.Made.Answerer.stands c.args.name.now c.args.sessions.now.items c.deref.result.now c.place_of.result
+    None c.deref.ensures.value c.place_of.ensures c.in-None.is) c.begin.new.sessions.items c.begin.result
+    c.begin.ensures.left

@@ -94,7 +94,8 @@ returns-then-branch c =
       store =
           c.in_ok-store_honest.ensures.store c.if-not-branch-3.false;
     } in
-    let asks = asked-there code r c.new-memory.result is c.items.result.now c.requires begun c.learn_named.new.memory learns named accepts c.store_honest.new.memory stores c.items-2.result.now c.items-2.ensures.value in (
+    let asks = asked-there code r c.new-memory.result is c.items.result.now c.requires begun c.learn_named.new.memory
+    learns named accepts c.store_honest.new.memory stores c.items-2.result.now c.items-2.ensures.value in (
       c.requires,
       (
         replays.0,
@@ -130,7 +131,8 @@ returns c =
       store =
           c.in_ok-store_honest.ensures.store c.if-not-branch-3.false;
     } in
-    let asks = asked-there code r c.new-memory.result is c.items.result.now c.requires begun c.learn_named.new.memory learns named accepts c.store_honest.new.memory stores c.items-2.result.now c.items-2.ensures.value in (
+    let asks = asked-there code r c.new-memory.result is c.items.result.now c.requires begun c.learn_named.new.memory
+    learns named accepts c.store_honest.new.memory stores c.items-2.result.now c.items-2.ensures.value in (
       c.requires,
       (
         replays.0,

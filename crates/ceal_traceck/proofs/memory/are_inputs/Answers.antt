@@ -12,7 +12,9 @@ returns-then-not-branch c =
 
 pub loop-block-preserved : goal.loop-block-preserved
 loop-block-preserved c = record {
-  rest = rest-more c.loop-block.number c.in_ok-number.number c.args.blocks.now c.loop-block.blocks.now c.in-Some.more.now c.in-Some.block.now c.loop-block.invariant.rest c.in-Some.ensures.cases.0 c.in_ok-number.ensures;
+  rest = rest-more c.loop-block.number c.in_ok-number.number c.args.blocks.now c.loop-block.blocks.now
+      c.in-Some.more.now c.in-Some.block.now c.loop-block.invariant.rest c.in-Some.ensures.cases.0
+      c.in_ok-number.ensures;
   same = blocks-more (λ i. memory_in c.args.memory.now (Input i)) c.args.blocks.now c.loop-block.number c.loop-block.blocks.now c.loop-block.invariant.rest
       c.in-Some.block.now c.in-Some.more.now c.in_ok-number.number c.in-Some.ensures.cases.0 (c.in_ok-is_block.ensures.0 c.if-not-branch.false) c.in_ok-number.ensures c.loop-block.invariant.same;
 }

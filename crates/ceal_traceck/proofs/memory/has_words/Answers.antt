@@ -10,7 +10,8 @@ returns-then-not-is_word c =
 
 pub loop-word-preserved : goal.loop-word-preserved
 loop-word-preserved c = record {
-  rest = rest-more c.loop-word.field c.in_ok-field.field c.args.words.now c.loop-word.rest.now c.in-Some.more.now c.in-Some.word.now c.loop-word.invariant.rest c.in-Some.ensures.cases.0 c.in_ok-field.ensures;
+  rest = rest-more c.loop-word.field c.in_ok-field.field c.args.words.now c.loop-word.rest.now c.in-Some.more.now
+      c.in-Some.word.now c.loop-word.invariant.rest c.in-Some.ensures.cases.0 c.in_ok-field.ensures;
   same = words-more (memory_in c.args.memory.now c.args.id) c.args.words.now c.loop-word.field c.loop-word.rest.now c.loop-word.invariant.rest
       c.in-Some.word.now c.in-Some.more.now c.word_after.result c.in_ok-field.field c.in-Some.ensures.cases.0 c.word_after.ensures.value
       (c.is_word.ensures.0 c.if-not-is_word.false) c.in_ok-field.ensures c.loop-word.invariant.same;

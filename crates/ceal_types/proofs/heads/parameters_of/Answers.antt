@@ -8,7 +8,8 @@ pub returns-in_err-add_parameter : goal.returns-in_err-add_parameter
 returns-in_err-add_parameter c =
     let within : c.loop-parameter.parameter-index < length c.args.parameters.now = omega arith in
     let p = err_from_is_err_and c.from_residual.result c.from_residual.ensures.1 in
-    rw (p.1, p.2) (turn-failed (with_parameter c.args.names.now) c.args.parameters.now _ c.parameter-item.result _ _ _ c.parameter-item.is within c.loop-parameter.invariant c.in_err-add_parameter.ensures)
+    rw (p.1, p.2) (turn-failed (with_parameter c.args.names.now) c.args.parameters.now _ c.parameter-item.result _ _
+    _ c.parameter-item.is within c.loop-parameter.invariant c.in_err-add_parameter.ensures)
 
 pub loop-parameter-preserved : goal.loop-parameter-preserved
 loop-parameter-preserved c =
