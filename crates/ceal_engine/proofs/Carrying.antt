@@ -31,7 +31,9 @@ use Rattle.ceal_engine.specs.declared.phase.Phase.TheVariants.{New, Finished as 
 use Rattle.ceal_engine.specs.declared.run_error.RunError.{RunError}
 use Rattle.ceal_engine.specs.declared.run_error.RunError.TheVariants.{Memory, OutOfFuel as RanOut}
 use Rattle.ceal_heap.specs.Heap.{Contents, next, plain_of}
+use Rattle.ceal_repair.proofs.Runs.FewNumbers.{kept-few}
 use Rattle.ceal_repair.specs.Answers.{IsKeptRun}
+use Rattle.ceal_repair.specs.Blocks.{HasFew}
 use Rattle.ceal_repair.specs.Slicing.{IsPartRun, IsSliceOf, IsSliced}
 use Rattle.ceal_repair.specs.declared.running.Running.{Running}
 use Rattle.ceal_repair.specs.declared.advance.Progress.{Progress as Far}
@@ -54,6 +56,9 @@ module _ (code : Code) (fuel : ℕ) (inputs : List Block) (call : Call) (l : Tra
   edited : Edited code inputs inputs call.function call.args l (next run.heap)
   edited = record { call = kept.fits; fit = kept.fits.blocks; extended = extended-refl code inputs; trace = kept.replays; above = low }
 
+  few-readable : HasFew fuel run.heap
+  few-readable = kept-few code inputs call.function call.args fuel l run kept
+
   begun : IsPartRun code inputs call.function call.args fuel (beginning code inputs l 0) (idle run)
   begun = record {
     fits = kept.fits;
@@ -68,6 +73,12 @@ module _ (code : Code) (fuel : ℕ) (inputs : List Block) (call : Call) (l : Tra
       sound = begin-law code (λ k. next run.heap + k) inputs inputs call.function call.args l (next run.heap) 0 edited (λ j k e. omega (arith, e)) (λ k h. low (next run.heap + k) (omega arith));
     };
     few = omega arith;
+    blocks = record {
+      blocks = few-readable.blocks;
+      each = few-readable.each;
+      few = omega (arith, few-readable.few);
+    };
+    numbers = kept.numbers;
   }
 
   pub begun-kept : IsPartKept code fuel inputs call (idle run)
