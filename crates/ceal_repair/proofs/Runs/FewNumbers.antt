@@ -1,5 +1,5 @@
 -- How many numbers are given out to core blocks: no more than there were blocks that could be read at a time.
-use Rattle.std.proofs.Common.{◌≡◌, ◌≢◌, ◌<◌, ◌≤◌, ◌+◌, ◌*◌, ◌⊎◌, ◌↔◌, ℕ, zero, suc, inl, inr, Some, None, List, [], ◌∷◌, ◌++◌, length, slice_get, refl, sym, ap, subst, ◌∙◌, arith}
+use Rattle.std.proofs.Common.{◌≡◌, ◌≢◌, ◌<◌, ◌≤◌, ◌+◌, ◌*◌, ◌⊎◌, ◌↔◌, ℕ, zero, suc, inl, inr, true, false, Some, None, List, [], ◌∷◌, ◌++◌, length, slice_get, refl, sym, ap, subst, ◌∙◌, arith}
 use Rattle.std.proofs.lemmas.Bool.{cases_lt}
 use Rattle.std.proofs.lemmas.Bool.Decides.{eqb_tells}
 use Rattle.std.proofs.lemmas.Option.{slice_get_past, slice_get_cases}
@@ -35,7 +35,7 @@ state-used region shape ReleasedState e = absurd cc
 
 pub used-below : (heap : Contents) (n : ℕ) → n < next heap → standing heap (Core n) ≢ Unused
 used-below heap n l e = elim (slice_get_cases heap.numbers n).1 [
-  | inl s ↦ state-used heap.region s.0.shape s.0.state (sym (ap (number_standing heap.region) s.2.0) ∙ e)
+  | inl s ↦ state-used heap.region s.0.shape s.0.state (sym (ap (number_standing heap.region) s.2) ∙ e)
   | inr p ↦ absurd (omega (arith, l, p.0))
 ]
 
@@ -145,21 +145,25 @@ record Without (b : ℕ) (bs : List ℕ) : Type 0 where
   pub shorter : length bs ≡ suc (length rest)
   pub others : (c : ℕ) → c ≢ b → In c bs → In c rest
 
-without : (b : ℕ) (bs : List ℕ) → In b bs → Without b bs
-without b [] i = elim i [ ]
-without b (b ∷ bs) here = record { rest = bs; shorter = refl; others = λ c n i. left c n i }
+-- one more number in front
+without-more : (b d : ℕ) (bs : List ℕ) → Without b bs → Without b (d ∷ bs)
+without-more b d bs w = record { rest = d ∷ w.rest; shorter = ap suc w.shorter; others = λ c n i. left c n i }
+  where
+    left : (c : ℕ) → c ≢ b → In c (d ∷ bs) → In c (d ∷ w.rest)
+    left c n here = here
+    left c n (there i) = there (w.others c n i)
+
+without-first : (b : ℕ) (bs : List ℕ) → Without b (b ∷ bs)
+without-first b bs = record { rest = bs; shorter = refl; others = λ c n i. left c n i }
   where
     left : (c : ℕ) → c ≢ b → In c (b ∷ bs) → In c bs
     left c n here = absurd (n refl)
     left c n (there i) = i
-without b (d ∷ bs) (there i) = record { rest = d ∷ w.rest; shorter = ap suc w.shorter; others = λ c n j. left c n j }
-  where
-    w : Without b bs
-    w = without b bs i
 
-    left : (c : ℕ) → c ≢ b → In c (d ∷ bs) → In c (d ∷ w.rest)
-    left c n here = here
-    left c n (there j) = there (w.others c n j)
+without : (b : ℕ) (bs : List ℕ) → In b bs → Without b bs
+without b [] i = elim i [ ]
+without b (d ∷ bs) here = without-first b bs
+without b (d ∷ bs) (there i) = without-more b d bs (without b bs i)
 
 -- a list that has all numbers below this one is at least as long
 pub as-long : (k : ℕ) (bs : List ℕ) → ((n : ℕ) → n < k → In n bs) → k ≤ length bs
@@ -171,7 +175,7 @@ as-long (suc k) bs h =
 
 in-front : (b : ℕ) (bs cs : List ℕ) → In b bs → In b (bs ++ cs)
 in-front b [] cs i = elim i [ ]
-in-front b (b ∷ bs) cs here = here
+in-front b (d ∷ bs) cs here = here
 in-front b (d ∷ bs) cs (there i) = there (in-front b bs cs i)
 
 in-back : (b : ℕ) (bs cs : List ℕ) → In b cs → In b (bs ++ cs)
@@ -184,11 +188,11 @@ in-both b bs cs (inr i) = in-back b bs cs i
 
 in-either : (b : ℕ) (bs cs : List ℕ) → In b (bs ++ cs) → In b bs ⊎ In b cs
 in-either b [] cs i = inr i
-in-either b (b ∷ bs) cs here = inl here
+in-either b (d ∷ bs) cs here = inl here
 in-either b (d ∷ bs) cs (there i) = elim (in-either b bs cs i) [ inl j ↦ inl (there j) | inr j ↦ inr j ]
 
 pub length-both : (bs cs : List ℕ) → length (bs ++ cs) ≡ length bs + length cs
-length-both [] cs = refl
+length-both [] cs = omega arith
 length-both (b ∷ bs) cs = omega (arith, length-both bs cs)
 
 -- ---- the numbers that new blocks were given
@@ -254,10 +258,10 @@ module _ (code : Code) (inputs : List Block) (f : ℕ) (args : List Word) (fuel 
   trace-only b some = go (standing run.heap (Core b)) refl
     where
       go : (s : Standing) → standing run.heap (Core b) ≡ s → In b (core_numbers (blocks_of l))
-      go Unused e = absurd (rw e at some)
+      go Unused e = absurd (let no : false ≡ true = rw e at some in cc)
       go (Live block) e = subst (λ bs. In b bs) (sym (blocks-allocs l)) (subst (λ is. In b (allocs is)) kept.stands.items ((kept.stands.blocks.lives.live b).0 (block, e)))
       go (Revoked block) e = absurd (kept.stands.released (Core b) block e)
-      go (Released shape) e = absurd (rw e at some)
+      go (Released shape) e = absurd (let no : false ≡ true = rw e at some in cc)
 
   pub kept-few : HasFew fuel run.heap
   kept-few = record {

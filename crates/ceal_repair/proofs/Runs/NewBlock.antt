@@ -90,7 +90,7 @@ last-in b (d ∷ bs) = there (last-in b bs)
 
 front-in : (c b : ℕ) (bs : List ℕ) → In c bs → In c (bs ++ b ∷ [])
 front-in c b [] i = elim i [ ]
-front-in c b (c ∷ bs) here = here
+front-in c b (d ∷ bs) here = here
 front-in c b (d ∷ bs) (there i) = there (front-in c b bs i)
 
 in-last : (c b : ℕ) (bs : List ℕ) → In c (bs ++ b ∷ []) → In c bs ⊎ (c ≡ b)

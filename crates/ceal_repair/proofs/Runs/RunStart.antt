@@ -119,7 +119,7 @@ module _ (code : Code) (inputs : List Block) (f : ℕ) (args : List Word) (fits 
     comes = subst (λ m. ComesBy code (first_begins code inputs f args) m [] []) (sym same-machine) (chosen.begun (first_begins code inputs f args) [] refl);
     knows = subst (λ m. Knows code (length inputs) [] [] m) (sym same-machine) (knowing.first_begins inputs f args fits);
     same = λ p k. same-at p.block p.field k;
-    given = record { distinct = λ b. omega arith; apart = λ b i. refl; there = λ b i. no-block i; still = λ b i. no-block i; only = λ b some. absurd (rw (empty.blocks (Core b)) at some); few = inl (next-new v.heap empty) };
+    given = record { distinct = λ b. omega arith; apart = λ b i. refl; there = λ b i. no-block i; still = λ b i. no-block i; only = λ b some. absurd (let no : false ≡ true = rw (empty.blocks (Core b)) at some in cc); few = inl (next-new v.heap empty) };
   }
 
   -- the unit of the call runs after the root, with nothing left over
