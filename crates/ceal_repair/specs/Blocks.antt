@@ -55,8 +55,8 @@ pub record HasFew (most : ℕ) (heap : Contents) : Type 0 where
   pub few : length blocks ≤ most
 
 -- The numbers that new blocks were given: each is another one, none is that of a block that was there at first, and the
--- blocks that can be read are those of the first numbers and of these. No more numbers were given out than at first, or no
--- more than all these.
+-- blocks that can be read are those of the first numbers and of these. No more numbers were given out than at first, or
+-- no more than all these.
 pub record Given (first : List ℕ) (numbers : ℕ) (chosen : List ℕ) (heap : Contents) : Type 0 where
   pub distinct : Distinct chosen
   pub apart : (b : ℕ) → In b chosen → count b first ≡ 0

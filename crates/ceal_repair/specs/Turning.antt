@@ -76,8 +76,8 @@ pub record StandsFor (code : Code) (inputs : List Block) (f : ℕ) (args : List 
   pub names : ℕ → ℕ
   pub sound : Sound code names inputs f args r
 
--- A repair from which turns are made, the numbers of the blocks that it knows, how many numbers had been given out then,
--- and how many turns were made since.
+-- A repair from which turns are made, the numbers of the blocks that it knows, how many numbers had been given out
+-- then, and how many turns were made since.
 pub record Since : Type 0 where
   pub repair : Repair
   pub first : List ℕ

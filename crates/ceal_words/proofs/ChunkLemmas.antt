@@ -73,7 +73,7 @@ cleared_next before cells new from i h k e inv =
     ∙ (ap (λ (cs : List (Option ℕ)). before ++ cs) (sym (replicate_next (i - from)))
     ∙ ap (λ j. before ++ replicate j (Some 0)) (sym n))))))
 
--- words that were copied, with zeros behind them
+-- words that were copied, with zeros after them
 pub longer_cells : (xs : List ℕ) (cells : List (Option ℕ)) (n count : ℕ) → n ≡ length xs
     → take n (map Some xs ++ drop (length xs) cells) ++ replicate (count - n) (Some 0) ≡ map Some (xs ++ replicate (count - length xs) 0)
 longer_cells xs cells n count e =

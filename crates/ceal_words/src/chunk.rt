@@ -65,7 +65,7 @@ impl Chunk {
         }
     }
 
-    // The same words and zeros after them, `count` in all, in memory of their own.
+    // The same words and zeros after them, `count` in all, in new memory.
     fn longer(&self, count: usize) -> Result<Chunk, NoMemory>
         requires { length self.now ≤ count }
         ensures { IfOk result (λ c. c ≡ self.now ++ replicate (count - length self.now) 0) }
