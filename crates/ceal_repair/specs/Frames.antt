@@ -19,7 +19,8 @@ pub data Frame : Type 0 where
 -- the frames as the code keeps them, the next first: the units of each are set aside on its floor
 abbrev pub frames_in : Pile → List CodeFrame → List Frame
 frames_in aside [] = []
-frames_in aside (CodeBegun floor read ∷ fs) = Begun (above_floor floor aside) read ∷ frames_in (under_floor floor aside) fs
+frames_in aside (CodeBegun floor read ∷ fs) =
+    Begun (above_floor floor aside) read ∷ frames_in (under_floor floor aside) fs
 frames_in aside (CodeTaken floor limit ∷ fs) =
     Taken (above_floor floor aside) limit ∷ frames_in (under_floor floor aside) fs
 frames_in aside (CodeKept until ∷ fs) = Kept until ∷ frames_in aside fs

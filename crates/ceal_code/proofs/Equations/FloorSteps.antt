@@ -1,7 +1,7 @@
 -- Units that wait above a floor, and those under it.
-use Rattle.std.proofs.Common.{◌≡◌, ℕ, zero, suc, ◌+◌, ◌-◌, ◌<◌, ◌≤◌, List, [], ◌∷◌, ◌++◌, length, take, drop, append-nil, min, max, refl, sym, ap, ap₂, ◌∙◌, arith, inl, inr}
+use Rattle.std.proofs.Common.{◌≡◌, ℕ, zero, suc, ◌+◌, ◌-◌, ◌≤◌, List, [], ◌∷◌, ◌++◌, length, take, drop, append-nil, min, max, sym, ap, ap₂, ◌∙◌, arith, inl, inr}
 use Rattle.std.proofs.Math.Seq.{drop-nil}
-use Rattle.std.proofs.lemmas.List.{drop-append-le, take-append-le, length-append, length-drop, length-take, drop-take, drop_all, take_all, take-append-drop}
+use Rattle.std.proofs.lemmas.List.{drop-append-le, length-drop, length-take, drop-take, drop_all, take_all, take-append-drop}
 use Rattle.ceal_base.specs.declared.word.Word.{Word}
 use Rattle.ceal_code.proofs.Equations.StackSteps.{le-either}
 use Rattle.ceal_code.proofs.Equations.WaitSteps.{wait-over, wait-pop, wait-empty}
@@ -41,9 +41,6 @@ cut-length f xs h = length-take f xs ∙ omega (arith, h)
 pub cut-none : {A : Type 0} (f : ℕ) (xs : List A) → f ≤ length xs → drop f (take f xs) ≡ []
 cut-none f xs h = drop_all f (take f xs) (omega (arith, cut-length f xs h))
 
-pub cut-same : {A : Type 0} (f : ℕ) (xs : List A) → f ≤ length xs → take f (take f xs) ≡ take f xs
-cut-same f xs h = take_all f (take f xs) (omega (arith, cut-length f xs h))
-
 -- a lower floor, or the same one
 pub lower-drop : {A : Type 0} (a f : ℕ) (xs : List A) → f ≤ length xs → drop (min a f) (take f xs) ≡ drop a (take f xs)
 lower-drop a f xs h = elim (le-either a f) [
@@ -52,22 +49,12 @@ lower-drop a f xs h = elim (le-either a f) [
       ap (λ n. drop n (take f xs)) e ∙ (cut-none f xs h ∙ sym (drop_all a (take f xs) (omega (arith, cut-length f xs h, k))))
 ]
 
-pub lower-take : {A : Type 0} (a f : ℕ) (xs : List A) → f ≤ length xs → take (min a f) (take f xs) ≡ take a (take f xs)
-lower-take a f xs h = elim (le-either a f) [
-  | inl k ↦ let e : min a f ≡ a = omega (arith, k) in ap (λ n. take n (take f xs)) e
-  | inr k ↦ let e : min a f ≡ f = omega (arith, k) in
-      ap (λ n. take n (take f xs)) e ∙ (cut-same f xs h ∙ sym (take_all a (take f xs) (omega (arith, cut-length f xs h, k))))
-]
-
 -- where no unit is above it
 whole : {A : Type 0} (f : ℕ) (xs : List A) → drop f xs ≡ [] → xs ≡ take f xs
 whole f xs e = sym (take-append-drop f xs) ∙ (ap (λ ys. take f xs ++ ys) e ∙ append-nil (take f xs))
 
 pub down-drop : {A : Type 0} (a f : ℕ) (xs : List A) → f ≤ length xs → drop f xs ≡ [] → drop (min a f) xs ≡ drop a (take f xs)
 down-drop a f xs h e = ap (drop (min a f)) (whole f xs e) ∙ lower-drop a f xs h
-
-pub down-take : {A : Type 0} (a f : ℕ) (xs : List A) → f ≤ length xs → drop f xs ≡ [] → take (min a f) xs ≡ take a (take f xs)
-down-take a f xs h e = ap (take (min a f)) (whole f xs e) ∙ lower-take a f xs h
 
 pub waiting-none : (units : List Waiting) (words : List Word) → units ≡ [] → waiting units words ≡ Empty
 waiting-none units words e = wait-empty units words (ap length e)

@@ -1,4 +1,4 @@
-use Rattle.std.proofs.Common.{◌≡◌, [], drop, ap, ap₂, ◌∙◌, arith}
+use Rattle.std.proofs.Common.{◌≡◌, [], drop, ap, ap₂, ◌∙◌}
 use Rattle.ceal_code.proofs.Equations.FloorSteps.{down-drop}
 use Rattle.ceal_code.specs.Piles.{Pile, Piles}
 use Rattle.ceal_code.specs.Stacks.{above_floor, waiting, waits_in}

@@ -11,8 +11,8 @@ unfolding waits_in
 returns-then-len-self-clause-began c =
     let p = c.self.inside in
     let none : waiting c.args.self.now.waits.units c.args.self.now.waits.words ≡ Empty =
-        sym (ap (λ (w : Piles). waiting w.waits.units w.waits.words) c.self.view_is)
-        ∙ waiting-none _ _ (drop_all p.floor.units p.units.items (omega (arith, c.len.ensures, c.if-len-self.true))) in
+    sym (ap (λ (w : Piles). waiting w.waits.units w.waits.words) c.self.view_is)
+    ∙ waiting-none _ _ (drop_all p.floor.units p.units.items (omega (arith, c.len.ensures, c.if-len-self.true))) in
     (none, none)
 
 pub returns-clause-began : goal.returns-clause-began
@@ -20,7 +20,7 @@ unfolding waits_in
 returns-clause-began c =
     let p = c.self.inside in
     let one-fewer : length p.units.items ≡ length c.pop.new.self.items + 1 =
-        ap length c.in-Some.ensures.items ∙ length-append c.pop.new.self.items (c.in-Some.next ∷ []) in
+    ap length c.in-Some.ensures.items ∙ length-append c.pop.new.self.items (c.in-Some.next ∷ []) in
     sym (ap (λ (w : Piles). waiting w.waits.units w.waits.words) c.self.view_is)
     ∙ off-floor p.units.items c.pop.new.self.items c.in-Some.next p.words.items c.refill.new.env.items c.truncate.new.self.items c.larger-from.result p.floor.units p.floor.words
     c.in-Some.ensures.items (omega (arith, c.len.ensures, c.if-len-self.false, one-fewer)) c.self.invariant.1

@@ -1,4 +1,4 @@
-use Rattle.std.proofs.Common.{List, length, drop, refl, ap, ap₂, ◌∙◌, arith}
+use Rattle.std.proofs.Common.{List, length, drop, refl, ap, ap₂, ◌∙◌}
 use Rattle.ceal_base.specs.declared.word.Word.{Word}
 use Rattle.ceal_code.proofs.Equations.FloorSteps.{over-floor}
 use Rattle.ceal_code.specs.Init.{arguments}

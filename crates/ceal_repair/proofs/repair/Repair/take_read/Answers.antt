@@ -161,8 +161,8 @@ returns-in_ok-go_inside-2-clause-runs c = λ start a.
       passes-as (code_of old) (inputs_of old) start (stamped m.end) _ gone (enters c.args.self.now c.step.new.self reading c.args.found c.cut_until.new.self (above_floor c.in_ok-below.below (aside_in c.set_aside.new.self)) cut start a c.look.new.self honest until limit)
           (ap code_of i.rest ∙ ap code_of h.rest) (ap inputs_of i.rest ∙ ap inputs_of h.rest)
           (ap view i.rest ∙ entered-view old c.step.new.self h c.look.new.self c.cut_until.new.self.heap c.cut_until.new.self.spent c.args.found.0 gone.limit (Some (stamped m.end)) (Taken (above_floor c.in_ok-below.below (aside_in c.set_aside.new.self)) until) _ f.spent ends
-    (taken-frames (aside_in c.step.new.self.stack.now) (aside_in c.set_aside.new.self) (aside_in c.set_aside.new.self) c.in_ok-below.below until c.step.new.self.frames.now.items gone.frames.now.items
-    refl c.in_ok-below.ensures.under i.frames)),
+          (taken-frames (aside_in c.step.new.self.stack.now) (aside_in c.set_aside.new.self) (aside_in c.set_aside.new.self) c.in_ok-below.below until c.step.new.self.frames.now.items gone.frames.now.items
+          refl c.in_ok-below.ensures.under i.frames)),
     )
 
 pub returns-in_ok-resume-clause-pays : goal.returns-in_ok-resume-clause-pays
