@@ -13,6 +13,7 @@ pub mod Answers
 pub mod Propagation
 pub mod Slicing
 -- what its own functions say of each other
+pub mod Frames
 pub mod Around
 pub mod Moment
 pub mod Repairs

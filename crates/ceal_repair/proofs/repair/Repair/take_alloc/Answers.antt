@@ -103,7 +103,7 @@ returns-clause-runs c = λ start a.
     (now-take-alloc (code_of old) (inputs_of old) start a.stack (view old) a.now c.args.key c.args.found c.cut_until.new.self.heap new.running.now.tables c.cut_until.new.self.tables c.set_steps.new.self r.0 h.more cut matches
     c.args.var unit.unit unit.index (arguments unit.env.items) below a.does)
     (ap code_of h.rest) (ap inputs_of h.rest) stack
-    (made-view old new h c.set_steps.new.self c.cut_until.new.self.heap c.cut_until.new.self.spent c.args.found.0 f.spent)
+    (made-view old new h c.set_steps.new.self c.cut_until.new.self.heap c.cut_until.new.self.spent c.args.found.0 _ f.spent c.in_ok-set.ensures.aside)
 
 pub returns-clause-pays : goal.returns-clause-pays
 returns-clause-pays c =
