@@ -75,7 +75,8 @@ module _ (code : Code) (inputs : List Block) (start : Start) (st : Stack) (v : V
       ≡ Went (item.Step ∷ item.Read p w u x args ∷ []) (running_at (works (state_at code inputs v now.course.store (start.chosen ++ now.course.made))) (resumed code u x args w) (Begins below ∷ now.waits) (forest_of (entries now.left ++ now.tail))))
       is (rw (does, none) refl)
 
-  -- a new read begins, where none that is left over is taken: its unit runs on what its place holds, and shares what is left over
+  -- a new read begins, where none that is left over is taken: its unit runs on what its place holds, and shares what is
+  -- left over
   pub now-begin : (p : Place) (u : UnitId) (x : ℕ) (args : List Word) (below : Stack) (word : Word) (t1 t : Tables) (read : Stamp)
       → take_read p u x args (first (levels (forest_of (entries now.left ++ now.tail)))) ≡ None → next code (words_of code inputs v.heap) st ≡ Reads p u x args below → StepMore v.cursor v.tables t1
       → word ≡ contents_after (base_in t1.mods) (up_to v.cursor t1.trace.nodes) p → NodeMore v.cursor read.0 (Read p word u x args) t1 t → end_in read.0 t.trace.nodes ≡ None

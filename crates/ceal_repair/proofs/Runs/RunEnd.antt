@@ -6,9 +6,9 @@ use Rattle.ceal_base.specs.declared.word.Word.{Word}
 use Rattle.ceal_code.specs.Fitting.{Fits}
 use Rattle.ceal_code.specs.Fresh.{fresh}
 use Rattle.ceal_code.specs.Program.{Code}
-use Rattle.ceal_code.specs.Step.{Stack, Over, next}
+use Rattle.ceal_code.specs.Step.{Stack, Over, next as next_step, started}
 use Rattle.ceal_code.specs.Stacks.{stack_in, aside_in}
-use Rattle.ceal_heap.specs.Heap.{HasSlots, ReleasesRevoked}
+use Rattle.ceal_heap.specs.Heap.{HasSlots, ReleasesRevoked, next}
 use Rattle.ceal_order.specs.Stamps.{Distinct}
 use Rattle.ceal_order.specs.declared.stamp.Stamp.{Stamp}
 use Rattle.ceal_repair.proofs.Revocation.BlockRelease.{words-released, none-revoked, blocks-released}
