@@ -66,9 +66,9 @@ fn kept(program: Typed) -> Result<Typed, FrontError>
 }
 
 /// Names and types, then the rules of usage, then the limit.
-fn settle(alloc: Global, tree: &Tree) -> Result<Typed, FrontError>
-    requires { HasShortLists tree.now }
-    ensures value { Gives result (settled tree.now) }
+fn settle(alloc: Global, tree: Tree) -> Result<Typed, FrontError>
+    requires { HasShortLists tree }
+    ensures value { Gives result (settled tree) }
     ensures checked { IfOk result IsChecked }
 {
     match check(alloc, tree) {
@@ -87,11 +87,7 @@ fn read_tokens(alloc: Global, tokens: Tokens) -> Result<Typed, FrontError>
         → Gives result r }
 {
     match parse_owned(alloc, tokens) {
-        Ok(tree) => {
-            let settled = settle(alloc, &tree);
-            drop(tree);
-            settled
-        }
+        Ok(tree) => settle(alloc, tree),
         Err(error) => Err(error),
     }
 }
@@ -147,6 +143,8 @@ fn code_of(alloc: Global, program: &Typed) -> Result<Code, NoMemory>
     let lowered = graph(alloc, program)?;
     let live = live(alloc, &lowered)?;
     let units = normalise(alloc, &lowered, &live)?;
+    drop(live);
+    drop(lowered);
     let code = fold(alloc, units)?;
     Ok(code)
 }

@@ -208,7 +208,7 @@ fn fold_exprs(
     ensures value { IfOk result
         (λ list. list ≡ folded_exprs structs.now (copy_at known.now) es.now) }
 {
-    let mut list = Vec::new(alloc);
+    let mut list = Vec::with_capacity(alloc, es.len())?;
     let mut rest = es;
     while let Some((e, more)) = rest.split_first() {
         let e = fold_expr(alloc, structs, known, e)?;

@@ -27,17 +27,31 @@ fn fold_unit(alloc: Global, structs: &[StructInfo], unit: &Unit) -> Result<Unit,
     Ok(Unit::new(unit.function, params, body))
 }
 
-#[tactic(auto, using(crate::proofs::UnitSteps::unit_steps))]
-fn fold_units(alloc: Global, structs: &[StructInfo], units: &[Unit]) -> Result<Vec<Unit>, NoMemory>
-    requires trees { are_trees units.now ≡ true }
-    ensures value { IfOk result (λ v. v.items ≡ folded_units structs.now units.now) }
+/// As `fold_unit`, of a unit that is not needed any more.
+fn refold_unit(alloc: Global, structs: &[StructInfo], unit: Unit) -> Result<Unit, NoMemory>
+    requires tree { is_tree unit.body ≡ true }
+    ensures value { IfOk result (λ u. u ≡ folded_unit structs.now unit) }
 {
-    let mut folded = Vec::new(alloc);
-    let mut rest = units;
-    while let Some((unit, more)) = rest.split_first() {
-        let after = fold_unit(alloc, structs, unit)?;
+    let folded = fold_unit(alloc, structs, &unit);
+    drop(unit);
+    folded
+}
+
+/// The units, each of which is free before the next is folded.
+#[tactic(auto, using(crate::proofs::UnitSteps::unit_steps))]
+fn fold_units(
+    alloc: Global,
+    structs: &[StructInfo],
+    units: &mut Vec<Unit>,
+) -> Result<Vec<Unit>, NoMemory>
+    requires trees { are_trees units.old.items ≡ true }
+    ensures value { IfOk result (λ v. v.items ≡ folded_units structs.now units.old.items) }
+{
+    let mut folded = Vec::with_capacity(alloc, units.len())?;
+    units.reverse();
+    while let Some(unit) = units.pop() {
+        let after = refold_unit(alloc, structs, unit)?;
         folded.push(after)?;
-        rest = more;
     }
     Ok(folded)
 }
@@ -46,9 +60,10 @@ fn fold_code(alloc: Global, code: Code) -> Result<Code, NoMemory>
     requires trees { are_trees code.units ≡ true }
     ensures exact { IfOk result (λ c. c ≡ folded code) }
 {
-    let (structs, functions, units, kinds) = code.into_parts();
-    let units = fold_units(alloc, structs.items(), units.as_slice())?;
-    Ok(Code::new(structs, functions, units, kinds))
+    let (structs, functions, mut units, kinds) = code.into_parts();
+    let folded = fold_units(alloc, structs.items(), &mut units)?;
+    drop(units);
+    Ok(Code::new(structs, functions, folded, kinds))
 }
 
 /// Replaces copies and operators on constants in each unit from the root down, and then makes each move that nothing

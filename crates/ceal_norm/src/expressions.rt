@@ -65,7 +65,7 @@ pub fn exprs_of(alloc: Global, es: &[TypedExpr]) -> Result<CodeExprs, NoMemory>
 pub fn own_args_of(alloc: Global, vs: &[u32]) -> Result<CodeExprs, NoMemory>
     ensures value { IfOk result (λ cs. cs ≡ own_args vs.now) }
 {
-    let mut out = Vec::new(alloc);
+    let mut out = Vec::with_capacity(alloc, vs.len())?;
     for v in vs {
         out.push(CodeExpr::Var(VarId(*v)))?;
     }
@@ -87,7 +87,7 @@ fn put_other(out: &mut Vec<CodeExpr>, but: u32, v: u32) -> Result<(), NoMemory>
 pub fn other_args_of(alloc: Global, but: u32, vs: &[u32]) -> Result<CodeExprs, NoMemory>
     ensures value { IfOk result (λ cs. cs ≡ own_args (without but vs.now)) }
 {
-    let mut out = Vec::new(alloc);
+    let mut out = Vec::with_capacity(alloc, vs.len())?;
     let mut vs = vs;
     while let Some((v, more)) = vs.split_first() {
         put_other(&mut out, but, *v)?;
@@ -109,7 +109,7 @@ fn arg_of(alloc: Global, es: &[TypedExpr], v: u32) -> Result<CodeExpr, NoMemory>
 pub fn call_args_of(alloc: Global, es: &[TypedExpr], vs: &[u32]) -> Result<CodeExprs, NoMemory>
     ensures value { IfOk result (λ cs. cs ≡ call_args es.now vs.now) }
 {
-    let mut out = Vec::new(alloc);
+    let mut out = Vec::with_capacity(alloc, vs.len())?;
     for v in vs {
         out.push(arg_of(alloc, es, *v)?)?;
     }

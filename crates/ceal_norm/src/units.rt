@@ -18,7 +18,7 @@ use std::alloc::Global;
 fn vars_of(alloc: Global, vs: &[u32]) -> Result<Vec<VarId>, NoMemory>
     ensures { IfOk result (λ ps. ps.items ≡ variables vs.now) }
 {
-    let mut out = Vec::new(alloc);
+    let mut out = Vec::with_capacity(alloc, vs.len())?;
     for v in vs {
         out.push(VarId(*v))?;
     }

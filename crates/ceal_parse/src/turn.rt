@@ -1,6 +1,6 @@
 // What the parser answers of a token, and how values change places.
 
-ghost use Rattle.std.specs.Prelude.{◌≡◌, IfOk, if◌then◌else◌};
+ghost use Rattle.std.specs.Prelude.{◌≡◌, [], IfOk, if◌then◌else◌};
 
 use ceal_base::boxed::Boxed;
 use ceal_base::fault::Span;
@@ -70,7 +70,9 @@ pub fn settle(mode: &mut Mode, next: Mode)
 }
 
 /// No name, which is left where one was taken away.
-pub fn no_name(alloc: Global, at: Span) -> Ident {
+pub fn no_name(alloc: Global, at: Span) -> Ident
+    ensures nothing { result ≡ record { text = []; span = at } }
+{
     Ident {
         text: Text::empty(alloc),
         span: at,

@@ -87,16 +87,32 @@ fn add_body(
     }
 }
 
+/// As `add_body`, of an entry that is not needed any more.
+fn take_body(
+    alloc: Global,
+    program: &Program,
+    functions: &mut Items<TypedFunction>,
+    entry: Entry,
+) -> Result<(), FrontError>
+    ensures { Leaves result functions.new (with_body program.now entry functions.old) }
+{
+    let added = add_body(alloc, program, functions, &entry);
+    drop(entry);
+    added
+}
+
+/// The bodies of all entries. Each entry is free before the next is typed, and none is left.
 fn type_bodies(
     alloc: Global,
     program: &Program,
-    entries: &[Entry],
+    entries: &mut Vec<Entry>,
 ) -> Result<Items<TypedFunction>, FrontError>
-    ensures { Gives result (in_turn (with_body program.now) entries.now []) }
+    ensures { Gives result (in_turn (with_body program.now) entries.old.items []) }
 {
     let mut functions = Items::empty(alloc);
-    for entry in entries {
-        add_body(alloc, program, &mut functions, entry)?;
+    entries.reverse();
+    while let Some(entry) = entries.pop() {
+        take_body(alloc, program, &mut functions, entry)?;
     }
     Ok(functions)
 }
@@ -134,16 +150,26 @@ fn struct_infos(
     Ok(Items::new(infos))
 }
 
-/// The program's tree with names resolved, or the first of the faults N1, N2 and T1 to T5 in the order of the walk: the
-/// heads of all entries, and then the bodies of the functions.
+/// The program of these entries, which it takes out as it types their bodies.
 #[tactic(auto, unfolding(crate::specs::Checked::checked))]
-pub fn check(alloc: Global, tree: &Tree) -> Result<Typed, FrontError>
-    ensures value { Gives result (checked tree.now) }
-    ensures well_typed { HasShortLists tree.now → IfOk result WellTyped }
+fn check_entries(alloc: Global, entries: &mut Vec<Entry>) -> Result<Typed, FrontError>
+    ensures value { Gives result (checked (record { entries = entries.old.items })) }
 {
-    let entries = tree.entries.items();
-    let program = heads(alloc, entries)?;
+    let program = heads(alloc, entries.as_slice())?;
     let functions = type_bodies(alloc, &program, entries)?;
     let structs = struct_infos(alloc, program.structs)?;
     Ok(Typed { structs, functions })
+}
+
+/// The program's tree with names resolved, or the first of the faults N1, N2 and T1 to T5 in the order of the walk: the
+/// heads of all entries, and then the bodies of the functions. The tree is not needed any more: each entry is free once
+/// its body is typed, so the program takes the tree's place in memory and does not come beside it.
+pub fn check(alloc: Global, tree: Tree) -> Result<Typed, FrontError>
+    ensures value { Gives result (checked tree) }
+    ensures well_typed { HasShortLists tree → IfOk result WellTyped }
+{
+    let mut entries = tree.entries.into_vec();
+    let checked = check_entries(alloc, &mut entries);
+    drop(entries);
+    checked
 }

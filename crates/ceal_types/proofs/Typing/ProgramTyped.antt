@@ -1,5 +1,5 @@
 -- A program that the walk gives is well typed.
-use Rattle.std.proofs.Common.{◌≡◌, ℕ, ◌≤◌, arith, Option, Some, None, Result, Ok, List, [], ◌∷◌, ◌++◌, All, map, slice_get, length, refl, sym, subst, ap, ◌∙◌}
+use Rattle.std.proofs.Common.{◌≡◌, ℕ, ◌≤◌, arith, Option, Some, None, Result, Ok, Err, List, [], ◌∷◌, ◌++◌, All, map, slice_get, length, refl, sym, subst, ap, ◌∙◌}
 use Rattle.std.specs.Prelude.{IfOk}
 use Rattle.std.specs.List.{IsDistinct}
 use Rattle.std.specs.Map.{keys_of}
@@ -7,9 +7,11 @@ use Rattle.std.specs.Option.{option_map}
 use Rattle.std.proofs.lemmas.List.{map-append}
 use Rattle.std.proofs.lemmas.List.Elements.{All-push, All-map}
 use Rattle.std.proofs.lemmas.Option.{slice_get-map}
+use Rattle.ceal_base.specs.Answers.{Gives}
 use Rattle.ceal_base.specs.WellTyped.{FunctionTyped, StructTyped, WellTyped, param_kinds, numbers_below, struct_name, function_name}
 use Rattle.ceal_base.specs.declared.fault.Fault.{Fault}
 use Rattle.ceal_base.specs.declared.fault.FaultCode.TheVariants.{N2}
+use Rattle.ceal_base.specs.declared.fault.FrontError.{FrontError}
 use Rattle.ceal_base.specs.declared.kind.Kind.{Kind}
 use Rattle.ceal_base.specs.declared.syntax.Entry.{Entry}
 use Rattle.ceal_base.specs.declared.syntax.Entry.TheVariants.{Struct, Function}
@@ -255,3 +257,8 @@ checked-typed tree short =
 -- and so is what was answered
 pub answered-typed : (tree : Tree) (program : Typed) → HasShortLists tree → checked tree ≡ Ok program → WellTyped program
 answered-typed tree program short is = ok-at WellTyped (checked tree) program is (checked-typed tree short)
+
+-- where a program was answered, it is well typed
+pub given-typed : (tree : Tree) (r : Result Typed FrontError) → Gives r (checked tree) → HasShortLists tree → IfOk r WellTyped
+given-typed tree (Ok program) given short = answered-typed tree program short given
+given-typed tree (Err e) given short = tt

@@ -1,5 +1,6 @@
 -- A walk from one item on.
-use Rattle.std.proofs.Common.{◌≡◌, ℕ, suc, ◌+◌, ◌<◌, ◌≤◌, Result, Ok, List, [], ◌∷◌, length, drop, drop-cons, drop_of_length-le, get_or, refl, sym, ◌∙◌, add-one}
+use Rattle.std.proofs.Common.{◌≡◌, ℕ, suc, ◌+◌, ◌<◌, ◌≤◌, Result, Ok, List, [], ◌∷◌, ◌++◌, length, drop, drop-cons, drop_of_length-le, get_or, refl, reverse, sym, ◌∙◌, add-one}
+use Rattle.std.proofs.lemmas.List.{reverse-append}
 use Rattle.ceal_base.specs.Answers.{Fails}
 use Rattle.ceal_base.specs.declared.fault.Fault.{Fault}
 use Rattle.ceal_base.specs.declared.fault.FrontError.{FrontError}
@@ -46,3 +47,20 @@ module _ {A S : Type 0} (step : A → S → Result S Fault) where
   -- none is left
   pub turn-over : (xs : List A) (i : ℕ) (s : S) (w : Result S Fault) → length xs ≤ i → in_turn step (drop i xs) s ≡ w → w ≡ Ok s
   turn-over xs i s w h all = sym (rw (drop_of_length-le xs h) at all) ∙ turn-none s
+
+  -- the first item is the last of the list that is the other way round
+  taken : (all rest : List A) (x : A) (s : S) → all ≡ rest ++ x ∷ []
+      → in_turn step (reverse all) s ≡ after (in_turn step (reverse rest)) (step x s)
+  taken all rest x s h = rw (h, reverse-append rest (x ∷ [])) (turn-first x (reverse rest) s)
+
+  pub taken-passed : (all rest : List A) (x : A) (s t : S) (w : Result S Fault) → all ≡ rest ++ x ∷ []
+      → in_turn step (reverse all) s ≡ w → step x s ≡ Ok t → in_turn step (reverse rest) t ≡ w
+  taken-passed all rest x s t w h whole ok = sym (rw ok at (taken all rest x s h)) ∙ whole
+
+  pub taken-failed : (all rest : List A) (x : A) (s : S) (w : Result S Fault) (e : FrontError) → all ≡ rest ++ x ∷ []
+      → in_turn step (reverse all) s ≡ w → Fails e (step x s) → Fails e w
+  taken-failed all rest x s w e h whole failed =
+      fails-same _ w e (sym (taken all rest x s h) ∙ whole) (fails-after (in_turn step (reverse rest)) (step x s) e failed)
+
+  pub taken-over : (all : List A) (s : S) (w : Result S Fault) → all ≡ [] → in_turn step (reverse all) s ≡ w → w ≡ Ok s
+  taken-over all s w h whole = sym (rw h at whole) ∙ turn-none s
