@@ -35,7 +35,7 @@ fn looked<R: Abort>(rt: &R, engine: &Engine) -> u64 {
     engine.mods().looked()
 }
 
-/// A finished engine has this work, and has looked at that many contents since it had looked at `before`.
+/// A finished engine has this work, and has looked at `looks` contents since it had looked at `before`.
 fn has<R: Abort>(rt: &R, engine: &Engine, work: u32, before: u64, looks: u64) {
     holds(rt, engine.phase() == Phase::Finished);
     equal(rt, engine.work(), work);

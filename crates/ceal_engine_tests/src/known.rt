@@ -58,7 +58,8 @@ fn knows<R: Abort>(rt: &R, alloc: Global, repair: &Repair) -> Result<(), Fail> {
 fn a_repair_that_goes_on_knows_revoked_and_new_blocks(rt: HostRuntime) -> Result<(), Fail> {
     let alloc = rt.alloc();
     let mut inputs = two_lists(alloc)?;
-    // The first list becomes the last cell of the second one, whose image is new; the read of the second list is stale still.
+    // The first list becomes the last cell of the second one, whose image is new; the read of the second list is stale
+    // still.
     let step = Step {
         edits: &[(0, 0, input(8)), (5, 0, input(8))],
         reads: 1,

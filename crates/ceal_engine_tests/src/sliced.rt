@@ -306,7 +306,7 @@ pub fn side_by_side(
     told
 }
 
-/// What is left of the repair of a call's first trace after a step, where it goes on.
+/// What is left of the repair of a call's first trace after a step, where it continues.
 fn left_after(call: Call<'_>, inputs: &mut Inputs, step: Step<'_>) -> Result<Option<Repair>, Fail>
     requires { valid call.code.now ≡ true }
 {

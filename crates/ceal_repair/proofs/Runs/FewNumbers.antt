@@ -23,7 +23,7 @@ use Rattle.ceal_repair.specs.declared.running.Running.{Running}
 use Rattle.ceal_theory.proofs.Work.ItemCounts.{count-law}
 use Rattle.ceal_theory.specs.KnownContent.{allocs}
 
--- ---- how blocks stand tells how many numbers were given out
+-- ---- the state of blocks tells how many numbers were given out
 
 pub unused-past : (heap : Contents) (n : ℕ) → next heap ≤ n → standing heap (Core n) ≡ Unused
 unused-past heap n l = ap (number_standing heap.region) (slice_get_past heap.numbers n l)
