@@ -1,0 +1,94 @@
+-- What is said for a source part.
+use Rattle.std.proofs.Common.{◌≡◌, inl, inr, ℕ, ◌<◌, ◌≤◌, ◌^◌, Bool, true, false, Option, Some, None, Result, Ok, Err, List, [], ◌∷◌, ◌++◌, length, take, drop, refl, sym, ap, ◌∙◌, subst, append-nil, take-append-drop}
+use Rattle.ceal_compile.specs.Compiled.{IsCompiled}
+use Rattle.ceal_compile.specs.Source.{IsProgram}
+use Rattle.ceal_compile.specs.declared.program.Program.{Program}
+use Rattle.ceal_session.specs.Following.{opened}
+use Rattle.ceal_session.specs.Laws.{BegunLaw}
+use Rattle.ceal_session.specs.Replies.{Leads, opening}
+use Rattle.ceal_session.specs.State.{Situation}
+use Rattle.ceal_cli.specs.Lines.{script_lines}
+use Rattle.ceal_cli.specs.Output.{IsPrefix, Programmed, first_state}
+use Rattle.ceal_serve.specs.Exchange.{Exchange, saying}
+use Rattle.ceal_serve.specs.Listening.{IsFaultLineOf, IsHeardSource, IsMarkedSource, IsOpenSource, SourceIs}
+use Rattle.ceal_serve.specs.Replying.{Follows, IsAt}
+use Rattle.ceal_serve.specs.Turns.{Headed, IsHead, IsServed, IsTurnedAway, IsBeginning, IsDone, IsRefused}
+use Rattle.ceal_serve.proofs.Following.{begins-there, nothing-served}
+use Rattle.ceal_serve.proofs.Heads.{complete-source, marked-head, open-head}
+
+true-is-not : false ≡ true → ⊥
+true-is-not e = absurd (cc e)
+
+-- the line of the first fault was said
+module _ (fuel : ℕ) (text rest line : List ℕ) (small : length text < 2 ^ 32) (fault : IsFaultLineOf text line) (e : Exchange) where
+  away : (ended : Bool) → IsHead ended text rest → e.heard ≡ text ++ rest → IsTurnedAway ended e.heard line
+  away ended head heard = record {
+    parts = record { head = text; script = rest; is_head = head; whole = heard };
+    fault = fault.0;
+    first = fault.1;
+    line = fault.2;
+  }
+
+  away-whole : (ended : Bool) → IsHead ended text [] → e.heard ≡ text → IsTurnedAway ended e.heard line
+  away-whole ended head heard = record {
+    parts = record { head = text; script = []; is_head = head; whole = heard ∙ sym (append-nil text) };
+    fault = fault.0;
+    first = fault.1;
+    line = fault.2;
+  }
+
+  -- by what was heard
+  away-at : (marked : Bool) → SourceIs marked text → IsHeardSource fuel marked text rest e → IsTurnedAway e.ended e.heard line × IsTurnedAway true e.heard line
+  away-at true is h = elim h.heard [
+    | inl k ↦ (away e.ended (marked-head text small is e.ended rest) k.2, away true (marked-head text small is true rest) k.2)
+    | inr k ↦ absurd (true-is-not (sym k.0))
+  ]
+  away-at false is h = elim h.heard [
+    | inl k ↦ absurd (true-is-not k.0)
+    | inr k ↦ (let head : IsHead true text [] = open-head text is (Err fault.0) fault.1 in (
+      away-whole e.ended (subst (λ b. IsHead b text []) (sym k.1) head) k.2,
+      away-whole true head k.2,
+    ))
+  ]
+
+  pub refused-at : (marked : Bool) → SourceIs marked text → IsHeardSource fuel marked text rest e → IsRefused (saying line e)
+  unfolding away-at
+  refused-at marked is h =
+      subst (λ (l : List ℕ). IsTurnedAway e.ended e.heard l) (sym (ap (λ (l : List ℕ). l ++ line) h.unsaid)) (away-at marked is h).0
+
+  pub fault-begins : (marked : Bool) → SourceIs marked text → IsHeardSource fuel marked text rest e → (out : List ℕ) → IsPrefix out line → IsBeginning (saying out e)
+  unfolding away-at
+  fault-begins marked is h out p =
+      inr (line, inr (away-at marked is h).1, record { rest = p.rest; same = ap (λ (l : List ℕ). (l ++ out) ++ p.rest) h.unsaid ∙ p.same })
+
+pub source-begins : (fuel : ℕ) (marked : Bool) (text rest : List ℕ) (e : Exchange) → IsHeardSource fuel marked text rest e → IsBeginning e
+source-begins fuel marked text rest e h = inl h.unsaid
+
+-- an accepted source part without more is served
+module _ (fuel : ℕ) (text rest : List ℕ) (e : Exchange) (p : Program) (reads : IsProgram text p.typed) (compiled : IsCompiled p) where
+  program-at : (ended : Bool) (script : List ℕ) → IsHead ended text script → Programmed text
+  program-at ended script head = record { part = head.part; split = head.split; program = p.typed; reads = reads; code = p.code; is_code = compiled.code }
+
+  pub done-open : IsOpenSource text → IsHeardSource fuel false text rest e → IsDone e
+  done-open is h = elim h.heard [
+    | inl k ↦ absurd (true-is-not k.0)
+    | inr k ↦ (let head : IsHead true text [] = open-head text is (Ok p.typed) reads in
+        let none = nothing-served (opening p.code (first_state (program-at true [] head) e.fuel)) in (
+          k.1,
+          record {
+            parts = record { head = text; script = []; is_head = head; whole = k.2 ∙ sym (append-nil text) };
+            program = program-at true [] head;
+            replies = record { end = none.0; leads = subst (λ (l : List ℕ). Leads (opening p.code (first_state (program-at true [] head) e.fuel)) (script_lines []) l none.0) (sym h.unsaid) none.1 };
+          },
+        ))
+  ]
+
+  -- after the mark the session begins
+  pub at-opening : BegunLaw → length text < 2 ^ 32 → IsMarkedSource text → IsHeardSource fuel true text rest e → (session : Situation) → session ≡ opened p fuel → IsAt rest session e
+  at-opening begins small is h session same = elim h.heard [
+    | inr k ↦ absurd (true-is-not (sym k.0))
+    | inl k ↦ (let f : Follows fuel text [] (opened p fuel) = begins-there begins p fuel text (marked-head text small is false []) (complete-source text small is) reads compiled in
+        let g : Follows e.fuel text [] (opened p fuel) = subst (λ n. Follows n text [] (opened p fuel)) (sym h.fuel_is) f in
+        let i : Follows e.fuel text e.said (opened p fuel) = subst (λ (l : List ℕ). Follows e.fuel text l (opened p fuel)) (sym h.unsaid) g in
+        record { text = text; heard = k.2; follows = subst (λ s. Follows e.fuel text e.said s) (sym same) i })
+  ]
