@@ -1,5 +1,6 @@
 -- Replies to lines, one after another, and what is said for a text.
-use Rattle.std.proofs.Common.{◌≡◌, ◌⊎◌, inl, inr, suc, ◌+◌, ℕ, Bool, true, false, Option, Some, None, List, [], ◌∷◌, ◌++◌, length, take, drop, refl, sym, ap, ◌∙◌, subst, append_assoc, append-nil, arith}
+use Rattle.std.proofs.Common.{◌≡◌, ◌⊎◌, inl, inr, suc, ◌+◌, ℕ, Bool, true, false, Option, Some, None, Result, List, [], ◌∷◌, ◌++◌, length, take, drop, refl, sym, ap, ◌∙◌, subst, append_assoc, append-nil, arith, option_map}
+use Rattle.std.specs.Prelude.{IfSome, OnErr}
 use Rattle.ceal_compile.specs.Compiled.{IsCompiled}
 use Rattle.ceal_compile.specs.Source.{IsProgram}
 use Rattle.ceal_compile.specs.declared.program.Program.{Program}
@@ -13,12 +14,13 @@ use Rattle.ceal_session.specs.Replies.{opening, Replies, Leads, behind}
 use Rattle.ceal_session.specs.State.{Situation}
 use Rattle.ceal_cli.specs.Lines.{lines_of, script_lines, without_return}
 use Rattle.ceal_cli.specs.Output.{Begins, IsPrefix, first_state}
-use Rattle.ceal_cli.specs.Serving.{BeginsReply, Serves}
-use Rattle.ceal_serve.specs.Exchange.{Exchange, saying}
-use Rattle.ceal_serve.specs.Listening.{HasLine, IsCaughtUp, heard_more, heard_end}
+use Rattle.ceal_cli.specs.Serving.{BeginsReply, IsReply, Serves}
+use Rattle.ceal_serve.specs.Exchange.{Exchange, Says, saying}
+use Rattle.ceal_serve.specs.Listening.{HasLine, Hears, HearsEnd, HearsSome, IsCaughtUp, heard_more, heard_end}
 use Rattle.ceal_serve.specs.Replying.{Follows, IsAt, IsLast}
-use Rattle.ceal_serve.specs.Turns.{IsHead, IsServed, IsAnswered, IsOneLine, IsSaidFor, IsBeginning, IsDone}
+use Rattle.ceal_serve.specs.Turns.{IsHead, IsServed, IsAnswered, IsOneLine, IsSaidFor, IsBeginning, IsDone, IsLong, IsTooLong, LIMIT}
 use Rattle.ceal_serve.proofs.FirstLine.{line-first, one-line-last}
+use Rattle.ceal_serve.proofs.Hearing.{known-after, known-said, known-same, on-err}
 
 -- one line more, and many
 leads-more : (front : List (List ℕ)) (line : List ℕ) (m mid n : Situation) (out text : List ℕ) → Leads m front out mid → Replies mid line text n
@@ -236,3 +238,51 @@ module _ (kept : KeptLaw) (rest : List ℕ) (session : Situation) (e : Exchange)
         inl (subst (λ (t : List ℕ). IsServed e.fuel true t (e.said ++ text)) (sym h.at.heard) w),
         record { rest = prefix.rest; same = append_assoc e.said out prefix.rest ∙ ap (λ (t : List ℕ). e.said ++ t) prefix.same },
       )
+
+-- The same of what is known of a conversation.
+module _ {A E : Type 0} (r : Result A E) (script : SomeScriptLaw) (kept : KeptLaw) (o n : Option Exchange) where
+  pub first-begins : (lines line : List ℕ) (at : ℕ) (session : Situation) → HasLine lines at → IfSome o (IsAt lines session) → line ≡ without_return (take at lines)
+      → Says o n (BeginsReply session line) → OnErr r (IfSome n IsBeginning)
+  first-begins lines line at session has h is said =
+      on-err r (IfSome n IsBeginning) (known-said o n (BeginsReply session line) (IsAt lines session) IsBeginning said
+      (λ out e p k. beginning-part script lines session e k kept at out has (subst (λ (l : List ℕ). BeginsReply session l out) is p)) h)
+
+pub first-next : KeptLaw → (o n : Option Exchange) (lines rest line : List ℕ) (at : ℕ) (session next : Situation) → HasLine lines at → IfSome o (IsAt lines session)
+    → line ≡ without_return (take at lines) → rest ≡ drop (at + 1) lines → Says o n (IsReply session line next) → IfSome n (IsAt rest next)
+first-next kept o n lines rest line at session next has h is left said =
+    known-said o n (IsReply session line next) (IsAt lines session) (IsAt rest next) said
+    (λ text e p k. subst (λ (l : List ℕ). IsAt l next (saying text e)) (sym left) (at-next kept lines session next e at text k has (subst (λ (l : List ℕ). Serves session l text next) is p))) h
+
+module _ (kept : KeptLaw) (o n : Option Exchange) (line : List ℕ) (session : Situation) (one : IsOneLine line) (h : IfSome o (IsLast line session)) where
+  pub last-done : (next : Situation) → Says o n (IsReply session line next) → IfSome n IsDone
+  last-done next said = known-said o n (IsReply session line next) (IsLast line session) IsDone said (λ text e p k. done-at kept line session e one k next text p) h
+
+  pub last-begins : SomeScriptLaw → Says o n (BeginsReply session line) → IfSome n IsBeginning
+  last-begins script said = known-said o n (BeginsReply session line) (IsLast line session) IsBeginning said (λ out e p k. beginning-last kept line session e one k script out p) h
+
+pub caught-up-known : (o : Option Exchange) (rest : List ℕ) (session : Situation) → IfSome o (IsAt rest session) → IfSome o (IsCaughtUp rest)
+caught-up-known o rest session h = known-same o o (IsAt rest session) (IsCaughtUp rest) refl (λ e k. caught-up-at rest session e k) h
+
+-- more was heard, and the end
+pub at-heard : (o n : Option Exchange) (before after : List ℕ) (session : Situation) → Hears o n before after → IfSome o (IsAt before session) → IfSome n (IsAt after session)
+at-heard o n before after session h k =
+    known-after o n (heard_more h.more) (IsAt before session) (IsAt after session) h.exchange
+    (λ e a. subst (λ (l : List ℕ). IsAt l session (heard_more h.more e)) (sym h.there) (at-more before h.more session e a)) k
+
+pub last-heard : (o n : Option Exchange) (before after : List ℕ) (session : Situation) → HearsEnd o n before after → IfSome o (IsAt before session) → IfSome n (IsLast after session)
+last-heard o n before after session h k =
+    known-after (option_map (heard_more h.more) o) n heard_end (IsAt after session) (IsLast after session) h.exchange (λ e a. at-end after session e a)
+    (at-heard o (option_map (heard_more h.more) o) before after session (record { more = h.more; exchange = refl; there = h.there }) k)
+
+-- more was heard, and is lost or too much
+pub lost-heard : SomeScriptLaw → (o n : Option Exchange) (before : List ℕ) (session : Situation) → HearsSome o n → IfSome o (IsAt before session) → IfSome n IsBeginning
+lost-heard script o n before session (more, h) k =
+    known-after o n (heard_more more) (IsAt before session) IsBeginning h (λ e a. beginning-at script (before ++ more) session (heard_more more e) (at-more before more session e a)) k
+
+pub begins-known : SomeScriptLaw → (o : Option Exchange) (rest : List ℕ) (session : Situation) → IfSome o (IsAt rest session) → IfSome o IsBeginning
+begins-known script o rest session h = known-same o o (IsAt rest session) IsBeginning refl (λ e k. beginning-at script rest session e k) h
+
+pub line-too-long : (o n : Option Exchange) (before after : List ℕ) (session : Situation) → Hears o n before after → IsLong LIMIT after → IfSome o (IsAt before session) → IfSome n IsTooLong
+line-too-long o n before after session h long k =
+    known-same n n (IsAt after session) IsTooLong refl
+    (λ e a. record { lines = a.text; part = after; heard = a.heard; complete = a.follows.complete; long = inl long }) (at-heard o n before after session h k)

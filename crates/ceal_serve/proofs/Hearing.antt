@@ -111,3 +111,14 @@ hears-to-end o m n a b c h k = record {
 
 pub hears-lost : (o m n : Option Exchange) (a b : List ℕ) → Hears o m a b → HearsSome m n → HearsSome o n
 hears-lost o m n a b h (more, e) = (h.more ++ more, e ∙ (ap (option_map (heard_more more)) h.exchange ∙ more-twice o h.more more))
+
+pub said-more : (o m n : Option Exchange) (a b : List ℕ) → m ≡ option_map (saying a) o → n ≡ option_map (saying b) m → n ≡ option_map (saying (a ++ b)) o
+said-more o m n a b h k = k ∙ (ap (option_map (saying b)) h ∙ said-twice o a b)
+
+-- what was read was lost
+pub piece-lost : {A E : Type 0} (r : Result A E) (o n : Option Exchange) (count : ℕ) (piece : List ℕ) → (count ≡ 0 → ⊥) → count ≤ length piece
+    → n ≡ option_map (hearing (take count piece)) o → OnErr r (HearsSome o n)
+piece-lost r o n count piece some within h = on-err r (HearsSome o n) (take count piece, some-read o n count piece some within h)
+
+pub lost-after : {A E : Type 0} (r : Result A E) (o m n : Option Exchange) (a b : List ℕ) → Hears o m a b → HearsSome m n → OnErr r (HearsSome o n)
+lost-after r o m n a b h k = on-err r (HearsSome o n) (hears-lost o m n a b h k)

@@ -4,9 +4,11 @@ mod FirstLine
 mod Heads
 -- conversations
 mod Hearing
-mod Lines
+mod HeardLines
 mod Sources
 mod Following
 mod Opening
+-- words
+mod Asked
 -- and `ceal run`
 mod AsRun

@@ -1,7 +1,10 @@
 -- What is said for a source part.
-use Rattle.std.proofs.Common.{◌≡◌, inl, inr, ℕ, ◌<◌, ◌≤◌, ◌^◌, Bool, true, false, Option, Some, None, Result, Ok, Err, List, [], ◌∷◌, ◌++◌, length, take, drop, refl, sym, ap, ◌∙◌, subst, append-nil, take-append-drop}
+use Rattle.std.proofs.Common.{◌≡◌, inl, inr, ℕ, ◌<◌, ◌≤◌, ◌^◌, Bool, true, false, Option, Some, None, Result, Ok, Err, List, [], ◌∷◌, ◌++◌, length, refl, sym, ap, ◌∙◌, subst, append-nil, arith}
+use Rattle.std.specs.Prelude.{OnErr}
+use Rattle.ceal_base.specs.declared.fault.Fault.{Fault}
 use Rattle.ceal_compile.specs.Compiled.{IsCompiled}
-use Rattle.ceal_compile.specs.Source.{IsProgram}
+use Rattle.ceal_compile.specs.FaultLine.{fault_line}
+use Rattle.ceal_compile.specs.Source.{IsFirstFault, IsProgram}
 use Rattle.ceal_compile.specs.declared.program.Program.{Program}
 use Rattle.ceal_session.specs.Following.{opened}
 use Rattle.ceal_session.specs.Laws.{BegunLaw}
@@ -9,11 +12,12 @@ use Rattle.ceal_session.specs.Replies.{Leads, opening}
 use Rattle.ceal_session.specs.State.{Situation}
 use Rattle.ceal_cli.specs.Lines.{script_lines}
 use Rattle.ceal_cli.specs.Output.{IsPrefix, Programmed, first_state}
-use Rattle.ceal_serve.specs.Exchange.{Exchange, saying}
+use Rattle.ceal_serve.specs.Exchange.{Exchange, SaysPrefix, saying}
 use Rattle.ceal_serve.specs.Listening.{IsFaultLineOf, IsHeardSource, IsMarkedSource, IsOpenSource, SourceIs}
 use Rattle.ceal_serve.specs.Replying.{Follows, IsAt}
 use Rattle.ceal_serve.specs.Turns.{Headed, IsHead, IsServed, IsTurnedAway, IsBeginning, IsDone, IsRefused}
 use Rattle.ceal_serve.proofs.Following.{begins-there, nothing-served}
+use Rattle.ceal_serve.proofs.Hearing.{on-err, said-none}
 use Rattle.ceal_serve.proofs.Heads.{complete-source, marked-head, open-head}
 
 true-is-not : false ≡ true → ⊥
@@ -92,3 +96,8 @@ module _ (fuel : ℕ) (text rest : List ℕ) (e : Exchange) (p : Program) (reads
         let i : Follows e.fuel text e.said (opened p fuel) = subst (λ (l : List ℕ). Follows e.fuel text l (opened p fuel)) (sym h.unsaid) g in
         record { text = text; heard = k.2; follows = subst (λ s. Follows e.fuel text e.said s) (sym same) i })
   ]
+
+-- nothing of the line was said
+pub none-of-it : {A E : Type 0} (r : Result A E) (o : Option Exchange) (source : List ℕ) (fault : Fault) → IsFirstFault source fault
+    → OnErr r ((line : List ℕ) × IsFaultLineOf source line × SaysPrefix o o line)
+none-of-it r o source fault first = on-err r ((line : List ℕ) × IsFaultLineOf source line × SaysPrefix o o line) (fault_line source fault, (fault, first, refl), (0, omega arith, sym (said-none o)))

@@ -1,10 +1,11 @@
 -- The source part, line after line.
-use Rattle.std.proofs.Common.{◌≡◌, ◌⊎◌, inl, inr, ℕ, ◌+◌, ◌-◌, ◌<◌, ◌≤◌, Bool, true, false, IsTrue, Option, Some, None, List, [], ◌∷◌, ◌++◌, length, option_map, refl, sym, ap, ◌∙◌, subst, append_assoc, append-nil, arith}
+use Rattle.std.proofs.Common.{◌≡◌, ◌⊎◌, inl, inr, ℕ, ◌+◌, ◌-◌, ◌<◌, ◌≤◌, Bool, true, false, IsTrue, ◌↔◌, take, drop, Option, Some, None, List, [], ◌∷◌, ◌++◌, length, option_map, refl, sym, ap, ◌∙◌, subst, append_assoc, append-nil, arith}
 use Rattle.std.specs.Prelude.{IfSome}
 use Rattle.ceal_lex.specs.Parts.{IsBeforeLine, IsMark}
 use Rattle.ceal_serve.specs.Exchange.{Exchange, IsBegun}
-use Rattle.ceal_serve.specs.Listening.{IsCaughtUp, IsListening, IsHeardSource, IsMarkedSource, IsOpenSource, Hears, HearsEnd, HearsSome, TakesLine, heard_end, heard_more}
+use Rattle.ceal_serve.specs.Listening.{IsCaughtUp, IsListening, IsHeardSource, IsMarkedSource, IsOpenSource, Hears, HearsEnd, HearsSome, HasLine, TakesLine, heard_end, heard_more}
 use Rattle.ceal_serve.specs.Turns.{HasNoMark, IsBeginning, IsLong, IsOneLine, IsTooLong, LIMIT}
+use Rattle.ceal_serve.proofs.Following.{take-line, drop-line}
 use Rattle.ceal_serve.proofs.Hearing.{known-after, known-same}
 use Rattle.ceal_serve.proofs.Marks.{no-mark-more}
 
@@ -75,3 +76,15 @@ source-too-long fuel text before after limit o n is none complete h long k =
     known-same n n (IsListening fuel text after) IsTooLong refl
     (λ e b. record { lines = text; part = after; heard = b.heard; complete = complete; long = inr (none, subst (λ m. IsLong m after) is long) })
     (listening-more fuel text before after o n h k)
+
+pub takes-line : (old new lines rest first : List ℕ) (end : ℕ) (marked : Bool) → HasLine lines end → first ≡ take end lines → (IsTrue marked ↔ IsMark first)
+    → new ≡ (old ++ first) ++ 10 ∷ [] → rest ≡ drop (end + 1) lines → TakesLine old new lines rest marked
+takes-line old new lines rest first end marked h is mark text left =
+    let line : first ≡ h.line = is ∙ take-line lines end h in
+    record {
+      line = h.line;
+      lines_are = h.whole ∙ ap (λ (l : List ℕ). h.line ++ 10 ∷ l) (sym (left ∙ drop-line lines end h));
+      one = h.one;
+      text = text ∙ (ap (λ (l : List ℕ). (old ++ l) ++ 10 ∷ []) line ∙ append_assoc old h.line (10 ∷ []));
+      is_mark = subst (λ (l : List ℕ). IsTrue marked ↔ IsMark l) line mark;
+    }

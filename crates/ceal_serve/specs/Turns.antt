@@ -69,6 +69,11 @@ IsDone e = (e.ended ≡ true) × IsServed e.fuel true e.heard e.said
 abbrev pub IsRefused : Exchange → Type 0
 IsRefused e = IsTurnedAway e.ended e.heard e.said
 
+-- whether it was accepted or refused
+abbrev pub IsOver : Bool → Exchange → Type 0
+IsOver true e = IsDone e
+IsOver false e = IsRefused e
+
 -- what is said for a text that has ended
 abbrev pub IsSaidFor : ℕ → List ℕ → List ℕ → Type 0
 IsSaidFor fuel text said = IsServed fuel true text said ⊎ IsTurnedAway true text said

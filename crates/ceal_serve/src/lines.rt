@@ -113,7 +113,8 @@ impl Lines {
         requires turn { IfSome (C.exchange talk.old) IsTurn }
         requires room { length self.old ≤ LIMIT }
         ensures heard { IfOk result (λ found. MatchOption found
-            (HearsEnd (C.exchange talk.old) (C.exchange talk.new) self.old self.new)
+            (HearsEnd (C.exchange talk.old) (C.exchange talk.new) self.old self.new
+            × (self.new ≡ self.old))
             (λ before. HearsMore (C.exchange talk.old) (C.exchange talk.new) self.old self.new
             × (before ≡ length self.old))) }
         ensures lost { OnErr result (HearsSome (C.exchange talk.old) (C.exchange talk.new)) }

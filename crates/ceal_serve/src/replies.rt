@@ -29,7 +29,7 @@ fn without_return(piece: &[u8]) -> &[u8]
 // Replies to a line.
 fn reply<C: Conversation>(session: &mut Session, line: &[u8], talk: &mut C) -> Result<(), Trouble>
     ensures all { OnOk result (Says (C.exchange talk.old) (C.exchange talk.new)
-        (λ text. IsReply (situation session.old) line.now text (situation session.new))) }
+        (IsReply (situation session.old) line.now (situation session.new))) }
     ensures part { Says (C.exchange talk.old) (C.exchange talk.new)
         (BeginsReply (situation session.old) line.now) }
     ensures short { ¬ IsErrOf result Trouble.TooLong }

@@ -1,25 +1,49 @@
 // A conversation from its beginning to its end.
 
-ghost use Rattle.std.specs.Prelude.{◌≡◌, ◌≢◌, ◌≤◌, [], IfSome, IfOk, IsErrOf, vec_len, if◌then◌else◌};
+ghost use Rattle.std.specs.Prelude.{◌≡◌, ◌≢◌, ◌≤◌, [], IfSome, IfOk, OnOk, IsErrOf, vec_len};
 ghost use Rattle.ceal_cli.specs.declared.top.Status.TheVariants.{Done, Refused, Usage, TooLong, ReadFault, WriteFault};
 ghost use Rattle.ceal_io.specs.Streams.{Rose};
 ghost use Rattle.ceal_session.specs.Following.{IsAllowed};
+ghost use Rattle.ceal_session.specs.Keeping.{situation};
 ghost use Rattle.ceal_serve.specs.Exchange.{IsBegun};
 ghost use Rattle.ceal_serve.specs.Listening.{IsHeardSource, SourceIs};
+ghost use Rattle.ceal_serve.specs.Replying.{IsAt};
 ghost use Rattle.ceal_serve.specs.Troubles.{IsCounted};
-ghost use Rattle.ceal_serve.specs.Turns.{IsBeginning, IsDone, IsRefused, IsTooLong};
+ghost use Rattle.ceal_serve.specs.Turns.{IsBeginning, IsDone, IsOver, IsRefused, IsTooLong};
 
 use crate::conversation::Conversation;
 use crate::lines::{LIMIT, Lines};
 use crate::replies::reply_all;
-use crate::source::{Source, accepted, hear_source};
+use crate::source::{Source, hear_source, refuse};
 use crate::trouble::Trouble;
+use ceal_base::fault::FrontError;
 use ceal_cli::Status;
+use ceal_compile::compile::compile;
 use ceal_session::laws::some_reply;
 use ceal_session::session::Session;
 use ceal_types::seed::Seed;
 use std::alloc::Global;
 use std::mem::forget;
+
+// Replies to the lines of the script in a session that begins.
+fn serve_script<C: Conversation>(
+    session: Session,
+    lines: &mut Lines,
+    talk: &mut C,
+) -> Result<(), Trouble>
+    requires at { IfSome (C.exchange talk.old) (IsAt lines.old (situation session)) }
+    ensures done { OnOk result (IfSome (C.exchange talk.new) IsDone) }
+    ensures beginning { IfSome (C.exchange talk.new) IsBeginning }
+    ensures long { IsErrOf result Trouble.TooLong → IfSome (C.exchange talk.new) IsTooLong }
+    ensures counted { IsCounted result (C.read_faults talk.old) (C.read_faults talk.new)
+        (C.write_faults talk.old) (C.write_faults talk.new) }
+{
+    let mut session = session;
+    let told = reply_all(&mut session, lines, talk);
+    // The program ends after this: its memory goes back with the process, and not piece by piece.
+    forget(session);
+    told
+}
 
 // Serves after the source part was heard, and says whether it is accepted.
 fn serve_source<C: Conversation>(
@@ -34,8 +58,8 @@ fn serve_source<C: Conversation>(
     requires small { vec_len source.now.text ≤ LIMIT }
     requires heard { IfSome (C.exchange talk.old)
         (IsHeardSource fuel source.now.marked source.now.text.items lines.old) }
-    ensures served { IfOk result (λ accepted.
-        IfSome (C.exchange talk.new) (if accepted then IsDone else IsRefused)) }
+    ensures over { IfOk result
+        (λ accepted. IfSome (C.exchange talk.new) (IsOver accepted)) }
     ensures beginning { IfSome (C.exchange talk.new) IsBeginning }
     ensures long { IsErrOf result Trouble.TooLong → IfSome (C.exchange talk.new) IsTooLong }
     ensures counted { IsCounted result (C.read_faults talk.old) (C.read_faults talk.new)
@@ -43,19 +67,23 @@ fn serve_source<C: Conversation>(
 {
     // for the proof: a session that begins is in the situation in which nothing was run
     some_reply();
-    let Some(program) = accepted(alloc, &source.text, talk)? else {
-        return Ok(false);
-    };
-    if !source.marked {
-        // The program ends after this: its memory goes back with the process, and not piece by piece.
-        forget(program);
-        return Ok(true);
+    match compile(alloc, &source.text) {
+        Ok(program) => {
+            if !source.marked {
+                forget(program);
+                return Ok(true);
+            }
+            let seed = Seed::of_text(&source.text);
+            let session = Session::seeded(alloc, program, fuel, seed)?;
+            serve_script(session, lines, talk)?;
+            Ok(true)
+        }
+        Err(FrontError::Memory) => Err(Trouble::Memory),
+        Err(FrontError::Fault(fault)) => {
+            refuse(alloc, &source.text, fault, talk)?;
+            Ok(false)
+        }
     }
-    let mut session = Session::seeded(alloc, program, fuel, Seed::of_text(&source.text))?;
-    let told = reply_all(&mut session, lines, talk);
-    forget(session);
-    told?;
-    Ok(true)
 }
 
 // Serves, and says whether the source part is accepted.
@@ -68,8 +96,8 @@ fn serve_lines<C: Conversation>(
     requires allowed { IsAllowed fuel }
     requires begun { IfSome (C.exchange talk.old) (IsBegun fuel) }
     requires unheard { lines.old ≡ [] }
-    ensures served { IfOk result (λ accepted.
-        IfSome (C.exchange talk.new) (if accepted then IsDone else IsRefused)) }
+    ensures over { IfOk result
+        (λ accepted. IfSome (C.exchange talk.new) (IsOver accepted)) }
     ensures beginning { IfSome (C.exchange talk.new) IsBeginning }
     ensures long { IsErrOf result Trouble.TooLong → IfSome (C.exchange talk.new) IsTooLong }
     ensures counted { IsCounted result (C.read_faults talk.old) (C.read_faults talk.new)

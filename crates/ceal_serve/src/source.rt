@@ -1,8 +1,7 @@
 // The source part of what is heard.
 
-ghost use Rattle.std.specs.Prelude.{◌≡◌, ◌≤◌, ◌<◌, ◌⊎◌, ◌↔◌, ◌^◌, [], None, IsTrue, List, ℕ, length, vec_len, IfSome, IfOk, IfErr, OnOk, OnErr, IsErrOf};
-ghost use Rattle.ceal_compile.specs.Compiled.{IsCompiled};
-ghost use Rattle.ceal_compile.specs.Source.{IsFirstFault, IsProgram};
+ghost use Rattle.std.specs.Prelude.{◌≡◌, ◌≤◌, ◌<◌, ◌+◌, ◌↔◌, [], IsTrue, List, ℕ, vec_len, IfSome, IfOk, IfErr, OnOk, OnErr, IsErrOf};
+ghost use Rattle.ceal_compile.specs.Source.{IsFirstFault};
 ghost use Rattle.ceal_lex.specs.Parts.{IsMark};
 ghost use Rattle.ceal_serve.specs.Exchange.{IsBegun, SaysPrefix, Says};
 ghost use Rattle.ceal_serve.specs.Listening.{HasLine, IsFaultLineOf, IsHeardSource, SourceIs, TakesLine};
@@ -12,10 +11,8 @@ ghost use Rattle.ceal_serve.specs.Turns.{IsBeginning, IsTooLong};
 use crate::conversation::{Conversation, say};
 use crate::lines::{LIMIT, Lines};
 use crate::trouble::Trouble;
-use ceal_base::fault::{Fault, FrontError};
-use ceal_compile::compile::compile;
+use ceal_base::fault::Fault;
 use ceal_compile::fault_line::fault_line;
-use ceal_compile::program::Program;
 use std::alloc::Global;
 
 /// A source part, with its mark where that was heard whole.
@@ -83,8 +80,8 @@ pub fn hear_source<C: Conversation>(
     }
 }
 
-// Says the line of a fault.
-fn refuse<C: Conversation>(
+/// Says the line of the first fault of a source part.
+pub fn refuse<C: Conversation>(
     alloc: Global,
     source: &[u8],
     fault: Fault,
@@ -102,33 +99,4 @@ fn refuse<C: Conversation>(
     let line = fault_line(alloc, source, fault)?;
     say(talk, line.items())?;
     Ok(())
-}
-
-/// The program of a source part; where it is not accepted, the line of its first fault is said.
-pub fn accepted<C: Conversation>(
-    alloc: Global,
-    source: &[u8],
-    talk: &mut C,
-) -> Result<Option<Program>, Trouble>
-    requires small { length source.now < 2 ^ 32 }
-    ensures program { IfOk result (λ found. IfSome found
-        (λ program. IsProgram source.now program.typed × IsCompiled program
-        × (C.exchange talk.new ≡ C.exchange talk.old))) }
-    ensures refused { IfOk result (λ found. (found ≡ None)
-        → Says (C.exchange talk.old) (C.exchange talk.new) (IsFaultLineOf source.now)) }
-    ensures part { OnErr result ((C.exchange talk.new ≡ C.exchange talk.old)
-        ⊎ ((line : List ℕ) × IsFaultLineOf source.now line
-        × SaysPrefix (C.exchange talk.old) (C.exchange talk.new) line)) }
-    ensures short { ¬ IsErrOf result Trouble.TooLong }
-    ensures counted { IsCounted result (C.read_faults talk.old) (C.read_faults talk.new)
-        (C.write_faults talk.old) (C.write_faults talk.new) }
-{
-    match compile(alloc, source) {
-        Ok(program) => Ok(Some(program)),
-        Err(FrontError::Memory) => Err(Trouble::Memory),
-        Err(FrontError::Fault(fault)) => {
-            refuse(alloc, source, fault, talk)?;
-            Ok(None)
-        }
-    }
 }
