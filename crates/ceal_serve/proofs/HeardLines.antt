@@ -1,10 +1,10 @@
 -- What hearing a line comes to.
 use Rattle.std.proofs.Common.{◌≡◌, inl, inr, ℕ, ◌+◌, ◌<◌, ◌≤◌, Option, Some, None, Result, Ok, Err, List, [], ◌∷◌, ◌++◌, length, drop, length-append, ◌∙◌, refl, sym, ap, subst, arith}
-use Rattle.std.specs.Prelude.{IfOk, OnErr, IsErrOf, MatchOption}
+use Rattle.std.specs.Prelude.{IfOk, IsErrAnd, OnErr, IsErrOf, MatchOption}
 use Rattle.std.proofs.lemmas.Bool.{cases_lt}
 use Rattle.ceal_io.specs.Streams.{Rose}
 use Rattle.ceal_serve.specs.Exchange.{Exchange}
-use Rattle.ceal_serve.specs.Listening.{Hears, HearsLine, HearsMore, HearsSome, HasLine}
+use Rattle.ceal_serve.specs.Listening.{Hears, HearsEnd, HearsLine, HearsMore, HearsSome, HasLine}
 use Rattle.ceal_serve.specs.Troubles.{IsCounted}
 use Rattle.ceal_serve.specs.Turns.{IsLong, IsOneLine}
 use Rattle.ceal_serve.specs.declared.trouble.Trouble.{Trouble}
@@ -75,3 +75,17 @@ some-case o P Q x e h = subst (λ p. MatchOption p P Q) e h
 
 pub none-case : {A : Type 0} (o : Option A) (P : Type 0) (Q : A → Type 0) → o ≡ None → MatchOption o P Q → P
 none-case o P Q e h = subst (λ p. MatchOption p P Q) e h
+
+pub line-case : (found : Option ℕ) (at limit : ℕ) (o n : Option Exchange) (a c : List ℕ) → found ≡ Some at → HearsLine found limit o n a c → Hears o n a c × HasLine c at × (at < limit)
+line-case found at limit o n a c e h = subst (λ f. HearsLine f limit o n a c) e h
+
+pub end-case : (found : Option ℕ) (limit : ℕ) (o n : Option Exchange) (a c : List ℕ) → found ≡ None → HearsLine found limit o n a c → HearsEnd o n a c × IsOneLine c × (length c ≤ limit)
+end-case found limit o n a c e h = subst (λ f. HearsLine f limit o n a c) e h
+
+-- an error that is handed on is the one that came
+same-error : {A : Type 0} (x t : Trouble) → IsErrOf {T = A} (Err x) t → x ≡ t
+same-error x t e = cc e
+
+pub handed-on : {A B : Type 0} (r : Result A Trouble) (s : Result B Trouble) (x t : Trouble) → IsErrAnd r (λ y. y ≡ x) → s ≡ Err x → IsErrOf r t → IsErrOf s t
+handed-on (Ok a) s x t h is e = absurd h
+handed-on (Err y) s x t h is e = is ∙ ap (λ z. Err z) (sym h ∙ same-error y t e)

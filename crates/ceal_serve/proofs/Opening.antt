@@ -1,6 +1,6 @@
 -- What is said for a source part.
 use Rattle.std.proofs.Common.{◌≡◌, inl, inr, ℕ, ◌<◌, ◌≤◌, ◌^◌, Bool, true, false, Option, Some, None, Result, Ok, Err, List, [], ◌∷◌, ◌++◌, length, refl, sym, ap, ◌∙◌, subst, append-nil, arith}
-use Rattle.std.specs.Prelude.{OnErr}
+use Rattle.std.specs.Prelude.{IfSome, OnErr}
 use Rattle.ceal_base.specs.declared.fault.Fault.{Fault}
 use Rattle.ceal_compile.specs.Compiled.{IsCompiled}
 use Rattle.ceal_compile.specs.FaultLine.{fault_line}
@@ -12,12 +12,12 @@ use Rattle.ceal_session.specs.Replies.{Leads, opening}
 use Rattle.ceal_session.specs.State.{Situation}
 use Rattle.ceal_cli.specs.Lines.{script_lines}
 use Rattle.ceal_cli.specs.Output.{IsPrefix, Programmed, first_state}
-use Rattle.ceal_serve.specs.Exchange.{Exchange, SaysPrefix, saying}
+use Rattle.ceal_serve.specs.Exchange.{Exchange, Says, SaysPrefix, saying}
 use Rattle.ceal_serve.specs.Listening.{IsFaultLineOf, IsHeardSource, IsMarkedSource, IsOpenSource, SourceIs}
 use Rattle.ceal_serve.specs.Replying.{Follows, IsAt}
 use Rattle.ceal_serve.specs.Turns.{Headed, IsHead, IsServed, IsTurnedAway, IsBeginning, IsDone, IsRefused}
 use Rattle.ceal_serve.proofs.Following.{begins-there, nothing-served}
-use Rattle.ceal_serve.proofs.Hearing.{on-err, said-none}
+use Rattle.ceal_serve.proofs.Hearing.{known-said, known-same, on-err, prefix-said, said-none}
 use Rattle.ceal_serve.proofs.Heads.{complete-source, marked-head, open-head}
 
 true-is-not : false ≡ true → ⊥
@@ -101,3 +101,34 @@ module _ (fuel : ℕ) (text rest : List ℕ) (e : Exchange) (p : Program) (reads
 pub none-of-it : {A E : Type 0} (r : Result A E) (o : Option Exchange) (source : List ℕ) (fault : Fault) → IsFirstFault source fault
     → OnErr r ((line : List ℕ) × IsFaultLineOf source line × SaysPrefix o o line)
 none-of-it r o source fault first = on-err r ((line : List ℕ) × IsFaultLineOf source line × SaysPrefix o o line) (fault_line source fault, (fault, first, refl), (0, omega arith, sym (said-none o)))
+
+-- The same of what is known of a conversation whose source part was heard.
+module _ (fuel : ℕ) (marked : Bool) (text rest : List ℕ) (o : Option Exchange) (h : IfSome o (IsHeardSource fuel marked text rest)) where
+  pub source-known : IfSome o IsBeginning
+  source-known = known-same o o (IsHeardSource fuel marked text rest) IsBeginning refl (λ e k. source-begins fuel marked text rest e k) h
+
+  module _ (is : SourceIs marked text) (p : Program) (reads : IsProgram text p.typed) (compiled : IsCompiled p) where
+    pub done-known : marked ≡ false → IfSome o IsDone
+    done-known open-is =
+        known-same o o (IsHeardSource fuel marked text rest) IsDone refl
+        (λ e k. done-open fuel text rest e p reads compiled (subst (λ b. SourceIs b text) open-is is) (subst (λ b. IsHeardSource fuel b text rest e) open-is k)) h
+
+    pub at-known : BegunLaw → length text < 2 ^ 32 → marked ≡ true → (session : Situation) → session ≡ opened p fuel → IfSome o (IsAt rest session)
+    at-known begins small marked-is session same =
+        known-same o o (IsHeardSource fuel marked text rest) (IsAt rest session) refl
+        (λ e k. at-opening fuel text rest e p reads compiled begins small (subst (λ b. SourceIs b text) marked-is is) (subst (λ b. IsHeardSource fuel b text rest e) marked-is k) session same) h
+
+  module _ (is : SourceIs marked text) (small : length text < 2 ^ 32) (n : Option Exchange) where
+    pub refused-known : Says o n (IsFaultLineOf text) → IfSome n IsRefused
+    refused-known said =
+        known-said o n (IsFaultLineOf text) (IsHeardSource fuel marked text rest) IsRefused said (λ line e p k. refused-at fuel text rest line small p e marked is k) h
+
+    pub whole-begins : Says o n (IsFaultLineOf text) → IfSome n IsBeginning
+    whole-begins said =
+        known-said o n (IsFaultLineOf text) (IsHeardSource fuel marked text rest) IsBeginning said
+        (λ line e p k. fault-begins fuel text rest line small p e marked is k line (record { rest = []; same = append-nil line })) h
+
+    pub part-begins : (line : List ℕ) × IsFaultLineOf text line × SaysPrefix o n line → IfSome n IsBeginning
+    part-begins (line, fault, part) =
+        known-said o n (λ out. IsPrefix out line) (IsHeardSource fuel marked text rest) IsBeginning (prefix-said o n line part)
+        (λ out e p k. fault-begins fuel text rest line small fault e marked is k out p) h
