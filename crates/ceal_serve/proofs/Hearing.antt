@@ -89,19 +89,6 @@ pub known-same : (old new : Option Exchange) (A B : Exchange → Type 0) → new
 known-same None new A B e step h = subst (λ (o : Option Exchange). IfSome o B) (sym e) tt
 known-same (Some x) new A B e step h = subst (λ (o : Option Exchange). IfSome o B) (sym e) (step x h)
 
--- a read of some bytes, and one of none
-pub hears-piece : (o n : Option Exchange) (count : ℕ) (piece before after : List ℕ) → (count ≡ 0 → ⊥) → count ≤ length piece
-    → n ≡ option_map (hearing (take count piece)) o → after ≡ before ++ take count piece → HearsMore o n before after
-hears-piece o n count piece before after some within e there =
-    record { more = take count piece; some = taken-some count piece some within; exchange = some-read o n count piece some within e; there = there }
-
-pub hears-no-more : (o n : Option Exchange) (count : ℕ) (piece before : List ℕ) → count ≡ 0 → n ≡ option_map (hearing (take count piece)) o → HearsEnd o n before before
-hears-no-more o n count piece before none e = record {
-  more = [];
-  exchange = e ∙ (ap (λ k. option_map (hearing (take k piece)) o) none ∙ ap (option_map heard_end) (sym (more-none o)));
-  there = sym (append-nil before);
-}
-
 pub hears-to-end : (o m n : Option Exchange) (a b c : List ℕ) → Hears o m a b → HearsEnd m n b c → HearsEnd o n a c
 hears-to-end o m n a b c h k = record {
   more = h.more ++ k.more;

@@ -166,14 +166,6 @@ no-mark-more front line none starts one other b a m = go (placed front (line ++ 
     go (inl h) = none b h.0 h.1
     go (inr h) = by-place h.0 h.1 h.2
 
--- a text without bytes has none
-pub no-mark-yet : HasNoMark []
-no-mark-yet b a m = line-full m.text m.line a m.mark m.is_line (nothing-first m.line a (nothing-last b (m.line ++ a) (sym m.whole)))
-  where
-    nothing-last : (xs ys : List ℕ) → xs ++ ys ≡ [] → ys ≡ []
-    nothing-last [] ys e = e
-    nothing-last (x ∷ xs) ys e = absurd (cc e)
-
 nothing-after : (xs ys : List ℕ) → xs ++ ys ≡ [] → ys ≡ []
 nothing-after [] ys e = e
 nothing-after (x ∷ xs) ys e = absurd (cc e)

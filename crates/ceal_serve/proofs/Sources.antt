@@ -9,14 +9,6 @@ use Rattle.ceal_serve.proofs.Following.{take-line, drop-line}
 use Rattle.ceal_serve.proofs.Hearing.{known-after, known-same}
 use Rattle.ceal_serve.proofs.Marks.{no-mark-more}
 
--- before anything is heard
-pub begun-listening : (fuel : ℕ) (o : Option Exchange) → IfSome o (IsBegun fuel) → IfSome o (IsListening fuel [] [])
-begun-listening fuel o h = known-same o o (IsBegun fuel) (IsListening fuel [] []) refl (λ e b. record { fuel_is = b.fuel_is; heard = b.unheard; going = b.going; unsaid = b.unsaid }) h
-
-pub listening-caught-up : (fuel : ℕ) (text rest : List ℕ) (o : Option Exchange) → HasNoMark text → IsBeforeLine text → IfSome o (IsListening fuel text rest) → IfSome o (IsCaughtUp rest)
-listening-caught-up fuel text rest o none complete h =
-    known-same o o (IsListening fuel text rest) (IsCaughtUp rest) refl (λ e b. record { lines = text; heard = b.heard; complete = complete; answered = inl (none, b.unsaid) }) h
-
 pub listening-more : (fuel : ℕ) (text before after : List ℕ) (o n : Option Exchange) → Hears o n before after → IfSome o (IsListening fuel text before) → IfSome n (IsListening fuel text after)
 listening-more fuel text before after o n h k =
     known-after o n (heard_more h.more) (IsListening fuel text before) (IsListening fuel text after) h.exchange (λ e b. record {
@@ -45,10 +37,6 @@ pub taken-none : (old new lines rest : List ℕ) (marked : Bool) → TakesLine o
 taken-none old new lines rest marked t other none complete =
     subst HasNoMark (sym t.text) (no-mark-more old t.line none complete t.one (λ m. other (t.is_mark.1 m)))
 
-pub taken-mark : (old new lines rest : List ℕ) (marked : Bool) → TakesLine old new lines rest marked → IsTrue marked → HasNoMark old → IsBeforeLine old → IsMarkedSource new
-taken-mark old new lines rest marked t is none complete =
-    record { front = old; line = t.line; whole = t.text; none = none; complete = complete; mark = t.is_mark.0 is }
-
 -- the source part was heard, with its mark or to its end
 pub heard-marked : (fuel : ℕ) (text rest : List ℕ) (o : Option Exchange) → IfSome o (IsListening fuel text rest) → IfSome o (IsHeardSource fuel true text rest)
 heard-marked fuel text rest o k =
@@ -59,16 +47,6 @@ heard-open fuel text whole before after o n h w k =
     known-after (option_map (heard_more h.more) o) n heard_end (IsListening fuel text after) (IsHeardSource fuel false whole after) h.exchange
     (λ e b. record { fuel_is = b.fuel_is; unsaid = b.unsaid; heard = inr (refl, refl, b.heard ∙ sym w) })
     (listening-more fuel text before after o (option_map (heard_more h.more) o) (record { more = h.more; exchange = refl; there = h.there }) k)
-
-pub open-source : (text whole rest : List ℕ) → HasNoMark text → IsBeforeLine text → IsOneLine rest → whole ≡ text ++ rest → IsOpenSource whole
-open-source text whole rest none complete one w = record { front = text; last = rest; whole = w; none = none; complete = complete; one = one }
-
--- where it ends early nothing was said, or too much was heard
-pub nothing-begins : (fuel : ℕ) (text rest : List ℕ) (o : Option Exchange) → IfSome o (IsListening fuel text rest) → IfSome o IsBeginning
-nothing-begins fuel text rest o k = known-same o o (IsListening fuel text rest) IsBeginning refl (λ e b. inl b.unsaid) k
-
-pub lost-begins : (fuel : ℕ) (text rest : List ℕ) (o n : Option Exchange) → HearsSome o n → IfSome o (IsListening fuel text rest) → IfSome n IsBeginning
-lost-begins fuel text rest o n (more, e) k = known-after o n (heard_more more) (IsListening fuel text rest) IsBeginning e (λ x b. inl b.unsaid) k
 
 pub source-too-long : (fuel : ℕ) (text before after : List ℕ) (limit : ℕ) (o n : Option Exchange) → limit ≡ LIMIT - length text → HasNoMark text → IsBeforeLine text
     → Hears o n before after → IsLong limit after → IfSome o (IsListening fuel text before) → IfSome n IsTooLong
