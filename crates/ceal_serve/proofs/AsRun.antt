@@ -91,9 +91,6 @@ module _ (law : SplitLaw) (head script : List ℕ) (part : Split) (split : IsSpl
       let is-marked : c.part.marked ≡ true = ap (λ (s : Split). s.marked) same ∙ marked in
       record { part = parts; split = split-longer; comes = comes-again head (head ++ script) c.part parts bytes is-marked r c.comes }
 
-  script-is : script_of (head ++ script) parts ≡ script
-  script-is = drop-front head script
-
 module _ (law : SplitLaw) (fuel : ℕ) (ended : Bool) (text said : List ℕ) (small : length text < 2 ^ 32) (h : IsServed fuel ended text said) where
   abbrev head : List ℕ
   head = h.parts.head

@@ -5,7 +5,8 @@ use Rattle.ceal_cli.specs.declared.top.Status.{Status}
 use Rattle.ceal_cli.specs.declared.top.Status.TheVariants.{Done, Refused, Usage, TooLong, Memory, ReadFault, WriteFault}
 use Rattle.ceal_cli.specs.declared.words.Mode.TheVariants.{Run}
 
--- The words ask for a conversation in which a run may take this many steps, as those of `ceal run` after its first word.
+-- The words ask for a conversation in which a run may take this many steps, as those of `ceal run` after its first
+-- word.
 abbrev pub AskToServe : List Text → ℕ → Type 0
 AskToServe words fuel = Asks (codes "run" ∷ words) (Run fuel)
 

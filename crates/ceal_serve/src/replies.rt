@@ -50,7 +50,8 @@ fn reply_first<C: Conversation>(
 ) -> Result<(), Trouble>
     requires line { HasLine lines.old end }
     requires at { IfSome (C.exchange talk.old) (IsAt lines.old (situation session.old)) }
-    ensures at { OnOk result (IfSome (C.exchange talk.new) (IsAt lines.new (situation session.new))) }
+    ensures at { OnOk result
+        (IfSome (C.exchange talk.new) (IsAt lines.new (situation session.new))) }
     ensures beginning { OnErr result (IfSome (C.exchange talk.new) IsBeginning) }
     ensures short { ¬ IsErrOf result Trouble.TooLong }
     ensures counted { IsCounted result (C.read_faults talk.old) (C.read_faults talk.new)
