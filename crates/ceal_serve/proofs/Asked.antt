@@ -1,25 +1,29 @@
 -- What the words ask for.
-use Rattle.std.proofs.Common.{◌≡◌, inl, ℕ, Option, Some, None, List, [], ◌∷◌, codes, refl, sym, ap, subst}
+use Rattle.std.proofs.Common.{◌≡◌, ◌≢◌, inl, ℕ, Option, Some, None, List, [], ◌∷◌, codes, refl, sym, subst}
 use Rattle.std.specs.Prelude.{IfSome, MatchOption}
 use Rattle.ceal_cli.specs.Modes.{Text, Asks, AreDefined}
 use Rattle.ceal_cli.specs.declared.words.Mode.{Mode}
 use Rattle.ceal_cli.specs.declared.words.Mode.TheVariants.{Run}
-use Rattle.ceal_cli.proofs.Options.OneMode.{keeps_limits, one_mode}
-use Rattle.ceal_session.specs.Following.{IsAllowed}
+use Rattle.ceal_cli.proofs.Options.OneMode.{one_mode}
 use Rattle.ceal_serve.specs.Exchange.{Exchange, IsBegun}
 use Rattle.ceal_serve.specs.Turns.{IsBeginning}
 use Rattle.ceal_serve.specs.Words.{AskToServe, AskForNothing}
 use Rattle.ceal_serve.proofs.Hearing.{known-same}
 
-pub asks-for-nothing : (words all : List Text) (found : Option Mode) → all ≡ codes "run" ∷ words → MatchOption found (AreDefined all → ⊥) (λ mode. Asks all mode)
-    → ((fuel : ℕ) → found ≡ Some (Run fuel) → ⊥) → AskForNothing words
-asks-for-nothing words all None same h other fuel asks = h (Run fuel, subst (λ (l : List Text). Asks l (Run fuel)) (sym same) asks)
-asks-for-nothing words all (Some mode) same h other fuel asks =
-    other fuel (ap Some (one_mode all mode (Run fuel) h (subst (λ (l : List Text). Asks l (Run fuel)) (sym same) asks)))
+module _ (words all : List Text) (same : all ≡ codes "run" ∷ words) where
+  as-asked : (fuel : ℕ) → AskToServe words fuel → Asks all (Run fuel)
+  as-asked fuel asks = subst (λ (l : List Text). Asks l (Run fuel)) (sym same) asks
 
--- the fuel that words ask for is within the limits
-pub asked-allowed : (words : List Text) (fuel : ℕ) → AskToServe words fuel → IsAllowed fuel
-asked-allowed words fuel asks = keeps_limits (codes "run" ∷ words) (Run fuel) asks
+  pub asked-nothing : (AreDefined all → ⊥) → AskForNothing words
+  unfolding as-asked
+  asked-nothing none fuel asks = none (Run fuel, as-asked fuel asks)
+
+  -- of a mode that the words ask for
+  pub asked-run : (mode : Mode) (found : Option ℕ) → Asks all mode → MatchOption found ((fuel : ℕ) → mode ≢ Run fuel) (λ fuel. mode ≡ Run fuel)
+      → MatchOption found (AskForNothing words) (λ fuel. AskToServe words fuel)
+  unfolding as-asked
+  asked-run mode None asks other fuel run = other fuel (one_mode all mode (Run fuel) asks (as-asked fuel run))
+  asked-run mode (Some fuel) asks is = subst (λ (l : List Text). Asks l (Run fuel)) same (subst (λ m. Asks all m) is asks)
 
 -- a conversation that begins with the fuel that words ask for
 abbrev pub BeginsAsAsked : List Text → Exchange → Type 0

@@ -15,7 +15,7 @@ use Rattle.ceal_cli.specs.Output.{IsPrefix, Programmed, first_state}
 use Rattle.ceal_serve.specs.Exchange.{Exchange, Says, SaysPrefix, saying}
 use Rattle.ceal_serve.specs.Listening.{IsFaultLineOf, IsHeardSource, IsMarkedSource, IsOpenSource, SourceIs}
 use Rattle.ceal_serve.specs.Replying.{Follows, IsAt}
-use Rattle.ceal_serve.specs.Turns.{Headed, IsHead, IsServed, IsTurnedAway, IsBeginning, IsDone, IsRefused}
+use Rattle.ceal_serve.specs.Turns.{Headed, IsHead, IsServed, IsTurnedAway, IsBeginning, IsDone, IsOver, IsRefused}
 use Rattle.ceal_serve.proofs.Following.{begins-there, nothing-served}
 use Rattle.ceal_serve.proofs.Hearing.{known-said, known-same, on-err, prefix-said, said-none}
 use Rattle.ceal_serve.proofs.Heads.{complete-source, marked-head, open-head}
@@ -74,6 +74,7 @@ module _ (fuel : ℕ) (text rest : List ℕ) (e : Exchange) (p : Program) (reads
   program-at ended script head = record { part = head.part; split = head.split; program = p.typed; reads = reads; code = p.code; is_code = compiled.code }
 
   pub done-open : IsOpenSource text → IsHeardSource fuel false text rest e → IsDone e
+  unfolding program-at
   done-open is h = elim h.heard [
     | inl k ↦ absurd (true-is-not k.0)
     | inr k ↦ (let head : IsHead true text [] = open-head text is (Ok p.typed) reads in
@@ -108,9 +109,9 @@ module _ (fuel : ℕ) (marked : Bool) (text rest : List ℕ) (o : Option Exchang
   source-known = known-same o o (IsHeardSource fuel marked text rest) IsBeginning refl (λ e k. source-begins fuel marked text rest e k) h
 
   module _ (is : SourceIs marked text) (p : Program) (reads : IsProgram text p.typed) (compiled : IsCompiled p) where
-    pub done-known : marked ≡ false → IfSome o IsDone
+    pub done-known : marked ≡ false → IfSome o (IsOver true)
     done-known open-is =
-        known-same o o (IsHeardSource fuel marked text rest) IsDone refl
+        known-same o o (IsHeardSource fuel marked text rest) (IsOver true) refl
         (λ e k. done-open fuel text rest e p reads compiled (subst (λ b. SourceIs b text) open-is is) (subst (λ b. IsHeardSource fuel b text rest e) open-is k)) h
 
     pub at-known : BegunLaw → length text < 2 ^ 32 → marked ≡ true → (session : Situation) → session ≡ opened p fuel → IfSome o (IsAt rest session)
@@ -119,9 +120,9 @@ module _ (fuel : ℕ) (marked : Bool) (text rest : List ℕ) (o : Option Exchang
         (λ e k. at-opening fuel text rest e p reads compiled begins small (subst (λ b. SourceIs b text) marked-is is) (subst (λ b. IsHeardSource fuel b text rest e) marked-is k) session same) h
 
   module _ (is : SourceIs marked text) (small : length text < 2 ^ 32) (n : Option Exchange) where
-    pub refused-known : Says o n (IsFaultLineOf text) → IfSome n IsRefused
+    pub refused-known : Says o n (IsFaultLineOf text) → IfSome n (IsOver false)
     refused-known said =
-        known-said o n (IsFaultLineOf text) (IsHeardSource fuel marked text rest) IsRefused said (λ line e p k. refused-at fuel text rest line small p e marked is k) h
+        known-said o n (IsFaultLineOf text) (IsHeardSource fuel marked text rest) (IsOver false) said (λ line e p k. refused-at fuel text rest line small p e marked is k) h
 
     pub whole-begins : Says o n (IsFaultLineOf text) → IfSome n IsBeginning
     whole-begins said =

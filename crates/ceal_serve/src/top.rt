@@ -1,8 +1,9 @@
 // The top call.
 
-ghost use Rattle.std.specs.Prelude.{◌≡◌, ◌⊎◌, ◌∷◌, ℕ, IfOk, IfSome, MatchOption, codes};
+ghost use Rattle.std.specs.Prelude.{◌≡◌, ◌≢◌, ◌⊎◌, ◌∷◌, ℕ, IfOk, IfSome, MatchOption, codes};
 ghost use Rattle.ceal_cli.specs.Modes.{texts};
 ghost use Rattle.ceal_cli.specs.declared.top.Status.TheVariants.{Done, Refused, Usage, TooLong, Memory, ReadFault, WriteFault};
+ghost use Rattle.ceal_cli.specs.declared.words.Mode.TheVariants.{Run};
 ghost use Rattle.ceal_io.specs.Streams.{Rose};
 ghost use Rattle.ceal_serve.specs.Exchange.{IsBegun};
 ghost use Rattle.ceal_serve.specs.Turns.{IsBeginning, IsDone, IsRefused, IsTooLong};
@@ -24,6 +25,16 @@ fn with_run(alloc: Global, words: Vec<String>) -> Result<Vec<String>, NoMemory>
     Ok(words)
 }
 
+// The fuel of a run.
+fn fuel_of(mode: Mode) -> Option<u32>
+    ensures { MatchOption result ((fuel : ℕ) → mode ≢ Run fuel) (λ fuel. mode ≡ Run fuel) }
+{
+    match mode {
+        Mode::Run(fuel) => Some(fuel),
+        _ => None,
+    }
+}
+
 // The fuel that the words ask for, if they ask for anything.
 fn asked_fuel(alloc: Global, words: Vec<String>) -> Result<Option<u32>, NoMemory>
     ensures { IfOk result (λ found. MatchOption found (AskForNothing (texts words))
@@ -31,8 +42,8 @@ fn asked_fuel(alloc: Global, words: Vec<String>) -> Result<Option<u32>, NoMemory
 {
     let words = with_run(alloc, words)?;
     match asked_mode(alloc, &words)? {
-        Some(Mode::Run(fuel)) => Ok(Some(fuel)),
-        _ => Ok(None),
+        Some(mode) => Ok(fuel_of(mode)),
+        None => Ok(None),
     }
 }
 
