@@ -5,6 +5,8 @@ from concurrent.futures import ThreadPoolExecutor
 from tools import build_tests, calls, hint_tests, processes, rows, scripts
 from tools.answers import TOP
 from tools.calls import RUN, SOON, call, tell
+from tools.inputs import LONGEST_INPUT
+from tools.telling import unresumable
 
 EXAMPLES = sorted((TOP / 'examples').glob('*.ceal'))
 # runs for ever if m is not 0
@@ -228,6 +230,8 @@ def saves(folder, made):
     reply = b'5\nok\nok\n10\n1\n'
     saved = call('save', ['save', made['source.ceal'], str(first)], 0)
     tell('the source text of a save', [] if saved.startswith(source + b'%%\nceal-save 1\nfuel 1000000\n') else [f'wrote {saved[:300]!r}'])
+    long = unresumable('save', 0, bytes(LONGEST_INPUT + 1))
+    tell('a save that is too long to be resumed', [] if long and not unresumable('save', 0, saved) else [f'told {long}'])
     for name, text in (('saved', saved), ('save', scripts.parts(saved)[2]), ('whole', saved + b'%%\n' + more.read_bytes())):
         pathlib.Path(folder, name).write_bytes(text)
     call('resume', ['resume', f'{folder}/whole'], 0, reply)

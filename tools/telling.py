@@ -2,6 +2,7 @@
 import sys
 
 from tools import answers, scripts
+from tools.inputs import LONGEST_INPUT
 
 
 def tell(lines):
@@ -18,3 +19,10 @@ def hand_on(given, answer, shown=None):
     if answer.status == 1:
         tell(scripts.excerpt(given, fault))
     return answer.status
+
+
+def unresumable(mode, status, output):
+    """What there is to tell of a save that no `resume` reads, since an input has a limit."""
+    if mode != 'save' or status or len(output) <= LONGEST_INPUT:
+        return []
+    return [f'the save has {len(output):,} bytes, and `./run resume` reads at most {LONGEST_INPUT:,}: this one can not be resumed']

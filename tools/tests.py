@@ -1,11 +1,12 @@
 """Runs every test that needs no proof, in parts that run side by side: `./run --test`.
 
-A part is the rows, the tests of a crate, the pages, the streams of the program, or `./run` itself. Where the proved program is there it answers
-the rows and `./run`; else they are tried by `rt try`, which compiles each part again.
+A part is the rows, the tests of a crate, the pages, the streams of the program, the server, its client in Python with the jobs of
+examples/, or `./run` itself. Where the proved program is there it answers the rows and `./run`; else they are tried by `rt try`, which
+compiles each part again.
 """
 import os, re, subprocess, sys, tempfile, time
 
-from tools import answers, rows
+from tools import answers, job_tests, rows
 from tools.answers import PROGRAM, TOP
 
 ROWS = TOP / 'crates/ceal_rows/data/rows.txt'
@@ -46,10 +47,14 @@ def parts(is_proved):
     pages = Part('pages, examples and rows are the same', python('.ci/documents'))
     if is_proved:
         told = ['the tests of three crates: `rt ci` and `rt test` prove and pass them']
-        return [Part('rows', python('-m', 'tools.rows', str(PROGRAM))), Part('./run', own), Part('streams', python('.ci/program')), pages], told
+        served = [Part('client and jobs', python('-m', 'tools.job_tests')), Part('the server', python('.ci/serving'))]
+        if not os.access(job_tests.SERVER, os.X_OK):
+            served = []
+            told.append('the server, its client in Python and the jobs of examples/: they need a built ceal_serve')
+        return [Part('rows', python('-m', 'tools.rows', str(PROGRAM))), Part('./run', own), *served, Part('streams', python('.ci/program')), pages], told
     tests = Part('tests of three crates', python('-m', 'tools.joined_tests'))
     return [tests, Part('./run', own), Part('rows', python('-m', 'tools.rows', 'try')), pages], [
-        'the streams of the program: they need one that is built',
+        'the streams of the program, the server, its client in Python and the jobs of examples/: they need programs that are built',
         f'{len(rows.LARGE)} large rows: `python3 -B -m tools.rows try NAME` tries one, which takes up to a few minutes',
     ]
 

@@ -1,0 +1,154 @@
+-- What is said is what `ceal run` writes.
+use Rattle.std.proofs.Common.{◌≡◌, ◌⊎◌, inl, inr, zero, suc, ◌+◌, ◌<◌, ◌≤◌, ◌^◌, ℕ, Bool, true, false, Result, Err, List, [], ◌∷◌, ◌++◌, length, take, drop, refl, sym, ap, ◌∙◌, subst, append_assoc, append-nil, length-append, arith}
+use Rattle.std.proofs.Math.Seq.{take-append_seam}
+use Rattle.ceal_base.specs.declared.fault.Fault.{Fault}
+use Rattle.ceal_base.specs.declared.fault.Span.{Span}
+use Rattle.ceal_base.specs.declared.typed.Typed.{Typed}
+use Rattle.ceal_compile.specs.FaultLine.{fault_line, fault_text, line_after, column_after}
+use Rattle.ceal_compile.specs.Source.{Comes}
+use Rattle.ceal_lex.specs.Parts.{IsBeforeLine, IsMarked, IsSplit, HasMark, HasFirstMark, source_of}
+use Rattle.ceal_lex.specs.Tokens.{span}
+use Rattle.ceal_lex.specs.declared.parts.Split.{Split}
+use Rattle.ceal_session.specs.Replies.{IsReplied}
+use Rattle.ceal_cli.specs.Lines.{script_of, script_lines}
+use Rattle.ceal_cli.specs.Output.{IsAnswer, IsRefusal, first_state}
+use Rattle.ceal_cli.specs.declared.words.Mode.TheVariants.{Run}
+use Rattle.ceal_cli.proofs.Inputs.OneReading.{SplitLaw}
+use Rattle.ceal_cli.proofs.Outputs.ResumedAsContinued.{comes-again, has-mark, source-before}
+use Rattle.ceal_serve.specs.Laws.{ServedLaw, TurnedAwayLaw}
+use Rattle.ceal_serve.specs.Turns.{IsServed, IsTurnedAway}
+use Rattle.ceal_serve.proofs.Marks.{first-of-longer}
+
+drop-length : (n : ℕ) (xs : List ℕ) → n ≤ length xs → length (drop n xs) + n ≡ length xs
+drop-length zero xs h = omega arith
+drop-length (suc n) [] h = absurd (omega (arith, h))
+drop-length (suc n) (x ∷ xs) h = let more = drop-length n xs (omega (arith, h)) in omega (arith, more)
+
+drop-front : (xs ys : List ℕ) → drop (length xs) (xs ++ ys) ≡ ys
+drop-front [] ys = refl
+drop-front (x ∷ xs) ys = drop-front xs ys
+
+take-front : (n : ℕ) (xs ys : List ℕ) → n ≤ length xs → take n (xs ++ ys) ≡ take n xs
+take-front zero xs ys h = refl
+take-front (suc n) [] ys h = absurd (omega (arith, h))
+take-front (suc n) (x ∷ xs) ys h = ap (λ (l : List ℕ). x ∷ l) (take-front n xs ys (omega (arith, h)))
+
+no-length : (xs : List ℕ) → length xs ≡ 0 → xs ≡ []
+no-length [] e = refl
+no-length (x ∷ xs) e = absurd (omega (arith, e))
+
+-- A head with its mark, and any script after it.
+module _ (law : SplitLaw) (head script : List ℕ) (part : Split) (split : IsSplit head part) (bare : script_of head part ≡ []) (marked : part.marked ≡ true) (complete : IsBeforeLine head)
+    (small : length (head ++ script) < 2 ^ 32) where
+  k : IsMarked head part
+  k = has-mark head part split marked
+
+  none-after : k.after ≡ []
+  none-after =
+      let at = k.from in
+      let left = drop-length part.script.from head (omega (arith, at)) in
+      let nothing = ap length bare in
+      no-length k.after (omega (arith, at, left, nothing))
+
+  mark : HasMark head k.before []
+  mark = subst (λ (a : List ℕ). HasMark head k.before a) none-after k.first.mark
+
+  abbrev parts : Split
+  parts = record { source = part.source; marked = true; script = span (length head) (length (head ++ script)) }
+
+  split-longer : IsSplit (head ++ script) parts
+  unfolding mark
+  split-longer =
+      let sum = length-append head script in
+      record {
+        small = small;
+        parts = record {
+          before = k.before;
+          after = script;
+          first = first-of-longer head k.before mark k.first.first complete script;
+          source = k.source;
+          from = sym sum;
+          to = refl;
+        };
+      }
+
+  to-is : part.source.to ≡ length k.before
+  to-is = ap (λ (s : Span). s.to) k.source
+
+  same-source : source_of head part ≡ source_of (head ++ script) parts
+  unfolding k
+  same-source =
+      let whole : head ++ script ≡ k.before ++ ((k.first.mark.line ++ k.after) ++ script) =
+      ap (λ (l : List ℕ). l ++ script) k.first.mark.whole ∙ append_assoc k.before (k.first.mark.line ++ k.after) script in
+      source-before head part split marked
+      ∙ sym (ap (λ n. take n (head ++ script)) to-is ∙ (ap (take (length k.before)) whole ∙ take-append_seam k.before ((k.first.mark.line ++ k.after) ++ script)))
+
+  comes-longer : (r : Result Typed Fault) → Comes head r → Comes (head ++ script) r
+  unfolding split-longer
+  comes-longer r c =
+      let same : c.part ≡ part = law head c.part part c.split split in
+      let bytes = ap (source_of head) same ∙ same-source in
+      let is-marked : c.part.marked ≡ true = ap (λ (s : Split). s.marked) same ∙ marked in
+      record { part = parts; split = split-longer; comes = comes-again head (head ++ script) c.part parts bytes is-marked r c.comes }
+
+module _ (law : SplitLaw) (fuel : ℕ) (ended : Bool) (text said : List ℕ) (small : length text < 2 ^ 32) (h : IsServed fuel ended text said) where
+  abbrev head : List ℕ
+  head = h.parts.head
+
+  abbrev script : List ℕ
+  script = h.parts.script
+
+  by-mark : (h.parts.is_head.part.marked ≡ true) × IsBeforeLine head → IsAnswer (Run fuel) (head ++ script) said
+  unfolding split-longer comes-longer
+  by-mark (marked, complete) =
+      let size = subst (λ (t : List ℕ). length t < 2 ^ 32) h.parts.whole small in
+      let part = h.parts.is_head.part in
+      let split = h.parts.is_head.split in
+      let bare = h.parts.is_head.bare in (
+        record {
+          part = parts law head script part split bare marked complete size;
+          split = split-longer law head script part split bare marked complete size;
+          program = h.program.program;
+          reads = comes-longer law head script part split bare marked complete size _ h.program.reads;
+          code = h.program.code;
+          is_code = h.program.is_code;
+        },
+        subst (λ (s : List ℕ). IsReplied h.program.code (first_state h.program fuel) (script_lines s) said) (sym (drop-front head script)) h.replies,
+      )
+
+  by-end : script ≡ [] → IsAnswer (Run fuel) head said
+  by-end none =
+      let same : h.program.part ≡ h.parts.is_head.part = law head h.program.part h.parts.is_head.part h.program.split h.parts.is_head.split in
+      let bytes : script ≡ script_of head h.program.part = none ∙ sym (ap (script_of head) same ∙ h.parts.is_head.bare) in
+      (h.program, subst (λ (s : List ℕ). IsReplied h.program.code (first_state h.program fuel) (script_lines s) said) bytes h.replies)
+
+  as-run : IsAnswer (Run fuel) text said
+  as-run = elim h.parts.is_head.complete [
+    | inl m ↦ subst (λ (t : List ℕ). IsAnswer (Run fuel) t said) (sym h.parts.whole) (by-mark m)
+    | inr e ↦ subst (λ (t : List ℕ). IsAnswer (Run fuel) t said) (sym (h.parts.whole ∙ (ap (λ (s : List ℕ). head ++ s) e.1 ∙ append-nil head))) (by-end e.1)
+  ]
+
+pub served-as-run : SplitLaw → ServedLaw
+unfolding as-run
+served-as-run law fuel ended text said small h = as-run law fuel ended text said small h
+
+same-line : (head more : List ℕ) (fault : Fault) → fault.span.from ≤ length head → fault_line (head ++ more) fault ≡ fault_line head fault
+same-line head more fault within =
+    ap (λ (before : List ℕ). fault_text fault.code (line_after before) (column_after before)) (take-front fault.span.from head more within)
+
+pub turned-away-as-run : SplitLaw → TurnedAwayLaw
+unfolding comes-longer
+turned-away-as-run law fuel ended text more said small h over within = (tt, inl (h.fault, first, line))
+  where
+    whole : text ++ more ≡ h.parts.head ++ (h.parts.script ++ more)
+    whole = ap (λ (l : List ℕ). l ++ more) h.parts.whole ∙ append_assoc h.parts.head h.parts.script more
+
+    first : Comes (text ++ more) (Err h.fault)
+    first = elim h.parts.is_head.complete [
+      | inl m ↦ subst (λ (t : List ℕ). Comes t (Err h.fault)) (sym whole)
+          (comes-longer law h.parts.head (h.parts.script ++ more) h.parts.is_head.part h.parts.is_head.split h.parts.is_head.bare m.0 m.1 (subst (λ (t : List ℕ). length t < 2 ^ 32) whole small) _ h.first)
+      | inr e ↦ subst (λ (t : List ℕ). Comes t (Err h.fault)) (sym (whole ∙ (ap (λ (s : List ℕ). h.parts.head ++ s) (ap (λ (s : List ℕ). s ++ more) e.1 ∙ over e.0) ∙ append-nil h.parts.head))) h.first
+    ]
+
+    line : said ≡ fault_line (text ++ more) h.fault
+    line = h.line ∙ sym (ap (λ (t : List ℕ). fault_line t h.fault) whole ∙ same-line h.parts.head (h.parts.script ++ more) h.fault within)

@@ -1,0 +1,5 @@
+use Rattle.ceal_serve.proofs.AsRun.{served-as-run, turned-away-as-run}
+use Rattle.ceal_serve.proofs.laws.as_run.Goals as goal
+
+pub returns : goal.returns
+returns c = record { served = served-as-run c.one_split.ensures; refused = turned-away-as-run c.one_split.ensures }

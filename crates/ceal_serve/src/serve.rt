@@ -1,0 +1,136 @@
+// A conversation from its beginning to its end.
+
+ghost use Rattle.std.specs.Prelude.{◌≡◌, ◌≢◌, ◌≤◌, [], IfSome, IfOk, OnOk, IsErrOf, vec_len};
+ghost use Rattle.ceal_cli.specs.declared.top.Status.TheVariants.{Done, Refused, Usage, TooLong, ReadFault, WriteFault};
+ghost use Rattle.ceal_io.specs.Streams.{Rose};
+ghost use Rattle.ceal_session.specs.Following.{IsAllowed};
+ghost use Rattle.ceal_session.specs.Keeping.{situation};
+ghost use Rattle.ceal_serve.specs.Exchange.{IsBegun};
+ghost use Rattle.ceal_serve.specs.Listening.{IsHeardSource, SourceIs};
+ghost use Rattle.ceal_serve.specs.Replying.{IsAt};
+ghost use Rattle.ceal_serve.specs.Troubles.{IsCounted};
+ghost use Rattle.ceal_serve.specs.Turns.{IsBeginning, IsDone, IsOver, IsRefused, IsTooLong};
+
+use crate::conversation::Conversation;
+use crate::lines::{LIMIT, Lines};
+use crate::replies::reply_all;
+use crate::source::{Source, hear_source, refuse};
+use crate::trouble::Trouble;
+use ceal_base::fault::FrontError;
+use ceal_cli::Status;
+use ceal_compile::compile::compile;
+use ceal_session::laws::some_reply;
+use ceal_session::session::Session;
+use ceal_types::seed::Seed;
+use std::alloc::Global;
+use std::mem::forget;
+
+// Replies to the lines of the script in a session that begins.
+fn serve_script<C: Conversation>(
+    session: Session,
+    lines: &mut Lines,
+    talk: &mut C,
+) -> Result<(), Trouble>
+    requires at { IfSome (C.exchange talk.old) (IsAt lines.old (situation session)) }
+    ensures done { OnOk result (IfSome (C.exchange talk.new) IsDone) }
+    ensures beginning { IfSome (C.exchange talk.new) IsBeginning }
+    ensures long { IsErrOf result Trouble.TooLong → IfSome (C.exchange talk.new) IsTooLong }
+    ensures counted { IsCounted result (C.read_faults talk.old) (C.read_faults talk.new)
+        (C.write_faults talk.old) (C.write_faults talk.new) }
+{
+    let mut session = session;
+    let told = reply_all(&mut session, lines, talk);
+    // The program ends after this: its memory goes back with the process, and not piece by piece.
+    forget(session);
+    told
+}
+
+// Serves after the source part was heard, and says whether it is accepted.
+fn serve_source<C: Conversation>(
+    alloc: Global,
+    fuel: u32,
+    source: &Source,
+    lines: &mut Lines,
+    talk: &mut C,
+) -> Result<bool, Trouble>
+    requires allowed { IsAllowed fuel }
+    requires source { SourceIs source.now.marked source.now.text.items }
+    requires small { vec_len source.now.text ≤ LIMIT }
+    requires heard { IfSome (C.exchange talk.old)
+        (IsHeardSource fuel source.now.marked source.now.text.items lines.old) }
+    ensures over { IfOk result
+        (λ accepted. IfSome (C.exchange talk.new) (IsOver accepted)) }
+    ensures beginning { IfSome (C.exchange talk.new) IsBeginning }
+    ensures long { IsErrOf result Trouble.TooLong → IfSome (C.exchange talk.new) IsTooLong }
+    ensures counted { IsCounted result (C.read_faults talk.old) (C.read_faults talk.new)
+        (C.write_faults talk.old) (C.write_faults talk.new) }
+{
+    // for the proof: a session that begins is in the situation in which nothing was run
+    some_reply();
+    match compile(alloc, &source.text) {
+        Ok(program) => {
+            if !source.marked {
+                forget(program);
+                return Ok(true);
+            }
+            let seed = Seed::of_text(&source.text);
+            let session = Session::seeded(alloc, program, fuel, seed)?;
+            serve_script(session, lines, talk)?;
+            Ok(true)
+        }
+        Err(FrontError::Memory) => Err(Trouble::Memory),
+        Err(FrontError::Fault(fault)) => {
+            refuse(alloc, &source.text, fault, talk)?;
+            Ok(false)
+        }
+    }
+}
+
+// Serves, and says whether the source part is accepted.
+fn serve_lines<C: Conversation>(
+    alloc: Global,
+    fuel: u32,
+    lines: &mut Lines,
+    talk: &mut C,
+) -> Result<bool, Trouble>
+    requires allowed { IsAllowed fuel }
+    requires begun { IfSome (C.exchange talk.old) (IsBegun fuel) }
+    requires unheard { lines.old ≡ [] }
+    ensures over { IfOk result
+        (λ accepted. IfSome (C.exchange talk.new) (IsOver accepted)) }
+    ensures beginning { IfSome (C.exchange talk.new) IsBeginning }
+    ensures long { IsErrOf result Trouble.TooLong → IfSome (C.exchange talk.new) IsTooLong }
+    ensures counted { IsCounted result (C.read_faults talk.old) (C.read_faults talk.new)
+        (C.write_faults talk.old) (C.write_faults talk.new) }
+{
+    let source = hear_source(alloc, fuel, lines, talk)?;
+    let served = serve_source(alloc, fuel, &source, lines, talk);
+    drop(source);
+    served
+}
+
+/// Replies to each line when it is complete, before more is heard. What was said in the end is all that is to be said for
+/// what was heard, or begins it.
+pub fn serve<C: Conversation>(alloc: Global, fuel: u32, talk: &mut C) -> Status
+    requires allowed { IsAllowed fuel }
+    requires begun { IfSome (C.exchange talk.old) (IsBegun fuel) }
+    ensures done { result ≡ Done → IfSome (C.exchange talk.new) IsDone }
+    ensures refused { result ≡ Refused → IfSome (C.exchange talk.new) IsRefused }
+    ensures beginning { IfSome (C.exchange talk.new) IsBeginning }
+    ensures too_long { result ≡ TooLong → IfSome (C.exchange talk.new) IsTooLong }
+    ensures read_fault { result ≡ ReadFault
+        → Rose (C.read_faults talk.old) (C.read_faults talk.new) }
+    ensures write_fault { result ≡ WriteFault
+        → Rose (C.write_faults talk.old) (C.write_faults talk.new) }
+    ensures usage { result ≢ Usage }
+{
+    let mut lines = Lines::new(alloc);
+    match serve_lines(alloc, fuel, &mut lines, talk) {
+        Ok(true) => Status::Done,
+        Ok(false) => Status::Refused,
+        Err(Trouble::Memory) => Status::Memory,
+        Err(Trouble::TooLong) => Status::TooLong,
+        Err(Trouble::ReadFault) => Status::ReadFault,
+        Err(Trouble::WriteFault) => Status::WriteFault,
+    }
+}
