@@ -1,6 +1,8 @@
-pub mod Accepted
+-- what crates above cite
 pub mod Options
-pub mod Sessions
 pub mod Outputs
 pub mod Inputs
+-- what only this crate cites
+pub mod Accepted
+pub mod Sessions
 mod Samples

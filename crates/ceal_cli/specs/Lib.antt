@@ -15,6 +15,7 @@ pub mod Output
 pub mod ReadBack
 pub mod Resumed
 pub mod Saves
+pub mod Serving
 pub mod StrangerOutput
 pub mod Verdicts
 pub mod Workloads
@@ -23,4 +24,3 @@ pub mod CommandLine
 pub mod Going
 pub mod Limits
 pub mod Members
-pub mod Serving
