@@ -1,6 +1,7 @@
 -- A unit that runs, from nothing or in a repair: its steps, blocks, reads and bases.
 -- what crates above cite
 pub mod NewBlock
+pub mod FewNumbers
 -- what only this crate cites
 pub mod UnitSteps
 pub mod RepairView

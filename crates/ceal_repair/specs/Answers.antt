@@ -1,5 +1,5 @@
 -- What a run from nothing and a repair come to.
-use Rattle.std.specs.Prelude.{◌≡◌, ℕ, ◌≤◌, ◌++◌, Some, None, List, [], ⊤}
+use Rattle.std.specs.Prelude.{◌≡◌, ℕ, ◌≤◌, ◌*◌, ◌++◌, Some, None, List, [], ⊤}
 use Rattle.ceal_base.specs.Block.{Block}
 use Rattle.ceal_base.specs.Trace.{Trace, Nothing, flat, steps_of}
 use Rattle.ceal_base.specs.declared.word.BlockId.{BlockId}
@@ -9,7 +9,7 @@ use Rattle.ceal_code.specs.Fitting.{Fits}
 use Rattle.ceal_code.specs.Fresh.{fresh}
 use Rattle.ceal_code.specs.Program.{Code}
 use Rattle.ceal_code.specs.Replay.{Replays, IsHonest, bases, plain_of}
-use Rattle.ceal_heap.specs.Heap.{Known, Revoked, HasSlots, standing, plain_of as heap_words}
+use Rattle.ceal_heap.specs.Heap.{Known, Revoked, HasSlots, next, standing, plain_of as heap_words}
 use Rattle.ceal_repair.specs.Blocks.{HasBlocks}
 use Rattle.ceal_repair.specs.declared.advance.Progress.{Progress}
 use Rattle.ceal_repair.specs.declared.advance.Progress.TheVariants as progress
@@ -37,14 +37,15 @@ pub record Stands (code : Code) (inputs : List Block) (l : Trace) (run : Running
   pub slots : HasSlots run.heap
   pub blocks : HasBlocks code inputs run.heap run.tables
 
--- The nodes stand for a trace of the call that has no more steps than the fuel.
--- Inputs may have got other bases since it was honest.
+-- The nodes stand for a trace of the call that has no more steps than the fuel, and at most twice as many numbers were
+-- given out to core blocks. Inputs may have got other bases since it was honest.
 pub record IsKeptRun (code : Code) (inputs : List Block) (f : ℕ) (args : List Word) (fuel : ℕ)
     (l : Trace) (run : Running) : Type 0 where
   pub stands : Stands code inputs l run
   pub fits : Fits code inputs f args
   pub replays : Replays code inputs f args l
   pub few : steps_of l ≤ fuel
+  pub numbers : next run.heap ≤ 2 * fuel
 
 -- The nodes stand for a trace of the call that is honest on the inputs and has no more steps than the fuel, and no read
 -- is queued.
@@ -54,6 +55,7 @@ pub record IsRunOf (code : Code) (inputs : List Block) (f : ℕ) (args : List Wo
   pub replays : Replays code inputs f args l
   pub honest : IsHonest code inputs l
   pub few : steps_of l ≤ fuel
+  pub numbers : next run.heap ≤ 2 * fuel
   pub idle : run.tables.stale.stamps ≡ []
 
 -- The trace is the first trace of the call, with these names for its blocks; all its steps are work, and they pay for

@@ -1,5 +1,5 @@
 -- The blocks of a run, and what its nodes say of them.
-use Rattle.std.specs.Prelude.{◌≡◌, ◌↔◌, ◌<◌, ℕ, List, Some, IsSome, length}
+use Rattle.std.specs.Prelude.{◌≡◌, ◌↔◌, ◌⊎◌, ◌<◌, ◌≤◌, ◌+◌, ℕ, List, Some, IsSome, length}
 use Rattle.ceal_base.specs.Block.{Block}
 use Rattle.ceal_base.specs.declared.forest.Key.{Key}
 use Rattle.ceal_base.specs.declared.word.BlockId.{BlockId}
@@ -8,7 +8,7 @@ use Rattle.ceal_base.specs.declared.word.Place.{Place}
 use Rattle.ceal_base.specs.declared.word.Word.{Word}
 use Rattle.ceal_code.specs.Program.{Code}
 use Rattle.ceal_code.specs.Replay.{In, Distinct, count}
-use Rattle.ceal_heap.specs.Heap.{Contents, IsLive, block_of}
+use Rattle.ceal_heap.specs.Heap.{Contents, IsLive, NoneReleased, block_of, next}
 use Rattle.ceal_repair.specs.Words.{HasBases}
 use Rattle.ceal_repair.specs.Kept.{Records}
 use Rattle.ceal_repair.specs.declared.tables.Tables.{Tables}
@@ -39,10 +39,28 @@ pub record HasBlocks (code : Code) (inputs : List Block) (heap : Contents) (t : 
   pub lives : Lives heap t.trace.nodes
   pub reads : ReadsThere (length inputs) heap t.trace.nodes
 
--- The numbers that new blocks were given: each is another one, none is that of a block that was there at first,
--- and all these can be read.
-pub record Given (first chosen : List ℕ) (heap : Contents) : Type 0 where
+-- each block can be read as before, and no number was given out for the first time
+pub record KeepsReadable (before after : Contents) : Type 0 where
+  pub blocks : (b : BlockId) → block_of after b ≡ block_of before b
+  pub numbers : next after ≡ next before
+
+-- at most one number was given out for the first time, and only where none waited for another block
+abbrev pub GivesOne : Contents → Contents → Type 0
+GivesOne before after = (next after ≡ next before) ⊎ ((next after ≡ next before + 1) × NoneReleased before)
+
+-- no more core blocks than that can be read, live and revoked ones together
+pub record HasFew (most : ℕ) (heap : Contents) : Type 0 where
+  pub blocks : List ℕ
+  pub each : (b : ℕ) → IsSome (block_of heap (Core b)) ↔ In b blocks
+  pub few : length blocks ≤ most
+
+-- The numbers that new blocks were given: each is another one, none is that of a block that was there at first, and
+-- the blocks that can be read are those of the first numbers and of these. No more numbers were given out than at
+-- first, or no more than all these.
+pub record Given (first : List ℕ) (numbers : ℕ) (chosen : List ℕ) (heap : Contents) : Type 0 where
   pub distinct : Distinct chosen
   pub apart : (b : ℕ) → In b chosen → count b first ≡ 0
   pub there : (b : ℕ) → In b chosen → IsSome (block_of heap (Core b))
   pub still : (b : ℕ) → In b first → IsSome (block_of heap (Core b))
+  pub only : (b : ℕ) → IsSome (block_of heap (Core b)) → In b first ⊎ In b chosen
+  pub few : (next heap ≤ numbers) ⊎ (next heap ≤ length first + length chosen)

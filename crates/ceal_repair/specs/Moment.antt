@@ -41,12 +41,13 @@ pub record View : Type 0 where
   pub frames : List Frame
 
 -- Where the run of one unit by itself began, and what stays until it ends: its machine; the blocks that were there
--- before any was made, the numbers that were given out until then, and the blocks that old items name; the nodes
--- before the one after which it runs, that node, and the reads that are open after it; the limit and the nodes
--- from there on.
+-- before any was made, how many numbers had been given out then, the numbers that new blocks were given since, and the
+-- blocks that old items name; the nodes before the one after which it runs, that node, and the reads that are open
+-- after it; the limit and the nodes from there on.
 pub record Start : Type 0 where
   pub machine : Machine
   pub first : List ℕ
+  pub numbers : ℕ
   pub chosen : List ℕ
   pub old : List ℕ
   pub before : List Entry
@@ -61,6 +62,7 @@ abbrev pub first_start : Code → List Block → ℕ → List Word → Start
 first_start code inputs f args = record {
   machine = first_begins code inputs f args;
   first = [];
+  numbers = 0;
   chosen = [];
   old = [];
   before = [];
@@ -130,7 +132,7 @@ pub record CourseNow (code : Code) (inputs : List Block) (start : Start) (v : Vi
       (machine (state_at code inputs v store (start.chosen ++ made)))
   pub same : (p : Place) → KnownBlock (length inputs) (known_after [] items) p.block
       → store p ≡ contents_after (base_in v.tables.mods) front p
-  pub given : Given start.first (start.chosen ++ made) v.heap
+  pub given : Given start.first start.numbers (start.chosen ++ made) v.heap
 
 -- A unit runs with the nodes left over that stand after the cursor, up to the limit;
 -- where there is no limit nothing is left over.

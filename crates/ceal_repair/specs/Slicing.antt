@@ -1,5 +1,5 @@
 -- What slices of a repair that goes on come to.
-use Rattle.std.specs.Prelude.{◌≡◌, ◌≤◌, ℕ, Option, Some, None, List}
+use Rattle.std.specs.Prelude.{◌≡◌, ◌≤◌, ◌+◌, ◌*◌, ℕ, Option, Some, None, List}
 use Rattle.ceal_base.specs.Block.{Block}
 use Rattle.ceal_base.specs.declared.word.BlockId.TheVariants.{Core}
 use Rattle.ceal_base.specs.declared.word.Word.{Word}
@@ -7,7 +7,9 @@ use Rattle.ceal_code.specs.Fitting.{Fits}
 use Rattle.ceal_code.specs.Fresh.{fresh}
 use Rattle.ceal_code.specs.Program.{Code}
 use Rattle.ceal_code.specs.Replay.{IsHonest}
+use Rattle.ceal_heap.specs.Heap.{next}
 use Rattle.ceal_repair.specs.Answers.{IsRunOf}
+use Rattle.ceal_repair.specs.Blocks.{HasFew}
 use Rattle.ceal_repair.specs.Turning.{StandsFor}
 use Rattle.ceal_repair.specs.declared.advance.Progress.{Progress}
 use Rattle.ceal_repair.specs.declared.advance.Progress.TheVariants.{More, Done, Spent, OutOfFuel}
@@ -17,12 +19,15 @@ use Rattle.ceal_theory.specs.Repair.{Single}
 use Rattle.ceal_theory.specs.Slices.{Repair, sliced}
 
 -- The nodes, the queue and the heap of a run stand for a repair of the call that goes on, with no more steps spent
--- than the fuel. Revoked blocks can be read.
+-- than the fuel. Revoked blocks can be read: with the live ones they are no more than the fuel and the steps spent
+-- together, and at most twice as many numbers as the fuel were given out.
 pub record IsPartRun (code : Code) (inputs : List Block) (f : ℕ) (args : List Word) (fuel : ℕ)
     (r : Repair) (run : Running) : Type 0 where
   pub fits : Fits code inputs f args
   pub stands : StandsFor code inputs f args r run
   pub few : run.spent ≤ fuel
+  pub blocks : HasFew (fuel + run.spent) run.heap
+  pub numbers : next run.heap ≤ 2 * fuel
 
 -- It is a slice of the repair, with some names for new blocks, none of them that of a known one.
 pub record IsSliceOf (code : Code) (inputs : List Block) (reads : Option ℕ) (fuel : ℕ)

@@ -48,11 +48,12 @@ pub record ReadAt (nodes : List Entry) : Type 0 where
 -- These blocks were there at first, these numbers were given out before, these blocks are known,
 -- and these reads are open inside the read.
 abbrev pub turn_start : {nodes : List Entry}
-    → Code → List Block → Repair → (first chosen old reads : List ℕ) → ReadAt nodes → Word → Start
-turn_start code inputs r first chosen old reads a now = record {
+    → Code → List Block → Repair → (first : List ℕ) → ℕ → (chosen old reads : List ℕ) → ReadAt nodes → Word → Start
+turn_start code inputs r first numbers chosen old reads a now = record {
   machine =
       unit_alone code inputs r (forest_of a.before) a.place a.unit a.var a.args (stepped a.steps (trace_in a.inside));
   first = first;
+  numbers = numbers;
   chosen = chosen;
   old = old;
   before = a.before;
@@ -75,10 +76,12 @@ pub record StandsFor (code : Code) (inputs : List Block) (f : ℕ) (args : List 
   pub names : ℕ → ℕ
   pub sound : Sound code names inputs f args r
 
--- A repair from which turns are made, the numbers of the blocks that it knows, and how many turns were made since.
+-- A repair from which turns are made, the numbers of the blocks that it knows, how many numbers had been given out
+-- then, and how many turns were made since.
 pub record Since : Type 0 where
   pub repair : Repair
   pub first : List ℕ
+  pub numbers : ℕ
   pub turns : ℕ
 
 -- the sum of two numbers of turns, by recursion
@@ -88,11 +91,16 @@ turns_more (suc k) n = suc (turns_more k n)
 
 -- after that many turns more
 abbrev pub later : ℕ → Since → Since
-later n o = record { repair = o.repair; first = o.first; turns = turns_more n o.turns }
+later n o = record { repair = o.repair; first = o.first; numbers = o.numbers; turns = turns_more n o.turns }
 
--- the repair of a trace, from its beginning
-abbrev pub since_begun : Code → List Block → Trace → Since
-since_begun code inputs l = record { repair = beginning code inputs l 0; first = core_numbers (blocks_of l); turns = 0 }
+-- the repair of a trace, from its beginning, where so many numbers had been given out
+abbrev pub since_begun : Code → List Block → Trace → ℕ → Since
+since_begun code inputs l numbers = record {
+  repair = beginning code inputs l 0;
+  first = core_numbers (blocks_of l);
+  numbers = numbers;
+  turns = 0;
+}
 
 -- none of these numbers is a name
 abbrev pub NamesOff : (ℕ → ℕ) → List ℕ → Type 0
@@ -110,7 +118,7 @@ pub record TurnedSoFar (code : Code) (inputs : List Block) (f : ℕ) (args : Lis
   pub stands : StandsFor code inputs f args repair run
   pub chosen : List ℕ
   pub number : repair.number ≡ length chosen
-  pub given : Given o.first chosen run.heap
+  pub given : Given o.first o.numbers chosen run.heap
   pub history : (names : ℕ → ℕ) → Continues chosen names → Turns code names inputs o.turns o.repair repair
 
 -- The first stale read of a run that has come so far was found, and has the content of its moment since then;
@@ -143,7 +151,7 @@ pub record TurnBegan (code : Code) (inputs : List Block) (f : ℕ) (args : List 
       ¬ (store_after code (starting code inputs so_far.repair.known) (forest_of spot.before) spot.place ≡ spot.value)
   pub reads : List ℕ
   pub opened : unclosed (Some []) spot.before ≡ Some reads
-  pub is : start ≡ turn_start code inputs so_far.repair o.first so_far.chosen so_far.stands.sound.blocks
+  pub is : start ≡ turn_start code inputs so_far.repair o.first o.numbers so_far.chosen so_far.stands.sound.blocks
       (spot.read ∷ reads) spot
       (store_after code (starting code inputs so_far.repair.known) (forest_of spot.before) spot.place)
 

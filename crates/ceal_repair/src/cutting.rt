@@ -2,12 +2,10 @@
 
 ghost use Rattle.std.specs.Prelude.{◌≡◌, ◌≢◌, ◌≤◌, ℕ, List, [], Some, true, false, OnOk, IsSome, IfSome, IfNone};
 ghost use Rattle.ceal_base.specs.Block.{Block};
-ghost use Rattle.ceal_base.specs.declared.word.BlockId.{BlockId as Id};
 ghost use Rattle.ceal_base.specs.declared.word.Place.{Place as PlaceOf};
 ghost use Rattle.ceal_code.specs.Program.{Code as CodeOf};
-ghost use Rattle.ceal_heap.specs.Heap.{block_of};
 ghost use Rattle.ceal_order.specs.Stamps.{is_in, successor};
-ghost use Rattle.ceal_repair.specs.Blocks.{HasBlocks};
+ghost use Rattle.ceal_repair.specs.Blocks.{HasBlocks, KeepsReadable};
 ghost use Rattle.ceal_repair.specs.Entries.{CutTo, IsNoneOr, IsUntil, Lies, Revokes, starts, first_in, first_stamp};
 ghost use Rattle.ceal_repair.specs.Kept.{Kept, base_in};
 ghost use Rattle.ceal_repair.specs.Looks.{due, NoneDiffers};
@@ -57,8 +55,7 @@ impl Running {
             → Lies cursor.0 front (cut left) tail self.new.tables) }
         ensures bases { OnOk result
             ((p : PlaceOf) → base_in self.new.tables.mods p ≡ base_in self.old.tables.mods p) }
-        ensures blocks { OnOk result
-            ((b : Id) → block_of self.new.heap b ≡ block_of self.old.heap b) }
+        ensures blocks { OnOk result (KeepsReadable self.old.heap self.new.heap) }
         ensures has { OnOk result ((code : CodeOf) (inputs : List Block)
             → HasBlocks code inputs self.old.heap self.old.tables
             → HasBlocks code inputs self.new.heap self.new.tables) }
@@ -103,8 +100,7 @@ impl Running {
             → Lies cursor.0 front Bare tail self.new.tables) }
         ensures bases { OnOk result
             ((p : PlaceOf) → base_in self.new.tables.mods p ≡ base_in self.old.tables.mods p) }
-        ensures blocks { OnOk result
-            ((b : Id) → block_of self.new.heap b ≡ block_of self.old.heap b) }
+        ensures blocks { OnOk result (KeepsReadable self.old.heap self.new.heap) }
         ensures has { OnOk result ((code : CodeOf) (inputs : List Block)
             → HasBlocks code inputs self.old.heap self.old.tables
             → HasBlocks code inputs self.new.heap self.new.tables) }

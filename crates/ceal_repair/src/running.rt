@@ -9,6 +9,7 @@ ghost use Rattle.ceal_code.specs.Replay.{shape_of};
 ghost use Rattle.ceal_heap.specs.Heap.{IsLive, IsNew, KeepsBlocks, block_of, plain_of, standing};
 ghost use Rattle.ceal_order.specs.Stamps.{is_in};
 ghost use Rattle.ceal_mods.specs.Mods.{cell_of};
+ghost use Rattle.ceal_repair.specs.Blocks.{GivesOne};
 ghost use Rattle.ceal_repair.specs.Words.{words_of, HasBases};
 ghost use Rattle.ceal_repair.specs.Kept.{Kept, base_in};
 ghost use Rattle.ceal_repair.specs.Propagation.{Concludes};
@@ -123,6 +124,7 @@ impl Running {
         ensures words { IfOk result (λ block. plain_of self.new.heap block
             ≡ Some (made code.now (words_of code.now inputs.now self.old.heap) key.now)) }
         ensures others { IfOk result (λ block. KeepsBlocks block self.old.heap self.new.heap) }
+        ensures numbers { OnOk result (GivesOne self.old.heap self.new.heap) }
         ensures bases { OnOk result
             (HasBases code.now.structs inputs.now self.old.heap self.old.tables.mods
             → HasBases code.now.structs inputs.now self.new.heap self.new.tables.mods) }

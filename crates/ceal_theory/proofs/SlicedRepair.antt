@@ -4,11 +4,11 @@ pub mod SliceLaws
 pub mod CarriedLaws
 pub mod Soundness
 pub mod DoneReplays
+pub mod AddedBlocks
 -- what only this crate cites
 pub mod PastLaws
 pub mod SliceFunction
 pub mod PartYields
-pub mod AddedBlocks
 pub mod UnlimitedSlice
 pub mod DoneTest
 pub mod Composition

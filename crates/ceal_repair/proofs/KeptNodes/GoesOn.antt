@@ -8,7 +8,7 @@ use Rattle.ceal_heap.specs.Heap.{block_of}
 use Rattle.ceal_order.specs.declared.stamp.Stamp.{Stamp}
 use Rattle.ceal_repair.proofs.KeptNodes.StaleReadEnd.{next-kept, lies-kept, first-kept, now-go-on}
 use Rattle.ceal_repair.proofs.Reuse.ReadReuseInCode.{passes-as}
-use Rattle.ceal_repair.specs.Blocks.{HasBlocks}
+use Rattle.ceal_repair.specs.Blocks.{HasBlocks, KeepsReadable}
 use Rattle.ceal_repair.specs.Entries.{stamped, first_in, Lies}
 use Rattle.ceal_repair.specs.Kept.{Kept, base_in}
 use Rattle.ceal_repair.specs.Moment.{Start, through}
@@ -33,7 +33,7 @@ module _ (old : Repair) (start : Start) (until end : Stamp) (a : EndsKept start 
   -- what is left over was revoked
   module _ (run : Running)
       (all : (front : List Entry) (left : Grove) (tail : List Entry) → Lies old.cursor.0 front left tail old.running.now.tables → first_in tail ≡ Some end.0 → Lies old.cursor.0 front Bare tail run.tables)
-      (bases : (p : Place) → base_in run.tables.mods p ≡ base_in old.running.now.tables.mods p) (blocks : (b : BlockId) → block_of run.heap b ≡ block_of old.running.now.heap b)
+      (bases : (p : Place) → base_in run.tables.mods p ≡ base_in old.running.now.tables.mods p) (blocks : KeepsReadable old.running.now.heap run.heap)
       (has : (code : Code) (inputs : List Block) → HasBlocks code inputs old.running.now.heap old.running.now.tables → HasBlocks code inputs run.heap run.tables)
       (spent : run.spent ≡ old.running.now.spent) (kept : Kept run.tables) where
     lies-bare : Lies old.cursor.0 (through a.now.placed.done a.now.placed.last) Bare a.now.tail run.tables

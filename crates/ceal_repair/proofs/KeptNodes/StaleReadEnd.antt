@@ -18,10 +18,11 @@ use Rattle.ceal_order.specs.declared.stamp.Stamp.{Stamp}
 use Rattle.ceal_repair.proofs.Revocation.FirstNode.{cursor-at, front-long}
 use Rattle.ceal_repair.proofs.Nodes.NodeItems.{behind-all, contents-append, contents-base, opened-put, began-put, closed-last, known-append}
 use Rattle.ceal_repair.proofs.Reuse.NoNewEnds.{end-append, append-end, unfinished-none}
-use Rattle.ceal_repair.proofs.Reuse.ReadReuse.{given-same, levels-behind}
+use Rattle.ceal_repair.proofs.Runs.FewNumbers.{given-same}
+use Rattle.ceal_repair.proofs.Reuse.ReadReuse.{levels-behind}
 use Rattle.ceal_repair.proofs.Reuse.AllocReuse.{words-same, course-bare}
 use Rattle.ceal_repair.specs.Around.{Tails, Passes}
-use Rattle.ceal_repair.specs.Blocks.{HasBlocks}
+use Rattle.ceal_repair.specs.Blocks.{HasBlocks, KeepsReadable}
 use Rattle.ceal_repair.specs.Entries.{stamped, closing, entries, first_in, Lies}
 use Rattle.ceal_repair.specs.Moment.{View, Start, RunningNow, PassingNow, through, state_at}
 use Rattle.ceal_repair.specs.Words.{words_of}
@@ -85,7 +86,7 @@ module _ (code : Code) (inputs : List Block) (start : Start) (st : Stack) (w : V
 
   module _ (t : Tables) (heap : Contents) (over : next code (words_of code inputs w.heap) st ≡ Over)
       (l : Lies w.cursor (through now.placed.done now.placed.last) Bare now.tail t) (bases : (p : Place) → base_in t.mods p ≡ base_in w.tables.mods p)
-      (blocks : (b : BlockId) → block_of heap b ≡ block_of w.heap b) (has : HasBlocks code inputs w.heap w.tables → HasBlocks code inputs heap t) (kept : Kept t) where
+      (blocks : KeepsReadable w.heap heap) (has : HasBlocks code inputs w.heap w.tables → HasBlocks code inputs heap t) (kept : Kept t) where
     abbrev end-entry : Entry
     end-entry = closing next-kept.end next-kept.read next-kept.steps
 
@@ -190,5 +191,5 @@ module _ (code : Code) (inputs : List Block) (start : Start) (st : Stack) (w : V
           (λ q c. now.course.same q (subst (λ bs. KnownBlock (length inputs) bs q.block) (known-append [] (forest_of (through now.placed.done now.placed.last)) (item.End ∷ [])) c)
           ∙ (contents-base (base_in w.tables.mods) (base_in t.mods) q (sym (bases q)) (through now.placed.done now.placed.last)
           ∙ sym (ap (λ (f : Store). f q) (contents-append (base_in t.mods) (through now.placed.done now.placed.last) (end-entry ∷ [])))))
-          (given-same start.first (start.chosen ++ now.course.made) w.heap heap blocks now.course.given);
+          (given-same start.first start.numbers (start.chosen ++ now.course.made) w.heap heap blocks now.course.given);
     }

@@ -6,12 +6,14 @@ use Rattle.std.proofs.lemmas.Bool.{eq-eqb}
 use Rattle.ceal_base.specs.Operators.{same_place}
 use Rattle.ceal_base.specs.declared.forest.Item.{Item}
 use Rattle.ceal_base.specs.declared.forest.Item.TheVariants as item
+use Rattle.ceal_base.specs.Trace.{Trace, Nothing, Stepped, Allocated, Wrote, WasRead, flat, blocks_of}
 use Rattle.ceal_base.specs.declared.forest.UnitId.{UnitId}
+use Rattle.ceal_base.specs.declared.word.BlockId.{BlockId}
 use Rattle.ceal_base.specs.declared.word.BlockId.TheVariants.{Input, Core}
 use Rattle.ceal_base.specs.declared.word.Place.{Place}
 use Rattle.ceal_base.specs.declared.word.Word.{Word}
 use Rattle.ceal_code.specs.Known.{Subset}
-use Rattle.ceal_code.specs.Replay.{Store, In, here, there, stored}
+use Rattle.ceal_code.specs.Replay.{Store, In, here, there, core_numbers, stored}
 use Rattle.ceal_order.specs.Stamps.{NotIn, Distinct, is_in}
 use Rattle.ceal_order.specs.declared.stamp.Stamp.{Stamp}
 use Rattle.ceal_code.specs.Stacks.{waits_in}
@@ -515,3 +517,20 @@ distinct-front (e ∷ es) back h = (not-in-front e.stamp es back h.0, distinct-f
 pub distinct-back : (front back : List Entry) → Distinct (stamps_in (front ++ back)) → Distinct (stamps_in back)
 distinct-back [] back h = h
 distinct-back (e ∷ es) back h = distinct-back es back h.1
+
+-- ---- the blocks of a trace are those that its items allocate
+
+core-append : (xs ys : List BlockId) → core_numbers (xs ++ ys) ≡ core_numbers xs ++ core_numbers ys
+core-append [] ys = refl
+core-append (Core b ∷ xs) ys = ap (λ (bs : List ℕ). b ∷ bs) (core-append xs ys)
+core-append (Input i ∷ xs) ys = core-append xs ys
+
+pub blocks-allocs : (l : Trace) → core_numbers (blocks_of l) ≡ allocs (flat l)
+blocks-allocs Nothing = refl
+blocks-allocs (Stepped rest) = blocks-allocs rest
+blocks-allocs (Allocated (Core b) key rest) = ap (λ (bs : List ℕ). b ∷ bs) (blocks-allocs rest)
+blocks-allocs (Allocated (Input i) key rest) = blocks-allocs rest
+blocks-allocs (Wrote p value rest) = blocks-allocs rest
+blocks-allocs (WasRead p value u v args inside rest) =
+    core-append (blocks_of inside) (blocks_of rest) ∙ (ap (λ (bs : List ℕ). bs ++ core_numbers (blocks_of rest)) (blocks-allocs inside)
+    ∙ (ap (λ (bs : List ℕ). allocs (flat inside) ++ bs) (blocks-allocs rest) ∙ sym (allocs-append (flat inside) (item.End ∷ flat rest))))

@@ -1,5 +1,5 @@
 -- Change propagation begins from a kept run.
-use Rattle.std.proofs.Common.{◌≡◌, ℕ, List, [], ◌∷◌, ◌++◌, reverse, refl, sym, ap, subst, ◌∙◌, arith}
+use Rattle.std.proofs.Common.{◌≡◌, ◌≤◌, inl, ℕ, List, [], ◌∷◌, ◌++◌, reverse, refl, sym, ap, subst, ◌∙◌, arith}
 use Rattle.std.proofs.lemmas.List.{reverse-reverse}
 use Rattle.std.specs.Prelude.{IsSome}
 use Rattle.ceal_base.specs.Block.{Block}
@@ -10,9 +10,9 @@ use Rattle.ceal_base.specs.declared.word.BlockId.TheVariants.{Input, Core}
 use Rattle.ceal_base.specs.declared.word.Word.{Word}
 use Rattle.ceal_code.specs.Program.{Code}
 use Rattle.ceal_code.specs.Replay.{In, core_numbers}
-use Rattle.ceal_heap.specs.Heap.{Contents, block_of}
+use Rattle.ceal_heap.specs.Heap.{Contents, next}
 use Rattle.ceal_repair.proofs.Propagation.NewBlockNumbers.{GoesOn, goes-on, begins-sound, is-origin}
-use Rattle.ceal_repair.proofs.Nodes.NodeItems.{allocs-append}
+use Rattle.ceal_repair.proofs.Runs.FewNumbers.{trace-there, trace-only}
 use Rattle.ceal_repair.specs.Answers.{IsKeptRun}
 use Rattle.ceal_repair.specs.Propagation.{HasCome}
 use Rattle.ceal_repair.specs.Repairs.{code_of, inputs_of}
@@ -25,36 +25,14 @@ use Rattle.ceal_theory.specs.KnownContent.{allocs}
 use Rattle.ceal_theory.specs.SliceLaws.{Turns}
 use Rattle.ceal_theory.specs.Slices.{beginning}
 
--- ---- the blocks of a trace are those that its items allocate
-
-core-append : (xs ys : List BlockId) → core_numbers (xs ++ ys) ≡ core_numbers xs ++ core_numbers ys
-core-append [] ys = refl
-core-append (Core b ∷ xs) ys = ap (λ (bs : List ℕ). b ∷ bs) (core-append xs ys)
-core-append (Input i ∷ xs) ys = core-append xs ys
-
-blocks-allocs : (l : Trace) → core_numbers (blocks_of l) ≡ allocs (flat l)
-blocks-allocs Nothing = refl
-blocks-allocs (Stepped rest) = blocks-allocs rest
-blocks-allocs (Allocated (Core b) key rest) = ap (λ (bs : List ℕ). b ∷ bs) (blocks-allocs rest)
-blocks-allocs (Allocated (Input i) key rest) = blocks-allocs rest
-blocks-allocs (Wrote p value rest) = blocks-allocs rest
-blocks-allocs (WasRead p value u v args inside rest) =
-    core-append (blocks_of inside) (blocks_of rest) ∙ (ap (λ (bs : List ℕ). bs ++ core_numbers (blocks_of rest)) (blocks-allocs inside)
-    ∙ (ap (λ (bs : List ℕ). allocs (flat inside) ++ bs) (blocks-allocs rest) ∙ sym (allocs-append (flat inside) (item.End ∷ flat rest))))
-
 -- ---- no turn was made yet
 
 module _ (code : Code) (inputs : List Block) (f : ℕ) (args : List Word) (fuel : ℕ) (l : Trace) (run : Running) (kept : IsKeptRun code inputs f args fuel l run) where
-  called : IsOrigin code inputs f args (since_begun code inputs l)
-  called = is-origin code inputs f args l kept.fits kept.replays
+  called : IsOrigin code inputs f args (since_begun code inputs l (next run.heap))
+  called = is-origin code inputs f args l kept.fits kept.replays (next run.heap)
 
   abbrev some_names : GoesOn [] (core_numbers (blocks_of l))
   some_names = goes-on (core_numbers (blocks_of l)) [] (λ b. omega arith) (λ b i. absurd (elim i [ ]))
-
-  there : (b : ℕ) → In b (core_numbers (blocks_of l)) → IsSome (block_of run.heap (Core b))
-  there b i =
-      let alive = (kept.stands.blocks.lives.live b).1 (subst (λ is. In b (allocs is)) (sym kept.stands.items) (subst (λ bs. In b bs) (blocks-allocs l) i)) in
-      rw alive.1 refl
 
   stands : StandsFor code inputs f args (beginning code inputs l 0) (record run { spent = 0 })
   stands = record {
@@ -68,7 +46,7 @@ module _ (code : Code) (inputs : List Block) (f : ℕ) (args : List Word) (fuel 
     sound = begins-sound code inputs f args l kept.fits kept.replays some_names.names some_names.single some_names.apart;
   }
 
-  so_far : TurnedSoFar code inputs f args (since_begun code inputs l) (record run { spent = 0 })
+  so_far : TurnedSoFar code inputs f args (since_begun code inputs l (next run.heap)) (record run { spent = 0 })
   so_far = record {
     repair = beginning code inputs l 0;
     stands = stands;
@@ -78,12 +56,14 @@ module _ (code : Code) (inputs : List Block) (f : ℕ) (args : List Word) (fuel 
       distinct = λ b. omega arith;
       apart = λ b i. absurd (elim i [ ]);
       there = λ b i. absurd (elim i [ ]);
-      still = there;
+      still = trace-there code inputs f args fuel l run kept;
+      only = λ b some. inl (trace-only code inputs f args fuel l run kept b some);
+      few = inl (omega arith);
     };
     history = λ names go. Turns.none;
   }
 
-  pub has-come : HasCome code inputs f args (since_begun code inputs l) run (record run { spent = 0 })
+  pub has-come : HasCome code inputs f args (since_begun code inputs l (next run.heap)) run (record run { spent = 0 })
   has-come = record {
     called = called;
     items = kept.stands.items;
@@ -100,7 +80,7 @@ same-running a b t h s =
 
 -- a repair that begins on it
 pub has-come-in : (code : Code) (inputs : List Block) (f : ℕ) (args : List Word) (fuel : ℕ) (l : Trace) (run : Running) → IsKeptRun code inputs f args fuel l run
-    → (r : Repair) → code_of r ≡ code → inputs_of r ≡ inputs → r.running.now.tables ≡ run.tables → r.running.now.heap ≡ run.heap → r.running.now.spent ≡ 0 → HasCome (code_of r) (inputs_of r) f args (since_begun code inputs l) run r.running.now
+    → (r : Repair) → code_of r ≡ code → inputs_of r ≡ inputs → r.running.now.tables ≡ run.tables → r.running.now.heap ≡ run.heap → r.running.now.spent ≡ 0 → HasCome (code_of r) (inputs_of r) f args (since_begun code inputs l (next run.heap)) run r.running.now
 has-come-in code inputs f args fuel l run kept r same_code same_inputs tables heap spent =
     let same : r.running.now ≡ record run { spent = 0 } = same-running r.running.now (record run { spent = 0 }) tables heap spent in
     rw (same_code, same_inputs, same) (has-come code inputs f args fuel l run kept)

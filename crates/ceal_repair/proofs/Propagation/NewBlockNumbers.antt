@@ -81,6 +81,13 @@ module _ (code : Code) (inputs : List Block) (f : ℕ) (args : List Word) (o : S
     pub turns-sound : Single names → NamesOff names o.first → (n : ℕ) (z : Repair) → Turns code names inputs n o.repair z → Sound code names inputs f args z
     turns-sound single apart n z t = turns-hold o.repair z n (called.sound names single apart) t
 
+  -- each new block is made by a step that was spent
+  pub turns-room : (names : ℕ → ℕ) → (r z : Repair) (n : ℕ) → Sound code names inputs f args r → Turns code names inputs n r z → z.number + r.spent ≤ r.number + z.spent
+  turns-room names r z n h Turns.none = omega arith
+  turns-room names r z n h (Turns.turn {n = m} {r' = r'} s t) =
+      let one = slice-law code names inputs f args called.fits r h (Some 1) r' s in
+      let rest = turns-room names r' z m one.sound t in omega (arith, one.room, rest)
+
 -- turns, and one more
 pub turns-more : (code : Code) (names : ℕ → ℕ) (inputs : List Block) (r z w : Repair) (n : ℕ) → Turns code names inputs n r z → Slices code names inputs (Some 1) z w → Turns code names inputs (suc n) r w
 turns-more code names inputs r z w n Turns.none s = Turns.turn s Turns.none
@@ -97,5 +104,5 @@ module _ (code : Code) (inputs : List Block) (f : ℕ) (args : List Word) (l : T
   pub begins-sound : (names : ℕ → ℕ) → Single names → NamesOff names (core_numbers (blocks_of l)) → Sound code names inputs f args (beginning code inputs l 0)
   begins-sound names single apart = begin-law code names inputs inputs f args l (above (core_numbers (blocks_of l))) 0 edited-here single (λ k h. apart k)
 
-  pub is-origin : IsOrigin code inputs f args (since_begun code inputs l)
-  is-origin = record { fits = fits; sound = begins-sound }
+  pub is-origin : (numbers : ℕ) → IsOrigin code inputs f args (since_begun code inputs l numbers)
+  is-origin numbers = record { fits = fits; sound = begins-sound }

@@ -1,5 +1,5 @@
 -- Slices from a run that stands for a repair.
-use Rattle.std.proofs.Common.{◌≡◌, ◌≢◌, ℕ, zero, suc, ◌≤◌, ◌<◌, Option, Some, None, List, [], ◌∷◌, inl, inr, ◌⊎◌, refl, sym, ap, ◌∙◌, subst, arith}
+use Rattle.std.proofs.Common.{◌≡◌, ◌≢◌, ℕ, zero, suc, ◌≤◌, ◌<◌, ◌+◌, ◌*◌, length, Option, Some, None, List, [], ◌∷◌, inl, inr, ◌⊎◌, refl, sym, ap, ◌∙◌, subst, arith}
 use Rattle.std.proofs.lemmas.Bool.{cases_order}
 use Rattle.std.proofs.lemmas.Bool.Decides.{eqb_tells}
 use Rattle.std.specs.Prelude.{IsSome}
@@ -10,12 +10,14 @@ use Rattle.ceal_base.specs.declared.word.Word.{Word}
 use Rattle.ceal_code.specs.Program.{Code}
 use Rattle.ceal_code.specs.Fitting.{Fits}
 use Rattle.ceal_code.specs.Replay.{In, here, there, IsHonest, Replays, count}
-use Rattle.ceal_heap.specs.Heap.{block_of, plain_block, Known}
-use Rattle.ceal_repair.proofs.Propagation.NewBlockNumbers.{GoesOn, goes-on}
+use Rattle.ceal_heap.specs.Heap.{block_of, next, plain_block, Known}
+use Rattle.ceal_repair.proofs.Propagation.NewBlockNumbers.{GoesOn, goes-on, turns-room}
 use Rattle.ceal_repair.specs.Propagation.{HasCome, IsUpToDate, IsUnderWay, IsSpent, IsWithin, IsLess, Propagated, KeepsFront}
+use Rattle.ceal_repair.proofs.Runs.FewNumbers.{few-given, few-blocks}
 use Rattle.ceal_repair.proofs.Propagation.KeptRun.{same-running}
 use Rattle.ceal_repair.proofs.Propagation.UpToDateRun.{too-many, concluded-run, spent-out, repaired}
-use Rattle.ceal_repair.specs.Answers.{IsRunOf, IsRepaired}
+use Rattle.ceal_repair.specs.Answers.{IsKeptRun, IsRunOf, IsRepaired}
+use Rattle.ceal_repair.specs.Blocks.{HasFew}
 use Rattle.ceal_repair.specs.Repairs.{code_of, inputs_of}
 use Rattle.ceal_repair.specs.Slicing.{IsPartRun, IsSliceOf, IsSliced}
 use Rattle.ceal_repair.specs.declared.repair.Repair.{Repair as RepairInCode}
@@ -43,15 +45,17 @@ there-in (Some k) block e = cc
 
 module _ (code : Code) (inputs : List Block) (f : ℕ) (args : List Word) (fuel : ℕ) (r : Repair) (run : Running) (part : IsPartRun code inputs f args fuel r run) where
   abbrev pub since : Since
-  since = record { repair = counted_anew r; first = part.stands.sound.blocks; turns = 0 }
+  since = record { repair = counted_anew r; first = part.blocks.blocks; numbers = next run.heap; turns = 0 }
 
   -- a name that is none of the known blocks is not known
-  pub not-known : (names : ℕ → ℕ) → NamesOff names part.stands.sound.blocks → (k : ℕ) → r.known (Core (names k)) ≡ None
+  pub not-known : (names : ℕ → ℕ) → NamesOff names part.blocks.blocks → (k : ℕ) → r.known (Core (names k)) ≡ None
   not-known names off k = of (r.known (Core (names k))) refl
     where
       of : (o : Option Block) → r.known (Core (names k)) ≡ o → r.known (Core (names k)) ≡ None
       of None e = e
-      of (Some block) e = absurd (omega (arith, off k, in-count (names k) part.stands.sound.blocks (part.stands.sound.all (names k) block e)))
+      of (Some block) e =
+          let some = there-in (block_of run.heap (Core (names k))) block (sym (part.stands.known (names k)) ∙ e) in
+          absurd (omega (arith, off k, in-count (names k) part.blocks.blocks ((part.blocks.each (names k)).0 some)))
 
   pub origin : IsOrigin code inputs f args since
   origin = record {
@@ -59,8 +63,8 @@ module _ (code : Code) (inputs : List Block) (f : ℕ) (args : List Word) (fuel 
     sound = λ names single off. other-names-law code part.stands.names names inputs f args r part.stands.sound single 0 (λ k h. not-known names off k);
   }
 
-  abbrev some_names : GoesOn [] part.stands.sound.blocks
-  some_names = goes-on part.stands.sound.blocks [] (λ b. omega arith) (λ b i. absurd (elim i [ ]))
+  abbrev some_names : GoesOn [] part.blocks.blocks
+  some_names = goes-on part.blocks.blocks [] (λ b. omega arith) (λ b i. absurd (elim i [ ]))
 
   stands : StandsFor code inputs f args (counted_anew r) run
   stands = record {
@@ -74,13 +78,6 @@ module _ (code : Code) (inputs : List Block) (f : ℕ) (args : List Word) (fuel 
     sound = origin.sound some_names.names some_names.single some_names.apart;
   }
 
-  known-there : (b : ℕ) → In b part.stands.sound.blocks → (block : Block) × (r.known (Core b) ≡ Some block)
-  unfolding with_inputs
-  known-there b i = let h = part.stands.sound.holds (Core b) i in (h.block, h.there)
-
-  still : (b : ℕ) → In b part.stands.sound.blocks → IsSome (block_of run.heap (Core b))
-  still b i = let k = known-there b i in there-in (block_of run.heap (Core b)) k.0 (sym (part.stands.known b) ∙ k.1)
-
   -- no turn was made yet
   pub begun : HasCome code inputs f args since run run
   begun = record {
@@ -91,7 +88,14 @@ module _ (code : Code) (inputs : List Block) (f : ℕ) (args : List Word) (fuel 
       stands = stands;
       chosen = [];
       number = refl;
-      given = record { distinct = λ b. omega arith; apart = λ b i. absurd (elim i [ ]); there = λ b i. absurd (elim i [ ]); still = still };
+      given = record {
+        distinct = λ b. omega arith;
+        apart = λ b i. absurd (elim i [ ]);
+        there = λ b i. absurd (elim i [ ]);
+        still = λ b i. (part.blocks.each b).1 i;
+        only = λ b some. inl ((part.blocks.each b).0 some);
+        few = inl (omega arith);
+      };
       history = λ names go. Turns.none;
     };
     front = λ front back e agrees. (back, e);
@@ -103,8 +107,8 @@ module _ (code : Code) (inputs : List Block) (f : ℕ) (args : List Word) (fuel 
     abbrev pub last : Repair
     last = come.so_far.repair
 
-    abbrev pub going_on : GoesOn come.so_far.chosen part.stands.sound.blocks
-    going_on = goes-on part.stands.sound.blocks come.so_far.chosen come.so_far.given.distinct come.so_far.given.apart
+    abbrev pub going_on : GoesOn come.so_far.chosen part.blocks.blocks
+    going_on = goes-on part.blocks.blocks come.so_far.chosen come.so_far.given.distinct come.so_far.given.apart
 
     turned : Turned code going_on.names inputs n (counted_anew r) last
     turned = subst (λ m. Turned code going_on.names inputs m (counted_anew r) last) (no-turns-more n)
@@ -121,12 +125,28 @@ module _ (code : Code) (inputs : List Block) (f : ℕ) (args : List Word) (fuel 
     spent-few : now.spent ≤ fuel → last.spent ≤ fuel
     spent-few h = omega (arith, h, come.so_far.stands.spent)
 
+    -- no more blocks were made than steps were spent since
+    few-made-so : length part.blocks.blocks + length come.so_far.chosen ≤ fuel + now.spent
+    few-made-so =
+        let room = turns-room code inputs f args (later n since) come.called going_on.names (counted_anew r) last (turns_more n 0) (origin.sound going_on.names going_on.single going_on.apart)
+            (come.so_far.history going_on.names going_on.continues) in
+        omega (arith, room, come.so_far.number, come.so_far.stands.spent, part.stands.spent, part.blocks.few)
+
+    few-readable : HasFew (fuel + now.spent) now.heap
+    few-readable = few-given part.blocks.blocks (next run.heap) come.so_far.chosen now.heap come.so_far.given (fuel + now.spent) few-made-so
+
+    pub few-numbers : now.spent ≤ fuel → next now.heap ≤ 2 * fuel
+    few-numbers few = elim come.so_far.given.few [
+      | inl l ↦ omega (arith, l, part.numbers)
+      | inr l ↦ omega (arith, l, few-made-so, few)
+    ]
+
     -- as many as there were to be
     pub is-slice : 1 ≤ n → now.spent ≤ fuel → IsSliceOf code inputs (Some n) fuel r (Some last)
     is-slice h few = within (Some n) last (turned.many h) (spent-few few)
 
     pub is-part : now.spent ≤ fuel → IsPartRun code inputs f args fuel last now
-    is-part few = record { fits = part.fits; stands = come.so_far.stands; few = few }
+    is-part few = record { fits = part.fits; stands = come.so_far.stands; few = few; blocks = few-readable; numbers = few-numbers few }
 
     -- to the end: what it is a slice to, which has the same items and has spent as much
     pub is-whole : IsHonest code inputs last.items → (reads : Option ℕ) → reads ≢ Some 0 → IsWithin n reads → now.spent ≤ fuel
@@ -174,7 +194,7 @@ module _ (code : Code) (inputs : List Block) (f : ℕ) (args : List Word) (fuel 
         w.0,
         w.1,
         subst (λ m. IsRunOf code inputs f args fuel m now) (sym w.2)
-            (concluded-run code inputs f args (later h.0 since) before last up fuel end.few now end.tables end.released end.slots),
+            (concluded-run code inputs f args (later h.0 since) before last up fuel end.few (few-numbers before last h.0 up.come low) now end.tables end.released end.slots),
         end.spent ∙ (sym up.come.so_far.stands.spent ∙ sym w.3),
       )
   is-sliced Spent before now reads some few h = is-over h.0 reads h.1 h.2
@@ -192,10 +212,11 @@ front-stays code inputs f args reads fuel o before now Spent n h = absurd (n ref
 front-stays code inputs f args reads fuel o before now OutOfFuel n h = h.2.come.front
 
 -- so it is with the repair of a trace of the call
-pub is-repaired : (code : Code) (inputs : List Block) (f : ℕ) (args : List Word) (reads : Option ℕ) (fuel : ℕ) (l : Trace) → Fits code inputs f args → Replays code inputs f args l → (before now : Running) (p : Progress)
-    → Propagated p code inputs f args reads fuel (since_begun code inputs l) before now → IsRepaired code inputs f args fuel l before now p
-is-repaired code inputs f args reads fuel l fits replays before now More h = tt
-is-repaired code inputs f args reads fuel l fits replays before now Done h =
-    repaired code inputs f args l fits replays h.0 before h.2 h.3 fuel h.4.few now h.4.tables h.4.spent h.4.released h.4.slots
-is-repaired code inputs f args reads fuel l fits replays before now Spent h = spent-out code inputs f args l fits replays h.0 fuel h.2
-is-repaired code inputs f args reads fuel l fits replays before now OutOfFuel h = too-many code inputs f args (later h.0 (since_begun code inputs l)) before now h.2 fuel h.3
+pub is-repaired : (code : Code) (inputs : List Block) (f : ℕ) (args : List Word) (reads : Option ℕ) (fuel : ℕ) (l : Trace) (old : Running) → IsKeptRun code inputs f args fuel l old → (before now : Running) (p : Progress)
+    → Propagated p code inputs f args reads fuel (since_begun code inputs l (next old.heap)) before now → IsRepaired code inputs f args fuel l before now p
+is-repaired code inputs f args reads fuel l old kept before now More h = tt
+is-repaired code inputs f args reads fuel l old kept before now Done h =
+    repaired code inputs f args l kept.fits kept.replays (next old.heap) h.0 before h.2 h.3 fuel h.4.few kept.numbers (let m = few-blocks code inputs f args fuel l old kept in omega (arith, m, kept.few)) now
+    h.4.tables h.4.spent h.4.released h.4.slots
+is-repaired code inputs f args reads fuel l old kept before now Spent h = spent-out code inputs f args l kept.fits kept.replays (next old.heap) h.0 fuel h.2
+is-repaired code inputs f args reads fuel l old kept before now OutOfFuel h = too-many code inputs f args (later h.0 (since_begun code inputs l (next old.heap))) before now h.2 fuel h.3

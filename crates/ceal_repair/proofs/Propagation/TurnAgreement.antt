@@ -232,7 +232,7 @@ module _ (old now : Repair) (turns : ℕ) (t : Turning old now turns) (looked : 
       further new made =
           let next : suc turns ≡ turns + 1 = omega arith in
           let count : suc (turns_more turns o.turns) ≡ turns_more (turns + 1) o.turns = ap (λ n. turns_more n o.turns) next in
-          subst (λ n. HasCome (code_of old) (inputs_of old) f args (record { repair = o.repair; first = o.first; turns = n }) before new.running.now) count
+          subst (λ n. HasCome (code_of old) (inputs_of old) f args (record { repair = o.repair; first = o.first; numbers = o.numbers; turns = n }) before new.running.now) count
           (rw (t.call.code, t.call.inputs) at (comes-further (code_of now) (inputs_of now) f args (later turns o) before now.running.now new.running.now (come-here f args o before h) made))
 
     -- the same for any call

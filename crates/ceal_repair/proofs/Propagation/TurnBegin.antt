@@ -254,7 +254,7 @@ module _ (code : Code) (inputs : List Block) (f : ℕ) (args : List Word) (o : S
   content-now = content-there ∙ sym (store-known at-place there.place)
 
   abbrev pub start : Start
-  start = turn_start code inputs r o.first found.so_far.chosen found.so_far.stands.sound.blocks (read ∷ opens.0) spot (store at-place)
+  start = turn_start code inputs r o.first o.numbers found.so_far.chosen found.so_far.stands.sound.blocks (read ∷ opens.0) spot (store at-place)
 
   pub began : TurnBegan code inputs f args o found.before start
   began = record { called = found.called; so_far = found.so_far; spot = spot; agrees = front-agrees; stale = store-differs; reads = opens.0; opened = opens.1; is = refl }
@@ -362,8 +362,8 @@ module _ (code : Code) (inputs : List Block) (f : ℕ) (args : List Word) (o : S
       same = λ p k. store-known p (subst (λ bs. KnownBlock (length inputs) bs p.block) known-then k)
           ∙ (ap (λ s. contents_after s spot.before p) (sym (fun_ext (λ q. bases-then q)))
           ∙ sym (ap (λ (s : Store). s p) (contents-append (base_in t.mods) spot.before (valued-as (store at-place) 0 ∷ []))));
-      given = subst (λ heap. Given o.first (found.so_far.chosen ++ []) heap) (sym found.heap)
-          (subst (λ bs. Given o.first bs found.before.heap) (sym (append-nil found.so_far.chosen)) found.so_far.given);
+      given = subst (λ heap. Given o.first o.numbers (found.so_far.chosen ++ []) heap) (sym found.heap)
+          (subst (λ bs. Given o.first o.numbers bs found.before.heap) (sym (append-nil found.so_far.chosen)) found.so_far.given);
     }
 
     -- the unit of the read runs, with what is inside it left over

@@ -43,7 +43,7 @@ module _ (code : Code) (inputs : List Block) (f : ℕ) (args : List Word) (o : S
 
   -- the beginning of the turn, written out
   abbrev pub start_there : Start
-  start_there = turn_start code inputs b.so_far.repair o.first b.so_far.chosen b.so_far.stands.sound.blocks (b.spot.read ∷ b.reads) b.spot (store_there b.spot.place)
+  start_there = turn_start code inputs b.so_far.repair o.first o.numbers b.so_far.chosen b.so_far.stands.sound.blocks (b.spot.read ∷ b.reads) b.spot (store_there b.spot.place)
 
   abbrev pub inside_there : Trace
   inside_there = stepped b.spot.steps (trace_in b.spot.inside)

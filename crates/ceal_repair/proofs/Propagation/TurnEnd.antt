@@ -13,10 +13,10 @@ use Rattle.ceal_code.specs.Step.{Stack, Over, next}
 use Rattle.ceal_heap.specs.Heap.{Contents, block_of, plain_block, plain_of}
 use Rattle.ceal_repair.proofs.Propagation.NewBlockNumbers.{GoesOn, goes-on, continues-front, turns-sound, turns-more}
 use Rattle.ceal_repair.proofs.Runs.RunEnd.{frames-none}
-use Rattle.ceal_repair.proofs.Reuse.ReadReuse.{given-same}
+use Rattle.ceal_repair.proofs.Runs.FewNumbers.{given-same}
 use Rattle.ceal_repair.proofs.Nodes.AroundRead.{flat-once, end-closes, spot-nests}
 use Rattle.ceal_repair.proofs.Propagation.TurnCourse.{store_there, start_there, back_there, chosen_now, turn-course}
-use Rattle.ceal_repair.specs.Blocks.{HasBlocks}
+use Rattle.ceal_repair.specs.Blocks.{HasBlocks, KeepsReadable}
 use Rattle.ceal_repair.specs.Entries.{stamped, entry, entries, closing, first_in, Lies}
 use Rattle.ceal_repair.specs.Moment.{View, Start, RunningNow, through, state_at}
 use Rattle.ceal_repair.specs.Repairs.{code_of, inputs_of, view, IsOver}
@@ -45,9 +45,9 @@ unfolding turn
 turn-ended code names s st ws is e over = rw (over, e) refl
 
 -- the words of core blocks that stand as they did
-core-words : (code : Code) (inputs : List Block) (old new : Contents) → ((b : BlockId) → block_of new b ≡ block_of old b) → (b : ℕ) → words_of code inputs old (Core b) ≡ plain_of new (Core b)
+core-words : (code : Code) (inputs : List Block) (old new : Contents) → KeepsReadable old new → (b : ℕ) → words_of code inputs old (Core b) ≡ plain_of new (Core b)
 unfolding words_of with_inputs
-core-words code inputs old new h b = ap (option_map plain_block) (sym (h (Core b)))
+core-words code inputs old new h b = ap (option_map plain_block) (sym (h.blocks (Core b)))
 
 module _ (code : Code) (inputs : List Block) (f : ℕ) (args : List Word) (o : Since) (before : Running) (start : Start) (b : TurnBegan code inputs f args o before start) (st : Stack) (v : View)
     (now : RunningNow code inputs (start_there code inputs f args o before start b) st v) (frames : v.frames ≡ []) where
@@ -70,7 +70,7 @@ module _ (code : Code) (inputs : List Block) (f : ℕ) (args : List Word) (o : S
   chosen = chosen_now code inputs f args o before start b st v now
 
   module _ (over : next code (words_of code inputs v.heap) st ≡ Over) (run : Running) (l' : Lies v.cursor front Bare now.tail run.tables) (kept : Kept run.tables)
-      (blocks : (c : BlockId) → block_of run.heap c ≡ block_of v.heap c) (has : HasBlocks code inputs v.heap v.tables → HasBlocks code inputs run.heap run.tables) (spent : run.spent ≡ v.spent) where
+      (blocks : KeepsReadable v.heap run.heap) (has : HasBlocks code inputs v.heap v.tables → HasBlocks code inputs run.heap run.tables) (spent : run.spent ≡ v.spent) where
     nodes : run.tables.trace.nodes ≡ front ++ closing b.spot.end b.spot.read b.spot.end_steps ∷ b.spot.behind
     nodes = l'.nodes ∙ ap (λ es. front ++ es) bottom.3
 
@@ -137,7 +137,7 @@ module _ (code : Code) (inputs : List Block) (f : ℕ) (args : List Word) (o : S
       stands = stands;
       chosen = chosen;
       number = refl;
-      given = given-same o.first chosen v.heap run.heap blocks now.course.given;
+      given = given-same o.first o.numbers chosen v.heap run.heap blocks now.course.given;
       history = λ names h. turns-more code names inputs o.repair b.so_far.repair (repair_at state one.items) o.turns (old-history names h) (every names h);
     }
 

@@ -1,5 +1,5 @@
 -- What a run that is up to date comes to.
-use Rattle.std.proofs.Common.{◌≡◌, ℕ, ◌<◌, ◌≤◌, Option, Some, None, refl, List, [], length, sym, ap, ◌∙◌, append-nil, arith}
+use Rattle.std.proofs.Common.{◌≡◌, ℕ, ◌<◌, ◌≤◌, ◌*◌, inl, inr, Option, Some, None, refl, List, [], length, sym, ap, ◌∙◌, append-nil, arith}
 use Rattle.ceal_base.proofs.TraceLemmas.{steps-flat}
 use Rattle.ceal_base.specs.Block.{Block}
 use Rattle.ceal_base.specs.Trace.{Trace, flat, blocks_of, steps_of, steps_in}
@@ -12,8 +12,9 @@ use Rattle.ceal_code.specs.Replay.{plain_of, Replays, core_numbers}
 use Rattle.ceal_code.specs.Fitting.{Fits}
 use Rattle.ceal_code.proofs.Words.SameIsEqual.{none-some}
 use Rattle.ceal_base.specs.Finished.{Finished}
-use Rattle.ceal_heap.specs.Heap.{HasSlots, ReleasesRevoked}
-use Rattle.ceal_repair.proofs.Propagation.NewBlockNumbers.{GoesOn, above, goes-on, edited-here, begins-sound}
+use Rattle.ceal_heap.specs.Heap.{HasSlots, ReleasesRevoked, next}
+use Rattle.ceal_repair.proofs.Propagation.NewBlockNumbers.{GoesOn, above, goes-on, edited-here, begins-sound, turns-room}
+use Rattle.ceal_repair.proofs.Runs.FewNumbers.{next-released}
 use Rattle.ceal_repair.proofs.Revocation.BlockRelease.{words-released, none-revoked, blocks-released}
 use Rattle.ceal_repair.specs.Answers.{Stands, IsRunOf, IsRepairFrom, IsRepairedRun}
 use Rattle.ceal_repair.specs.Propagation.{IsUpToDate, IsSpent}
@@ -81,15 +82,22 @@ module _ (code : Code) (inputs : List Block) (f : ℕ) (args : List Word) (o : S
   }
 
   -- so it is a run of the call
-  pub concluded-run : (fuel : ℕ) → steps_in (forest_of run.tables.trace.nodes) ≤ fuel → (after : Running) → after.tables ≡ run.tables → ReleasesRevoked run.heap after.heap → HasSlots after.heap
+  pub concluded-run : (fuel : ℕ) → steps_in (forest_of run.tables.trace.nodes) ≤ fuel → next run.heap ≤ 2 * fuel → (after : Running) → after.tables ≡ run.tables → ReleasesRevoked run.heap after.heap → HasSlots after.heap
       → IsRunOf code inputs f args fuel repair.items after
-  concluded-run fuel few after tables rel slots = record { stands = stands-after after tables rel slots; replays = ended.replays; honest = done.honest; few = omega (arith, few, steps-same); idle = rw tables done.idle }
+  concluded-run fuel few numbers after tables rel slots = record {
+    stands = stands-after after tables rel slots;
+    replays = ended.replays;
+    honest = done.honest;
+    few = omega (arith, few, steps-same);
+    numbers = let same = next-released run.heap after.heap rel in omega (arith, numbers, same);
+    idle = rw tables done.idle;
+  }
 
 -- ---- of a trace of the call
 
-module _ (code : Code) (inputs : List Block) (f : ℕ) (args : List Word) (l : Trace) (fits : Fits code inputs f args) (replays : Replays code inputs f args l) (n : ℕ) where
+module _ (code : Code) (inputs : List Block) (f : ℕ) (args : List Word) (l : Trace) (fits : Fits code inputs f args) (replays : Replays code inputs f args l) (numbers n : ℕ) where
   -- more steps were spent than the fuel: the run from scratch needs more
-  pub spent-out : (fuel : ℕ) → IsSpent code inputs fuel (later n (since_begun code inputs l)) → fresh code f args inputs fuel ≡ None
+  pub spent-out : (fuel : ℕ) → IsSpent code inputs fuel (later n (since_begun code inputs l numbers)) → fresh code f args inputs fuel ≡ None
   spent-out fuel s = go (fresh code f args inputs fuel) refl
     where
       go : (o : Option Finished) → fresh code f args inputs fuel ≡ o → o ≡ None
@@ -103,9 +111,9 @@ module _ (code : Code) (inputs : List Block) (f : ℕ) (args : List Word) (l : T
           let c = (begun-law code s.names inputs inputs f args l number 0 e s.single (λ k h. s.off k)).0 m.0 a.0.work m.1 in
           none-some c.repair (sym s.whole ∙ (slices-law code s.names inputs None fuel (beginning code inputs l 0) c.repair).1 (c.slice, omega (arith, c.spent, few.1)))
 
-  module _ (old run : Running) (done : IsUpToDate code inputs f args (later n (since_begun code inputs l)) old run) where
+  module _ (old run : Running) (done : IsUpToDate code inputs f args (later n (since_begun code inputs l numbers)) old run) where
     abbrev last : Repair
-    last = repair code inputs f args (later n (since_begun code inputs l)) old run done
+    last = repair code inputs f args (later n (since_begun code inputs l numbers)) old run done
 
     abbrev new : GoesOn done.come.so_far.chosen (core_numbers (blocks_of l))
     new = goes-on (core_numbers (blocks_of l)) done.come.so_far.chosen done.come.so_far.given.distinct done.come.so_far.given.apart
@@ -129,10 +137,20 @@ module _ (code : Code) (inputs : List Block) (f : ℕ) (args : List Word) (l : T
         let q = (named-law code inputs inputs f args l next now new.names new.single new.apart fuel).back last.items last.spent adjusts (omega (arith, few, few-work)) in
         record { repair = q.0; is = q.1; same = q.3.same; counted = sym done.come.so_far.stands.spent ∙ sym q.2 }
 
-    pub repaired : (fuel : ℕ) → steps_in (forest_of run.tables.trace.nodes) ≤ fuel → (after : Running) → after.tables ≡ run.tables → after.spent ≡ run.spent → ReleasesRevoked run.heap after.heap → HasSlots after.heap
+    -- no more blocks were made than steps were spent
+    few-numbers : (fuel : ℕ) → steps_of last.items ≤ fuel → numbers ≤ 2 * fuel → length (core_numbers (blocks_of l)) ≤ fuel → next run.heap ≤ 2 * fuel
+    few-numbers fuel few most blocks =
+        let room = turns-room code inputs f args (later n (since_begun code inputs l numbers)) done.come.called new.names (beginning code inputs l 0) last (turns_more n 0)
+            (begins-sound code inputs f args l fits replays new.names new.single new.apart) (done.come.so_far.history new.names new.continues) in
+        elim done.come.so_far.given.few [
+          | inl k ↦ omega (arith, k, most)
+          | inr k ↦ omega (arith, k, room, done.come.so_far.number, few-work, few, blocks)
+        ]
+
+    pub repaired : (fuel : ℕ) → steps_in (forest_of run.tables.trace.nodes) ≤ fuel → numbers ≤ 2 * fuel → length (core_numbers (blocks_of l)) ≤ fuel → (after : Running) → after.tables ≡ run.tables → after.spent ≡ run.spent → ReleasesRevoked run.heap after.heap → HasSlots after.heap
         → IsRepairedRun code inputs f args fuel l old after
-    repaired fuel few after tables spent rel slots =
-        let o = later n (since_begun code inputs l) in
+    repaired fuel few most blocks after tables spent rel slots =
+        let o = later n (since_begun code inputs l numbers) in
         let few-steps : steps_of last.items ≤ fuel = omega (arith, few, steps-same code inputs f args o old run done) in
         record {
           trace = last.items;
@@ -141,6 +159,7 @@ module _ (code : Code) (inputs : List Block) (f : ℕ) (args : List Word) (l : T
             replays = (ended code inputs f args o old run done).replays;
             honest = done.honest;
             few = few-steps;
+            numbers = let m = few-numbers fuel few-steps most blocks in let same = next-released run.heap after.heap rel in omega (arith, m, same);
             idle = rw tables done.idle;
           };
           names = new.names;

@@ -28,7 +28,8 @@ use Rattle.ceal_repair.proofs.Runs.NewBlock.{in-count, cleared-own, cleared-othe
 use Rattle.ceal_repair.proofs.Runs.UnitSteps.{StepMore, placed-step, blocks-more, blocks-steps, items-next, step-nodes}
 use Rattle.ceal_repair.proofs.Nodes.NodeBlocks.{blocks_at, allocs-nodes, node_blocks}
 use Rattle.ceal_repair.specs.Around.{Bounds}
-use Rattle.ceal_repair.specs.Blocks.{HasBlocks, Given}
+use Rattle.ceal_repair.proofs.Runs.FewNumbers.{given-same}
+use Rattle.ceal_repair.specs.Blocks.{HasBlocks, Given, KeepsReadable}
 use Rattle.ceal_repair.specs.Entries.{entry, closing, entries, CutTo, Lies}
 use Rattle.ceal_repair.specs.Moment.{View, Start, Placed, CourseNow, RunningNow, through, state_at, items_before}
 use Rattle.ceal_repair.specs.Repairs.{nodes_to}
@@ -149,7 +150,7 @@ pub record CutMore (code : Code) (inputs : List Block) (cursor found : ℕ) (fro
   pub cuts : CutTo found left rest
   pub lies : Lies cursor front rest tail mid
   pub bases : (p : Place) → base_in mid.mods p ≡ base_in old.mods p
-  pub blocks : (b : BlockId) → block_of heap' b ≡ block_of heap b
+  pub blocks : KeepsReadable heap heap'
   pub has : HasBlocks code inputs heap old → HasBlocks code inputs heap' mid
   pub kept_mid : Kept mid
   pub nodes : new.trace.nodes ≡ with_steps found 0 mid.trace.nodes
@@ -166,12 +167,12 @@ pub words-core : (code : Code) (inputs : List Block) (heap : Contents) (b : ℕ)
 unfolding words_of with_inputs
 words-core code inputs heap b = refl
 
-pub words-same : (code : Code) (inputs : List Block) (heap heap' : Contents) → ((b : BlockId) → block_of heap' b ≡ block_of heap b) → words_of code inputs heap' ≡ words_of code inputs heap
+pub words-same : (code : Code) (inputs : List Block) (heap heap' : Contents) → KeepsReadable heap heap' → words_of code inputs heap' ≡ words_of code inputs heap
 words-same code inputs heap heap' h = fun_ext go
   where
     go : (b : BlockId) → words_of code inputs heap' b ≡ words_of code inputs heap b
     go (Input i) = words-input code inputs heap heap' i
-    go (Core b) = words-core code inputs heap' b ∙ (ap (option_map plain_block) (h (Core b)) ∙ sym (words-core code inputs heap b))
+    go (Core b) = words-core code inputs heap' b ∙ (ap (option_map plain_block) (h.blocks (Core b)) ∙ sym (words-core code inputs heap b))
 
 pub default-known : (structs : List StructInfo) (s : Standing) (block : Block) → option_map plain_block (known s) ≡ Some block → (field : ℕ) → default_of structs s field ≡ cell_default (field_kind structs block.shape field)
 default-known structs Unused block h field = absurd (cc)
@@ -187,14 +188,6 @@ blocks-through : (done : List Entry) (last : Entry) → blocks_at (through done 
 blocks-through [] last = refl
 blocks-through (e ∷ es) last = ap (node_blocks e.node) (blocks-through es last)
 
-given-same : (firsts chosen : List ℕ) (heap heap' : Contents) → ((b : BlockId) → block_of heap' b ≡ block_of heap b) → Given firsts chosen heap → Given firsts chosen heap'
-given-same firsts chosen heap heap' h g = record {
-  distinct = g.distinct;
-  apart = g.apart;
-  there = λ b i. subst (λ o. IsSome o) (sym (h (Core b))) (g.there b i);
-  still = λ b i. subst (λ o. IsSome o) (sym (h (Core b))) (g.still b i);
-}
-
 -- after one turn that makes no block, where steps are dropped of what is left over
 module _ (code : Code) (inputs : List Block) (start : Start) (v : View) (front : List Entry) (items : List Item) (m : State → Machine) (c : CourseNow code inputs start v front items m) where
   pub course-bare : (v' : View) (front' : List Entry) (items' : List Item) (m' : State → Machine) (w : List Item) (store' : Store) (mid : Machine) → items' ≡ items ++ w
@@ -202,7 +195,7 @@ module _ (code : Code) (inputs : List Block) (start : Start) (v : View) (front :
       → mid.state.number ≡ (m (state_at code inputs v c.store (start.chosen ++ c.made))).state.number
       → BareSame mid (m' (state_at code inputs v' store' (start.chosen ++ c.made)))
       → ((p : Place) → KnownBlock (length inputs) (known_after [] items') p.block → store' p ≡ contents_after (base_in v'.tables.mods) front' p)
-      → Given start.first (start.chosen ++ c.made) v'.heap
+      → Given start.first start.numbers (start.chosen ++ c.made) v'.heap
       → CourseNow code inputs start v' front' items' m'
   course-bare v' front' items' m' w store' mid e t number bare same given =
       let old : Machine = m (state_at code inputs v c.store (start.chosen ++ c.made)) in
@@ -437,5 +430,5 @@ module _ (code : Code) (inputs : List Block) (start : Start) (st : Stack) (v : V
         (λ s. running_at s (Run u i (set env x (pointer key the-match.block)) below) now.waits (forest_of (entries the-match.behind ++ now.tail)))
         (item.Step ∷ item.Alloc the-match.block key ∷ []) (cleared code now.course.store the-match.block key) (mid-machine (Run u i (set env x (pointer key the-match.block)) below))
         items-then (taken-turn x u i env below does) (mid-number (Run u i (set env x (pointer key the-match.block)) below)) (bare-then (Run u i (set env x (pointer key the-match.block)) below)) same-then
-        (given-same start.first (start.chosen ++ now.course.made) v.heap heap c.blocks now.course.given);
+        (given-same start.first start.numbers (start.chosen ++ now.course.made) v.heap heap c.blocks now.course.given);
   }

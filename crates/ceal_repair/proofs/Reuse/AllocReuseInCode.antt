@@ -8,7 +8,7 @@ use Rattle.ceal_base.specs.declared.word.BlockId.{BlockId}
 use Rattle.ceal_base.specs.declared.word.Place.{Place}
 use Rattle.ceal_code.specs.Program.{Code}
 use Rattle.ceal_code.specs.Step.{Stack}
-use Rattle.ceal_heap.specs.Heap.{Contents, block_of}
+use Rattle.ceal_heap.specs.Heap.{Contents, block_of, next}
 use Rattle.ceal_order.specs.Stamps.{is_in, head_of}
 use Rattle.ceal_order.specs.declared.stamp.Stamp.{Stamp}
 use Rattle.ceal_repair.proofs.Revocation.FirstNode.{has-first}
@@ -18,7 +18,7 @@ use Rattle.ceal_repair.proofs.Runs.UnitSteps.{blocks-more, step-nodes, step-late
 use Rattle.ceal_repair.proofs.Nodes.NodeBlocks.{node-step}
 use Rattle.ceal_repair.proofs.Reuse.AllocReuse.{bound-now, left-is, CutMore}
 use Rattle.ceal_repair.proofs.Runs.RepairView.{IsStepped, cursor-kept}
-use Rattle.ceal_repair.specs.Blocks.{HasBlocks}
+use Rattle.ceal_repair.specs.Blocks.{HasBlocks, KeepsReadable}
 use Rattle.ceal_repair.specs.Entries.{closing, entries, starts, first_stamp, CutTo, IsUntil, Lies}
 use Rattle.ceal_repair.specs.Moment.{Start, through}
 use Rattle.ceal_repair.specs.Repairs.{code_of, inputs_of, view, RunsAt, left_nodes}
@@ -74,7 +74,7 @@ module _ (old new : Repair) (h : IsStepped old new) (start : Start) (st : Stack)
       pub found-there : has_node found.0 t2.trace.nodes ≡ true
       found-there = has-first old.cursor.0 found.0 (through now.placed.done (more now.placed.last)) cut-result.0 now.tail t2 kept cut-result.2 (cut-first cut-result.1)
 
-      pub cut-more-code : (heap : Contents) (t : Tables) → ((p : Place) → base_in t2.mods p ≡ base_in new.running.now.tables.mods p) → ((b : BlockId) → block_of heap b ≡ block_of new.running.now.heap b)
+      pub cut-more-code : (heap : Contents) (t : Tables) → ((p : Place) → base_in t2.mods p ≡ base_in new.running.now.tables.mods p) → KeepsReadable new.running.now.heap heap
           → ((code : Code) (inputs : List Block) → HasBlocks code inputs new.running.now.heap new.running.now.tables → HasBlocks code inputs heap t2)
           → t.trace.nodes ≡ with_steps found.0 0 t2.trace.nodes → t.mods ≡ t2.mods → t.stale ≡ t2.stale → Kept t
           → CutMore (code_of old) (inputs_of old) old.cursor.0 found.0 (through now.placed.done (more now.placed.last)) now.left cut-result.0 now.tail old.running.now.heap heap new.running.now.tables t2 t
@@ -82,7 +82,7 @@ module _ (old new : Repair) (h : IsStepped old new) (start : Start) (st : Stack)
         cuts = cut-result.1;
         lies = cut-result.2;
         bases = bases;
-        blocks = λ b. blocks b ∙ ap (λ z. block_of z b) h.heap;
+        blocks = record { blocks = λ b. blocks.blocks b ∙ ap (λ z. block_of z b) h.heap; numbers = blocks.numbers ∙ ap (λ (z : Contents). next z) h.heap };
         has = λ k. has (code_of old) (inputs_of old) (subst (λ z. HasBlocks (code_of old) (inputs_of old) z new.running.now.tables) (sym h.heap) k);
         kept_mid = kept;
         nodes = nodes;

@@ -32,7 +32,8 @@ use Rattle.ceal_repair.proofs.Nodes.NodeBlocks.{blocks_at, node_blocks}
 use Rattle.ceal_repair.proofs.Reuse.ReadMatch.{MatchRead, match-read}
 use Rattle.ceal_repair.proofs.Reuse.AllocReuse.{bound-now, words-same, course-bare}
 use Rattle.ceal_repair.specs.Around.{Tails, Passes, Inside}
-use Rattle.ceal_repair.specs.Blocks.{HasBlocks, Given}
+use Rattle.ceal_repair.proofs.Runs.FewNumbers.{given-same}
+use Rattle.ceal_repair.specs.Blocks.{HasBlocks, Given, KeepsReadable}
 use Rattle.ceal_repair.specs.Entries.{stamped, entry, closing, entries, CutTo, Lies}
 use Rattle.ceal_repair.specs.Moment.{View, Start, Placed, RunningNow, PassingNow, through, state_at}
 use Rattle.ceal_repair.specs.declared.frame.Frame.TheVariants.{Taken}
@@ -68,14 +69,6 @@ before-part e back (x ∷ xs) h = elim (eqb_tells x.stamp e.stamp) [
   | inl p ↦ absurd (let bad : true ≡ false = rw p.0 at h in cc)
   | inr p ↦ rw p.0 (ap (λ es. x ∷ es) (before-part e back xs (rw p.0 at h)))
 ]
-
-pub given-same : (firsts chosen : List ℕ) (heap heap' : Contents) → ((b : BlockId) → block_of heap' b ≡ block_of heap b) → Given firsts chosen heap → Given firsts chosen heap'
-given-same firsts chosen heap heap' h g = record {
-  distinct = g.distinct;
-  apart = g.apart;
-  there = λ b i. subst (λ o. IsSome o) (sym (h (Core b))) (g.there b i);
-  still = λ b i. subst (λ o. IsSome o) (sym (h (Core b))) (g.still b i);
-}
 
 -- the end of a read among nodes
 pub end-is : (t : Tables) → Kept t → (e r m : ℕ) (front inside later : List Entry) → t.trace.nodes ≡ front ++ (inside ++ closing e r m ∷ later) → end_in r t.trace.nodes ≡ Some e
@@ -167,7 +160,7 @@ pub record CutDone (code : Code) (inputs : List Block) (cursor found : ℕ) (fro
   pub cuts : CutTo found left rest
   pub lies : Lies cursor front rest tail new
   pub bases : (p : Place) → base_in new.mods p ≡ base_in old.mods p
-  pub blocks : (b : BlockId) → block_of heap' b ≡ block_of heap b
+  pub blocks : KeepsReadable heap heap'
   pub has : HasBlocks code inputs heap old → HasBlocks code inputs heap' new
   pub kept : Kept new
 
@@ -383,7 +376,7 @@ module _ (code : Code) (inputs : List Block) (start : Start) (st : Stack) (v : V
           (item.Step ∷ item.Read p w u x args ∷ []) now.course.store (mid-running w)
           (items-next code inputs start st v now found.0 (Read p w u x args)) (stale-turn w word-now other-word) (running-number w) (bare-running w)
           (λ q k. same-then t bases-then w 0 q (subst (λ is. KnownBlock (length inputs) (known_after [] is) q.block) (forest-put (through now.placed.done (more now.placed.last)) found.0 (Read p w u x args)) k))
-          (given-same start.first (start.chosen ++ now.course.made) v.heap heap c.blocks now.course.given);
+          (given-same start.first start.numbers (start.chosen ++ now.course.made) v.heap heap c.blocks now.course.given);
     }
 
   -- ---- the read is honest: what is inside it is passed
@@ -469,5 +462,5 @@ module _ (code : Code) (inputs : List Block) (start : Start) (st : Stack) (v : V
           (item.Step ∷ item.Read p the-match.value u x args ∷ []) now.course.store (mid-fixing the-match.value)
           (items-then the-match.value) (honest-turn the-match.value value-now same-value) (fixing-number the-match.value) (bare-fixing the-match.value)
           (λ q k. same-then t cells the-match.value the-match.steps q k)
-          (given-same start.first (start.chosen ++ now.course.made) v.heap heap c.blocks now.course.given);
+          (given-same start.first start.numbers (start.chosen ++ now.course.made) v.heap heap c.blocks now.course.given);
     }

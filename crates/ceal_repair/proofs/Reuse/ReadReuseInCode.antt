@@ -9,7 +9,7 @@ use Rattle.ceal_base.specs.declared.word.Place.{Place}
 use Rattle.ceal_base.specs.declared.word.Word.{Word}
 use Rattle.ceal_code.specs.Program.{Code}
 use Rattle.ceal_code.specs.Step.{Stack}
-use Rattle.ceal_heap.specs.Heap.{Contents, block_of}
+use Rattle.ceal_heap.specs.Heap.{Contents, block_of, next}
 use Rattle.ceal_memo.specs.declared.key.ReadKey.{ReadKey}
 use Rattle.ceal_order.specs.Stamps.{head_of}
 use Rattle.ceal_order.specs.declared.stamp.Stamp.{Stamp}
@@ -22,7 +22,7 @@ use Rattle.ceal_repair.proofs.Reuse.ReadMatch.{first-starts, none-read}
 use Rattle.ceal_repair.proofs.Reuse.ReadReuse.{CutDone}
 use Rattle.ceal_repair.proofs.Reuse.AllocReuse.{bound-now, left-is}
 use Rattle.ceal_repair.proofs.Runs.RepairView.{IsStepped, cursor-kept, stepped-view}
-use Rattle.ceal_repair.specs.Blocks.{HasBlocks}
+use Rattle.ceal_repair.specs.Blocks.{HasBlocks, KeepsReadable}
 use Rattle.ceal_repair.specs.Entries.{stamped, entries, CutTo, IsUntil, Lies}
 use Rattle.ceal_repair.specs.Moment.{View, Start, PassingNow, through}
 use Rattle.ceal_repair.specs.declared.frame.Frame.{Frame}
@@ -67,14 +67,14 @@ module _ (old new : Repair) (h : IsStepped old new) (start : Start) (st : Stack)
     pub read-first : QueuedFrom found.0 t2
     read-first = queued-from old.cursor.0 found.0 (through now.placed.done (more now.placed.last)) cut-read.0 now.tail t2 kept cut-read.2 (cut-first cut-read.1)
 
-    pub cut-done : (heap : Contents) → ((q : Place) → base_in t2.mods q ≡ base_in new.running.now.tables.mods q) → ((b : BlockId) → block_of heap b ≡ block_of new.running.now.heap b)
+    pub cut-done : (heap : Contents) → ((q : Place) → base_in t2.mods q ≡ base_in new.running.now.tables.mods q) → KeepsReadable new.running.now.heap heap
         → ((code : Code) (inputs : List Block) → HasBlocks code inputs new.running.now.heap new.running.now.tables → HasBlocks code inputs heap t2)
         → CutDone (code_of old) (inputs_of old) old.cursor.0 found.0 (through now.placed.done (more now.placed.last)) now.left cut-read.0 now.tail old.running.now.heap heap new.running.now.tables t2
     cut-done heap bases blocks has = record {
       cuts = cut-read.1;
       lies = cut-read.2;
       bases = bases;
-      blocks = λ b. blocks b ∙ ap (λ z. block_of z b) h.heap;
+      blocks = record { blocks = λ b. blocks.blocks b ∙ ap (λ z. block_of z b) h.heap; numbers = blocks.numbers ∙ ap (λ (z : Contents). next z) h.heap };
       has = λ k. has (code_of old) (inputs_of old) (subst (λ z. HasBlocks (code_of old) (inputs_of old) z new.running.now.tables) (sym h.heap) k);
       kept = kept;
     }

@@ -19,7 +19,7 @@ use Rattle.ceal_repair.proofs.Reuse.ReadMatch.{MatchRead}
 use Rattle.ceal_repair.proofs.Reuse.ReadReuse.{CutDone, the-match, node-there, node-then, end-then, end-same, now-retake, now-enter}
 use Rattle.ceal_repair.proofs.Reuse.ReadReuseInCode.{reads-left, cut-read, cut-done, read-first, same-place, same-value, bases-cells}
 use Rattle.ceal_repair.proofs.Runs.RepairView.{IsStepped}
-use Rattle.ceal_repair.specs.Blocks.{HasBlocks}
+use Rattle.ceal_repair.specs.Blocks.{HasBlocks, KeepsReadable}
 use Rattle.ceal_repair.specs.Entries.{stamped, entries, CutTo, Lies}
 use Rattle.ceal_repair.specs.Kept.{Kept, IsStale, IsHonestRecord, Records, QueuedFrom, QueuedBehind, base_in, contents_at}
 use Rattle.ceal_repair.specs.Lists.{recalls, stamps_where}
@@ -42,7 +42,7 @@ pub record IsCut (old new : Repair) (closure : Closure) (found : Stamp) (run : R
   pub matches : head_of (stamps_where (recalls (key_in closure)) (left_nodes old)) ≡ Some found.0
   pub there : CutsThere new.cursor.0 found.0 new.running.now.tables run.tables
   pub bases : (p : Place) → base_in run.tables.mods p ≡ base_in new.running.now.tables.mods p
-  pub blocks : (b : BlockId) → block_of run.heap b ≡ block_of new.running.now.heap b
+  pub blocks : KeepsReadable new.running.now.heap run.heap
   pub has : (code : Code) (inputs : List Block) → HasBlocks code inputs new.running.now.heap new.running.now.tables → HasBlocks code inputs run.heap run.tables
   pub kept : Kept run.tables
   pub aside : stack_in old.stack.now ≡ waits_in below

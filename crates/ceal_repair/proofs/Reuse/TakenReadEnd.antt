@@ -21,10 +21,11 @@ use Rattle.ceal_repair.proofs.Revocation.FirstNode.{cursor-at, front-long}
 use Rattle.ceal_repair.proofs.Nodes.NodeItems.{behind-all, contents-put, contents-base, forest-put, opened-put, began-put, closed-last, known-append}
 use Rattle.ceal_repair.proofs.Runs.UnitSteps.{blocks-steps}
 use Rattle.ceal_repair.proofs.Reuse.NoNewEnds.{end-append, append-end, unfinished-none}
-use Rattle.ceal_repair.proofs.Reuse.ReadReuse.{given-same, levels-behind, first-ticks, around-ticks}
+use Rattle.ceal_repair.proofs.Runs.FewNumbers.{given-same}
+use Rattle.ceal_repair.proofs.Reuse.ReadReuse.{levels-behind, first-ticks, around-ticks}
 use Rattle.ceal_repair.proofs.Reuse.AllocReuse.{words-same, course-bare}
 use Rattle.ceal_repair.specs.Around.{Tails}
-use Rattle.ceal_repair.specs.Blocks.{HasBlocks}
+use Rattle.ceal_repair.specs.Blocks.{HasBlocks, KeepsReadable}
 use Rattle.ceal_repair.specs.Entries.{stamped, entry, closing, entries, first_in, Lies}
 use Rattle.ceal_repair.specs.Moment.{View, Start, RunningNow, through, state_at}
 use Rattle.ceal_repair.specs.Words.{words_of}
@@ -101,7 +102,7 @@ module _ (code : Code) (inputs : List Block) (start : Start) (st : Stack) (w : V
 
   module _ (t1 t : Tables) (heap : Contents) (over : next code (words_of code inputs w.heap) st ≡ Over)
       (l : Lies w.cursor (through now.placed.done now.placed.last) Bare now.tail t1) (bases : (p : Place) → base_in t1.mods p ≡ base_in w.tables.mods p)
-      (blocks : (b : BlockId) → block_of heap b ≡ block_of w.heap b) (has : HasBlocks code inputs w.heap w.tables → HasBlocks code inputs heap t1) (kept1 : Kept t1)
+      (blocks : KeepsReadable w.heap heap) (has : HasBlocks code inputs w.heap w.tables → HasBlocks code inputs heap t1) (kept1 : Kept t1)
       (dropped : t.trace.nodes ≡ with_steps next-taken.end 0 t1.trace.nodes) (mods : t.mods ≡ t1.mods) (queue : t.stale ≡ t1.stale) (kept : Kept t) where
     nodes-mid : t1.trace.nodes ≡ through now.placed.done now.placed.last ++ closing next-taken.end next-taken.read next-taken.steps ∷ (entries next-taken.behind ++ next-taken.rest)
     nodes-mid = l.nodes ∙ ap (λ es. through now.placed.done now.placed.last ++ es) next-taken.tail_is
@@ -230,5 +231,5 @@ module _ (code : Code) (inputs : List Block) (start : Start) (st : Stack) (w : V
           (λ q c. now.course.same q (known-before q c)
           ∙ (contents-base (base_in w.tables.mods) (base_in t.mods) q (sym (bases-then q)) (through now.placed.done now.placed.last)
           ∙ sym (ap (λ (f : Store). f q) (contents-put (base_in t.mods) (through now.placed.done now.placed.last) next-taken.end (End (stamped next-taken.read))))))
-          (given-same start.first (start.chosen ++ now.course.made) w.heap heap blocks now.course.given);
+          (given-same start.first start.numbers (start.chosen ++ now.course.made) w.heap heap blocks now.course.given);
     }

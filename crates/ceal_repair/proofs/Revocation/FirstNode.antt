@@ -17,6 +17,7 @@ use Rattle.ceal_heap.specs.Heap.{Contents, Standing, Unused, Live, Revoked, Rele
 use Rattle.ceal_order.specs.Stamps as order
 use Rattle.ceal_order.specs.Stamps.{is_in}
 use Rattle.ceal_repair.proofs.Nodes.NodeItems.{entries-joined, position-front, behind-all, not-in-is}
+use Rattle.ceal_repair.proofs.Runs.FewNumbers.{known-revoked}
 use Rattle.ceal_repair.proofs.Runs.NewBlock.{in-count, count-in, node-count}
 use Rattle.ceal_repair.proofs.Nodes.NodeBlocks.{node_blocks, blocks_at, allocs-nodes}
 use Rattle.ceal_repair.specs.Blocks.{There, Lives, HasBlocks}
@@ -289,12 +290,6 @@ default-revoked structs Unused field = refl
 default-revoked structs (Live block) field = refl
 default-revoked structs (Revoked block) field = refl
 default-revoked structs (Released shape) field = refl
-
-known-revoked : (s : Standing) → known (revoked s) ≡ known s
-known-revoked Unused = refl
-known-revoked (Live block) = refl
-known-revoked (Revoked block) = refl
-known-revoked (Released shape) = refl
 
 -- the block of an allocation that is taken out is revoked
 module _ (b : ℕ) (key : Key) (s : ℕ) (heap heap' : Contents) (old new : List Entry) (d : order.Distinct (stamps_in old)) (at-node : node_at s old ≡ Some (Alloc (Core b) key)) (nodes : new ≡ without_entry s old)

@@ -7,7 +7,7 @@ use Rattle.ceal_code.specs.Program.{Code}
 use Rattle.ceal_heap.specs.Heap.{block_of}
 use Rattle.ceal_order.specs.Stamps.{is_in, successor}
 use Rattle.ceal_repair.proofs.Revocation.FirstNode.{LeftOf, until-still, is-first, cut-more, cut-there, cut-all, not-none, cursor-there}
-use Rattle.ceal_repair.specs.Blocks.{HasBlocks}
+use Rattle.ceal_repair.specs.Blocks.{HasBlocks, KeepsReadable}
 use Rattle.ceal_repair.specs.Entries.{first_stamp, first_in, starts, CutTo, IsNoneOr, IsUntil, Lies}
 use Rattle.ceal_repair.specs.declared.running.Running.{Running}
 use Rattle.ceal_repair.specs.Kept.{Kept, base_in}
@@ -19,7 +19,7 @@ pub record Revoking (cursor until : ℕ) (old now : Running) : Type 0 where
   pub kept : Kept now.tables
   pub left : (front : List Entry) (left : Grove) (tail : List Entry) → Lies cursor front left tail old.tables → IsUntil until left tail → LeftOf cursor until front left tail now.tables
   pub bases : (p : Place) → base_in now.tables.mods p ≡ base_in old.tables.mods p
-  pub blocks : (b : BlockId) → block_of now.heap b ≡ block_of old.heap b
+  pub blocks : KeepsReadable old.heap now.heap
   pub has : (code : Code) (inputs : List Block) → HasBlocks code inputs old.heap old.tables → HasBlocks code inputs now.heap now.tables
   pub spent : now.spent ≡ old.spent
   pub looks : due now.tables ≤ due old.tables
@@ -37,7 +37,7 @@ module _ (cursor until : ℕ) (old now : Running) (r : Revoking cursor until old
 
   pub one-revoked : (s : ℕ) (new : Running) → successor cursor (stamps_in now.tables.trace.nodes) ≡ Some s → s ≢ until
       → ((front : List Entry) (left : Grove) (tail : List Entry) → Lies cursor front left tail now.tables → first_stamp left ≡ Some s → Lies cursor front (cut left) tail new.tables)
-      → ((p : Place) → base_in new.tables.mods p ≡ base_in now.tables.mods p) → ((b : BlockId) → block_of new.heap b ≡ block_of now.heap b)
+      → ((p : Place) → base_in new.tables.mods p ≡ base_in now.tables.mods p) → KeepsReadable now.heap new.heap
       → ((code : Code) (inputs : List Block) → HasBlocks code inputs now.heap now.tables → HasBlocks code inputs new.heap new.tables) → new.spent ≡ now.spent → due new.tables ≤ due now.tables → NoneDiffers now.tables new.tables → Kept new.tables
       → Revoking cursor until old new
   one-revoked s new n other lies bases blocks has spent looks differed kept = record {
@@ -47,7 +47,7 @@ module _ (cursor until : ℕ) (old now : Running) (r : Revoking cursor until old
         let f = next-first s n other front left tail l u in
         cut-more cursor until s front left tail now.tables new.tables k f other (lies front k.rest tail k.lies f);
     bases = λ p. bases p ∙ r.bases p;
-    blocks = λ b. blocks b ∙ r.blocks b;
+    blocks = record { blocks = λ b. blocks.blocks b ∙ r.blocks.blocks b; numbers = blocks.numbers ∙ r.blocks.numbers };
     has = λ code inputs h. has code inputs (r.has code inputs h);
     spent = spent ∙ r.spent;
     looks = omega (arith, looks, r.looks);

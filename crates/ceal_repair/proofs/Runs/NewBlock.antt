@@ -31,7 +31,8 @@ use Rattle.ceal_repair.proofs.Runs.NewRead.{known-there}
 use Rattle.ceal_repair.proofs.Runs.RepairView.{IsStepped, cursor-kept}
 use Rattle.ceal_repair.specs.Repairs.{code_of, inputs_of}
 use Rattle.ceal_repair.specs.declared.repair.Repair.{Repair}
-use Rattle.ceal_repair.specs.Blocks.{There, HasBlocks, Given}
+use Rattle.ceal_repair.proofs.Runs.FewNumbers.{few-made}
+use Rattle.ceal_repair.specs.Blocks.{There, HasBlocks, Given, GivesOne}
 use Rattle.ceal_repair.specs.Entries.{entries}
 use Rattle.ceal_repair.specs.Moment.{View, Start, Placed, CourseNow, RunningNow, Unfinished, through, state_at, items_before}
 use Rattle.ceal_repair.specs.Words.{HasBases, words_of, default_of}
@@ -83,6 +84,15 @@ count-last : (c b : ℕ) (bs : List ℕ) → count c (bs ++ b ∷ []) ≡ (if b 
 count-last c b [] = omega arith
 count-last c b (d ∷ bs) = omega (arith, count-last c b bs)
 
+last-in : (b : ℕ) (bs : List ℕ) → In b (bs ++ b ∷ [])
+last-in b [] = here
+last-in b (d ∷ bs) = there (last-in b bs)
+
+front-in : (c b : ℕ) (bs : List ℕ) → In c bs → In c (bs ++ b ∷ [])
+front-in c b [] i = elim i [ ]
+front-in c b (d ∷ bs) here = here
+front-in c b (d ∷ bs) (there i) = there (front-in c b bs i)
+
 in-last : (c b : ℕ) (bs : List ℕ) → In c (bs ++ b ∷ []) → In c bs ⊎ (c ≡ b)
 in-last c b [] here = inr refl
 in-last c b [] (there i) = elim i [ ]
@@ -112,6 +122,7 @@ pub record MadeBlock (code : Code) (inputs : List Block) (c : BlockId) (key : Ke
   pub live : IsLive heap' c
   pub words : plain_of heap' c ≡ Some (made code (words_of code inputs heap) key)
   pub others : KeepsBlocks c heap heap'
+  pub numbers : GivesOne heap heap'
   pub bases : HasBases code.structs inputs heap old.mods → HasBases code.structs inputs heap' new.mods
   pub kept_bases : (p : Place) → p.block ≢ c → base_in new.mods p ≡ base_in old.mods p
   pub trace : new.trace ≡ old.trace
@@ -295,8 +306,8 @@ module _ (code : Code) (inputs : List Block) (b : ℕ) (key : Key) (heap heap' :
   late-made has cursor kept late r i = subst (λ (z : _). position cursor z.nodes < position r z.nodes) (sym h.trace) (late r (none-made has kept r i))
 
   -- the numbers that were chosen
-  pub given-made : (firsts chosen : List ℕ) → Given firsts chosen heap → Given firsts (chosen ++ b ∷ []) heap'
-  given-made firsts chosen g = record {
+  pub given-made : (firsts : List ℕ) (numbers : ℕ) (chosen : List ℕ) → Given firsts numbers chosen heap → Given firsts numbers (chosen ++ b ∷ []) heap'
+  given-made firsts numbers chosen g = record {
     distinct = λ c. elim (eqb_tells b c) [
       | inl p ↦
           let n : count c (chosen ++ b ∷ []) ≡ 1 + count c chosen = rw p.0 at (count-last c b chosen) in
@@ -315,6 +326,11 @@ module _ (code : Code) (inputs : List Block) (b : ℕ) (key : Key) (heap heap' :
       | inr e ↦ subst (λ d. IsSome (block_of heap' (Core d))) (sym e) live-there
     ];
     still = λ c i. still-some (Core c) (g.still c i);
+    only = λ c some. elim (eqb_tells b c) [
+      | inl p ↦ inr (subst (λ d. In d (chosen ++ b ∷ [])) p.1 (last-in b chosen))
+      | inr p ↦ elim (g.only c (subst (λ s. IsSome (known s)) (h.others (Core c) (λ e. p.1 (sym (core-same c b e)))) some)) [ inl i ↦ inl i | inr i ↦ inr (front-in c b chosen i) ]
+    ];
+    few = few-made firsts numbers chosen b heap heap' g h.numbers;
   }
 
 -- ---- contents of places that nobody wrote
@@ -382,7 +398,7 @@ module _ (code : Code) (inputs : List Block) (start : Start) (v : View) (front :
       → turn code names (m (state_at code inputs v c.store (start.chosen ++ c.made))) ≡ Went w (m' (state_at code inputs v' store' (start.chosen ++ (c.made ++ b ∷ [])))))
       → (m' (state_at code inputs v' store' (start.chosen ++ (c.made ++ b ∷ [])))).state.number ≡ (m (state_at code inputs v c.store (start.chosen ++ c.made))).state.number + 1
       → ((p : Place) → KnownBlock (length inputs) (known_after [] items') p.block → store' p ≡ contents_after (base_in v'.tables.mods) front' p)
-      → Given start.first (start.chosen ++ (c.made ++ b ∷ [])) v'.heap
+      → Given start.first start.numbers (start.chosen ++ (c.made ++ b ∷ [])) v'.heap
       → CourseNow code inputs start v' front' items' m'
   course-made v' front' items' m' w store' b e unused t number same given =
       let old : Machine = m (state_at code inputs v c.store (start.chosen ++ c.made)) in
@@ -528,7 +544,7 @@ module _ (code : Code) (inputs : List Block) (start : Start) (st : Stack) (v : V
         (made-turn none x u i env below does)
         (ap length (sym (append_assoc start.chosen now.course.made (b ∷ []))) ∙ length-last (start.chosen ++ now.course.made) b)
         same-made
-        (subst (λ bs. Given start.first bs heap) (append_assoc start.chosen now.course.made (b ∷ [])) (given-made code inputs b key v.heap heap t1 t2 k start.first (start.chosen ++ now.course.made) now.course.given));
+        (subst (λ bs. Given start.first start.numbers bs heap) (append_assoc start.chosen now.course.made (b ∷ [])) (given-made code inputs b key v.heap heap t1 t2 k start.first start.numbers (start.chosen ++ now.course.made) now.course.given));
   }
 
 -- ---- the same, in code

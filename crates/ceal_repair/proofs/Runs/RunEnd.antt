@@ -1,17 +1,19 @@
 -- A run from nothing, when its last unit is over.
-use Rattle.std.proofs.Common.{true, ◌≡◌, ◌<◌, ◌≤◌, ℕ, Option, Some, None, List, [], ◌++◌, length, reverse, refl, sym, ap, subst, ◌∙◌, arith, append-nil}
+use Rattle.std.proofs.Common.{true, ◌≡◌, ◌<◌, ◌≤◌, ◌*◌, inl, inr, ℕ, Option, Some, None, List, [], ◌++◌, length, reverse, refl, sym, ap, subst, ◌∙◌, arith, append-nil}
 use Rattle.ceal_base.specs.Block.{Block}
-use Rattle.ceal_base.specs.Trace.{flat}
+use Rattle.ceal_base.specs.Trace.{Nothing, flat}
 use Rattle.ceal_base.specs.declared.word.Word.{Word}
 use Rattle.ceal_code.specs.Fitting.{Fits}
 use Rattle.ceal_code.specs.Fresh.{fresh}
 use Rattle.ceal_code.specs.Program.{Code}
-use Rattle.ceal_code.specs.Step.{Stack, Over, next}
+use Rattle.ceal_code.specs.Step.{Stack, Over, next as next_step, started}
 use Rattle.ceal_code.specs.Stacks.{stack_in}
-use Rattle.ceal_heap.specs.Heap.{HasSlots, ReleasesRevoked}
+use Rattle.ceal_heap.specs.Heap.{HasSlots, ReleasesRevoked, next}
 use Rattle.ceal_order.specs.Stamps.{Distinct}
 use Rattle.ceal_order.specs.declared.stamp.Stamp.{Stamp}
 use Rattle.ceal_repair.proofs.Revocation.BlockRelease.{words-released, none-revoked, blocks-released}
+use Rattle.ceal_repair.proofs.Propagation.NewBlockNumbers.{goes-on}
+use Rattle.ceal_repair.proofs.Runs.FewNumbers.{next-released}
 use Rattle.ceal_repair.proofs.KeptNodes.PassAll.{position-within}
 use Rattle.ceal_repair.proofs.Revocation.FirstNode.{length-more}
 use Rattle.ceal_repair.proofs.TableCalls.BaseEdit.{queue-empty}
@@ -31,7 +33,9 @@ use Rattle.ceal_theory.specs.Known.{KnownItems}
 use Rattle.ceal_theory.specs.Named.{then_from}
 use Rattle.ceal_theory.specs.Cover.{known_after}
 use Rattle.ceal_theory.specs.Repair.{State}
-use Rattle.ceal_theory.specs.Turns.{Ended, turn}
+use Rattle.ceal_theory.specs.Turns.{Ended, TakesTurn, turn}
+use Rattle.ceal_theory.proofs.SlicedRepair.AddedBlocks.{anew-adds}
+use Rattle.ceal_theory.proofs.TurnMachine.MachineLaws.{machine-law}
 use Rattle.ceal_trace.proofs.Entries.{has-read}
 use Rattle.ceal_trace.proofs.Parts.{not_before, position-part}
 use Rattle.ceal_trace.specs.Items.{forest_of, unclosed, Nests}
@@ -53,7 +57,7 @@ module _ (code : Code) (inputs : List Block) (f : ℕ) (args : List Word) (fits 
       laws.first_over inputs f args fits (running_at (state_at code inputs v now.course.store now.course.made) st now.waits (forest_of (entries now.left ++ now.tail))) now.course.made now.course.out now.course.comes
       now.course.given.distinct fuel more
 
-  module _ (over : next code (words_of code inputs v.heap) st ≡ Over) (frames : v.frames ≡ []) where
+  module _ (over : next_step code (words_of code inputs v.heap) st ≡ Over) (frames : v.frames ≡ []) where
     bottom : (v.limit ≡ None) × (now.waits ≡ []) × (now.reads ≡ []) × (now.tail ≡ [])
     bottom = frames-none now.tails frames
 
@@ -97,6 +101,17 @@ module _ (code : Code) (inputs : List Block) (f : ℕ) (args : List Word) (fits 
         let far : position r v.tables.trace.nodes < length front = subst (λ es. position r es < length front) (append-nil front ∙ sym nodes-front) (position-within r front [] here) in
         omega (arith, now.placed.late r i, at, far, length-more now.placed.done now.placed.last))
 
+    -- no more numbers were given out than steps were run
+    few-numbers : next v.heap ≤ v.spent
+    few-numbers =
+        let g = goes-on [] now.course.made now.course.given.distinct (λ b i. refl) in
+        let m = machine-law code g.names in
+        let last = subst (λ t. TakesTurn code g.names (running_at state st [] []) t) (ends g.names) (m.turns (running_at state st [] [])) in
+        let done = (comes.leads g.names g.continues).back state [] last.back in
+        let whole = (m.runs (first_begins code inputs f args).state state (started code f args) Nothing (now.course.out ++ [])).0 done in
+        let room = (anew-adds code whole.3).work in
+        elim now.course.given.few [ inl k ↦ omega (arith, k) | inr k ↦ omega (arith, k, room) ]
+
     mentions : KnownItems (length inputs) [] (flat ended.items) (known_after [] (flat ended.items))
     mentions = subst (λ is. KnownItems (length inputs) [] is (known_after [] is)) (sym (ap forest_of nodes-front) ∙ items) now.course.mentions
 
@@ -118,6 +133,7 @@ module _ (code : Code) (inputs : List Block) (f : ℕ) (args : List Word) (fits 
           replays = ended.named.replays;
           honest = ended.named.honest;
           few = omega (arith, few, ended.steps);
+          numbers = let same = next-released v.heap run.heap rel in omega (arith, few-numbers, same, few);
           idle = rw same idle;
         };
         pays = paid;

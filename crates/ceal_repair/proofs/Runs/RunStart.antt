@@ -1,5 +1,5 @@
 -- A run from nothing, before its first step.
-use Rattle.std.proofs.Common.{ap, ◌≡◌, ◌≤◌, ℕ, Bool, true, false, Some, None, List, [], ◌∷◌, length, refl, sym, ap₂, subst, ◌∙◌, arith}
+use Rattle.std.proofs.Common.{ap, ◌≡◌, ◌≤◌, inl, ℕ, Bool, true, false, Some, None, List, [], ◌∷◌, length, refl, sym, ap₂, subst, ◌∙◌, arith}
 use Rattle.std.specs.Prelude.{if◌then◌else◌, ◌==◌}
 use Rattle.std.proofs.Math.Path.{fun_ext}
 use Rattle.ceal_base.specs.Block.{Block}
@@ -15,6 +15,7 @@ use Rattle.ceal_code.specs.Step.{started}
 use Rattle.ceal_code.specs.Stacks.{stack_in}
 use Rattle.ceal_heap.specs.Heap.{IsNew}
 use Rattle.ceal_order.specs.Stamps.{head_of}
+use Rattle.ceal_repair.proofs.Runs.FewNumbers.{next-new}
 use Rattle.ceal_repair.specs.Around.{Tails, last}
 use Rattle.ceal_repair.specs.Blocks.{HasBlocks}
 use Rattle.ceal_repair.specs.Moment.{View, Placed, CourseNow, RunningNow, Unfinished, first_start, state_at, through}
@@ -118,7 +119,7 @@ module _ (code : Code) (inputs : List Block) (f : ℕ) (args : List Word) (fits 
     comes = subst (λ m. ComesBy code (first_begins code inputs f args) m [] []) (sym same-machine) (chosen.begun (first_begins code inputs f args) [] refl);
     knows = subst (λ m. Knows code (length inputs) [] [] m) (sym same-machine) (knowing.first_begins inputs f args fits);
     same = λ p k. same-at p.block p.field k;
-    given = record { distinct = λ b. omega arith; apart = λ b i. refl; there = λ b i. no-block i; still = λ b i. no-block i };
+    given = record { distinct = λ b. omega arith; apart = λ b i. refl; there = λ b i. no-block i; still = λ b i. no-block i; only = λ b some. absurd (let no : false ≡ true = rw (empty.blocks (Core b)) at some in cc); few = inl (next-new v.heap empty) };
   }
 
   -- the unit of the call runs after the root, with nothing left over

@@ -164,7 +164,7 @@ module _ (code : Code) (inputs : List Block) (start : Start) (v : View) (front :
       → ((names : ℕ → ℕ) → turn code names (m (state_at code inputs v c.store (start.chosen ++ c.made))) ≡ Went w (m' (state_at code inputs v' store' (start.chosen ++ c.made))))
       → (m' (state_at code inputs v' store' (start.chosen ++ c.made))).state.number ≡ (m (state_at code inputs v c.store (start.chosen ++ c.made))).state.number
       → ((p : Place) → KnownBlock (length inputs) (known_after [] items') p.block → store' p ≡ contents_after (base_in v'.tables.mods) front' p)
-      → Given start.first (start.chosen ++ c.made) v'.heap
+      → Given start.first start.numbers (start.chosen ++ c.made) v'.heap
       → CourseNow code inputs start v' front' items' m'
   course-turn v' front' items' m' w store' e t number same given =
       let old : Machine = m (state_at code inputs v c.store (start.chosen ++ c.made)) in

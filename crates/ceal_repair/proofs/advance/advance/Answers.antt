@@ -1,4 +1,5 @@
 use Rattle.std.proofs.Common.{◌≡◌, ◌≢◌, ◌≤◌, false, true, refl, sym, ap, subst, ◌∙◌, arith, rules}
+use Rattle.ceal_heap.specs.Heap.{next}
 use Rattle.ceal_repair.proofs.Propagation.KeptRun.{has-come-in, idle-first}
 use Rattle.ceal_repair.proofs.Propagation.SlicesOfRun.{since, begun-in, is-sliced, front-stays, is-repaired}
 use Rattle.ceal_repair.proofs.Runs.Paid.{pays-as}
@@ -41,11 +42,11 @@ returns-clause-repaired c = λ f args l kept none.
     let t = c.in_ok-progress.ensures in
     let code = c.args.code.now in
     let inputs = c.args.inputs.now in
-    let o = since_begun code inputs l in
+    let o = since_begun code inputs l (next c.args.running.now.heap) in
     let same : c.turns.new.self.running.now ≡ c.running-1.given.0 = search (rules, e.place, t.call.place) in
     let come = has-come-in code inputs f args c.args.fuel l c.args.running.now kept c.at_root-repair.result e.code e.inputs e.view e.heap (e.spent ∙ none) in
     let ended = subst (λ z. Propagated c.in_ok-progress.progress code inputs f args c.args.reads c.args.fuel o c.args.running.now z) same (rw (e.code, e.inputs) at (t.ended f args o c.args.running.now come)) in
-    is-repaired code inputs f args c.args.reads c.args.fuel l kept.fits kept.replays c.args.running.now c.running-1.given.0 c.in_ok-progress.progress ended
+    is-repaired code inputs f args c.args.reads c.args.fuel l c.args.running.now kept c.args.running.now c.running-1.given.0 c.in_ok-progress.progress ended
 
 pub returns-clause-front : goal.returns-clause-front
 returns-clause-front c = λ n.

@@ -43,7 +43,7 @@ returns-clause-runs c = λ start a.
     let f = c.in_ok-block.ensures in
     let b : ℕ = f.core.0 in
     let made : MadeBlock (code_of new) (inputs_of new) block c.args.key new.running.now.heap c.make.new.self.heap new.running.now.tables c.make.new.self.tables =
-    record { unused = f.new; live = f.live; words = f.words; others = f.others; bases = f.bases; kept_bases = f.kept_bases; trace = f.trace; only = f.only; kept = f.kept } in
+    record { unused = f.new; live = f.live; words = f.words; others = f.others; numbers = f.numbers; bases = f.bases; kept_bases = f.kept_bases; trace = f.trace; only = f.only; kept = f.kept } in
     let s : ℕ = c.in_ok-self.field-0.0 in
     let g = c.in_ok-self.ensures in
     let node : NodeMore new.cursor.0 s (Alloc block c.args.key) c.make.new.self.tables c.put_alloc.new.self =
@@ -74,7 +74,7 @@ returns-clause-pays c =
     let f = c.in_ok-block.ensures in
     let block : BlockId = c.in_ok-block.block in
     let made : MadeBlock (code_of new) (inputs_of new) block c.args.key new.running.now.heap c.make.new.self.heap new.running.now.tables c.make.new.self.tables =
-    record { unused = f.new; live = f.live; words = f.words; others = f.others; bases = f.bases; kept_bases = f.kept_bases; trace = f.trace; only = f.only; kept = f.kept } in
+    record { unused = f.new; live = f.live; words = f.words; others = f.others; numbers = f.numbers; bases = f.bases; kept_bases = f.kept_bases; trace = f.trace; only = f.only; kept = f.kept } in
     let start = c.requires.acts.0 in
     let acts = c.requires.acts.1 in
     let has = subst (λ z. HasBlocks (code_of old) (inputs_of old) z b.tables) e.heap (has-stepped old new h start acts.stack acts.now) in

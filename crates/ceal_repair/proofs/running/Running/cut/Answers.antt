@@ -1,7 +1,8 @@
-use Rattle.std.proofs.Common.{ap}
+use Rattle.std.proofs.Common.{ap, refl}
 use Rattle.ceal_repair.proofs.Revocation.FirstNode.{has-first, plain-first, queued-from, end-some, alloc-live, cut-alloc-lies, cut-write-lies, cut-read-lies, alloc-has, write-has, read-has}
 use Rattle.ceal_repair.proofs.TableCalls.FewLooks.{owed-same, due-cut, due-cut-write, due-cut-two}
 use Rattle.ceal_repair.specs.Kept.{base_in}
+use Rattle.ceal_repair.proofs.Runs.FewNumbers.{alloc-readable, next-revoked}
 use Rattle.ceal_repair.proofs.running.Running.cut.Goals as goal
 
 pub cut_of-requires-clause-here : goal.cut_of-requires-clause-here
@@ -76,3 +77,15 @@ returns-in-Read-clause-looks c =
 
 pub returns-in-Alloc-clause-differed : goal.returns-in-Alloc-clause-differed
 returns-in-Alloc-clause-differed c = ap (λ m. m.differed) c.cut_alloc.ensures.mods
+
+pub returns-in-Alloc-clause-blocks : goal.returns-in-Alloc-clause-blocks
+returns-in-Alloc-clause-blocks c = record {
+  blocks = alloc-readable c.in-Alloc.block c.args.self.now.heap c.revoke.new.self c.revoke.ensures.revoked c.revoke.ensures.others;
+  numbers = next-revoked c.args.self.now.heap c.revoke.new.self c.in-Alloc.block c.revoke.ensures.revoked c.revoke.ensures.others;
+}
+
+pub returns-in_ok-cut_write-in-Write-clause-blocks : goal.returns-in_ok-cut_write-in-Write-clause-blocks
+returns-in_ok-cut_write-in-Write-clause-blocks c = record { blocks = λ b. refl; numbers = refl }
+
+pub returns-in-Read-clause-blocks : goal.returns-in-Read-clause-blocks
+returns-in-Read-clause-blocks c = record { blocks = λ b. refl; numbers = refl }
