@@ -31,7 +31,9 @@ use Rattle.ceal_engine.specs.declared.phase.Phase.TheVariants.{New, Finished as 
 use Rattle.ceal_engine.specs.declared.run_error.RunError.{RunError}
 use Rattle.ceal_engine.specs.declared.run_error.RunError.TheVariants.{Memory, OutOfFuel as RanOut}
 use Rattle.ceal_heap.specs.Heap.{Contents, next, plain_of}
+use Rattle.ceal_repair.proofs.Runs.FewNumbers.{kept-few}
 use Rattle.ceal_repair.specs.Answers.{IsKeptRun}
+use Rattle.ceal_repair.specs.Blocks.{HasFew}
 use Rattle.ceal_repair.specs.Slicing.{IsPartRun, IsSliceOf, IsSliced}
 use Rattle.ceal_repair.specs.declared.running.Running.{Running}
 use Rattle.ceal_repair.specs.declared.advance.Progress.{Progress as Far}
@@ -54,6 +56,9 @@ module _ (code : Code) (fuel : ℕ) (inputs : List Block) (call : Call) (l : Tra
   edited : Edited code inputs inputs call.function call.args l (next run.heap)
   edited = record { call = kept.fits; fit = kept.fits.blocks; extended = extended-refl code inputs; trace = kept.replays; above = low }
 
+  few-readable : HasFew fuel run.heap
+  few-readable = kept-few code inputs call.function call.args fuel l run kept
+
   begun : IsPartRun code inputs call.function call.args fuel (beginning code inputs l 0) (idle run)
   begun = record {
     fits = kept.fits;
@@ -68,6 +73,12 @@ module _ (code : Code) (fuel : ℕ) (inputs : List Block) (call : Call) (l : Tra
       sound = begin-law code (λ k. next run.heap + k) inputs inputs call.function call.args l (next run.heap) 0 edited (λ j k e. omega (arith, e)) (λ k h. low (next run.heap + k) (omega arith));
     };
     few = omega arith;
+    blocks = record {
+      blocks = few-readable.blocks;
+      each = few-readable.each;
+      few = omega (arith, few-readable.few);
+    };
+    numbers = kept.numbers;
   }
 
   pub begun-kept : IsPartKept code fuel inputs call (idle run)
@@ -261,11 +272,25 @@ module _ (code : Code) (fuel : ℕ) (inputs : List Block) (phase : Phase) (call 
     abbrev found : (z : Repair) → IsSliceOf code inputs reads fuel k.repair (Some z) → Carries code inputs call.function call.args fuel next' r reads z
     found = there code inputs call.function call.args fuel k.repair run k.of reads next' r h.0 h.1
 
+    -- the items of what was found are those of the slice, renamed
+    renamed : (z : Repair) (s : IsSliceOf code inputs reads fuel k.repair (Some z)) → RenamedFrom e next' r (found z s).repair.items z.items
+    renamed z s =
+        let f = found z s in
+        let w = renames code inputs call.function call.args fuel k.repair run k.of reads next' r h.0 h.1 z f.repair s f.is in
+        record {
+          pairs = w.pairs;
+          one = w.one;
+          alike = w.alike;
+          kept = w.kept;
+          apart = λ b c t none. ap (λ (g : Contents). plain_of g (Core c)) (sym same.heap) ∙ (sym (k.of.stands.known c) ∙ w.apart b c t none);
+        }
+
     pub comes-more : (run' : Running) → IsSliced code inputs call.function call.args reads fuel k.repair run' More → GoesOn e (under_way code fuel inputs (Some call) run') reads next' r
     comes-more run' s = let z = found s.0 s.1 in record {
       repair = z.repair;
       is = z.is;
       more = not-done-of code inputs z.repair (λ d. s.2 (z.honest.0 d));
+      items = subst (λ o. IsSomeAnd o (RenamedFrom e next' r z.repair.items)) (sym (ap trace_of s.3.stands.items ∙ trace-flat s.0.items)) (renamed s.0 s.1);
       carries = record {
         call = call;
         called = refl;
@@ -282,14 +307,7 @@ module _ (code : Code) (fuel : ℕ) (inputs : List Block) (phase : Phase) (call 
       is = z.is;
       done = done-of code inputs z.repair (z.honest.1 s.2.honest);
       items = subst (λ o. IsSomeAnd o (RenamedFrom e next' r z.repair.items)) (sym (trace-is code fuel inputs call k.of.fits s.0.items run' s.2))
-          (let w = renames code inputs call.function call.args fuel k.repair run k.of reads next' r h.0 h.1 s.0 z.repair s.1 z.is in
-          record {
-            pairs = w.pairs;
-            one = w.one;
-            alike = w.alike;
-            kept = w.kept;
-            apart = λ b c t none. ap (λ (g : Contents). plain_of g (Core c)) (sym same.heap) ∙ (sym (k.of.stands.known c) ∙ w.apart b c t none);
-          });
+          (renamed s.0 s.1);
       work = s.3 ∙ sym z.carried.spent;
     }
 

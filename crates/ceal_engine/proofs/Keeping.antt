@@ -1,5 +1,5 @@
 -- What an engine keeps stays sound.
-use Rattle.std.proofs.Common.{◌≡◌, ℕ, zero, suc, if◌then◌else◌, ◌≤◌, ◌&&◌, true, false, Option, Some, None, List, [], ◌∷◌, length, slice_get, refl, sym, ap, ◌∙◌, subst, arith}
+use Rattle.std.proofs.Common.{◌≡◌, ℕ, zero, suc, if◌then◌else◌, ◌≤◌, ◌+◌, ◌*◌, ◌&&◌, true, false, Option, Some, None, List, [], ◌∷◌, length, slice_get, refl, sym, ap, ◌∙◌, subst, arith}
 use Rattle.std.specs.Option.{option_map}
 use Rattle.std.specs.Prelude.{IfSome, Result, Ok, Err, OnErr}
 use Rattle.std.proofs.Math.Path.{fun_ext}
@@ -29,11 +29,11 @@ use Rattle.ceal_engine.specs.Engine.{alone, fits_in, with_base, edited, has_run,
 use Rattle.ceal_engine.specs.Keeping.{contents as cell_contents, Kept, state_of, IsPartKept, KeepsRun, Keeps, Sound}
 use Rattle.ceal_engine.specs.declared.phase.Phase.{Phase}
 use Rattle.ceal_engine.specs.declared.phase.Phase.TheVariants.{New, Finished as IsFinished, Pending, Partial, Dropped}
-use Rattle.ceal_heap.specs.Heap.{Contents, standing, plain_of as heap_words}
+use Rattle.ceal_heap.specs.Heap.{Contents, next, standing, plain_of as heap_words}
 use Rattle.ceal_mods.specs.Cell.{latest_value}
 use Rattle.ceal_mods.specs.declared.cell.Cell.{Cell}
 use Rattle.ceal_repair.specs.Answers.{Stands, IsKeptRun, IsFirst as IsFirstAnswer}
-use Rattle.ceal_repair.specs.Blocks.{There}
+use Rattle.ceal_repair.specs.Blocks.{There, HasFew}
 use Rattle.ceal_repair.specs.Kept.{Kept as KeptTables}
 use Rattle.ceal_repair.specs.Slicing.{IsPartRun}
 use Rattle.ceal_repair.specs.Words.{HasBases, default_of}
@@ -77,6 +77,7 @@ kept-on code inputs more f args fuel l old run k extended fit long same has = re
   fits = on.call;
   replays = on.replays;
   few = k.few;
+  numbers = subst (λ h. next h ≤ 2 * fuel) (sym same.heap) k.numbers;
 }
   where
     s : Stands code inputs l old
@@ -105,6 +106,8 @@ part-on code inputs more f args fuel q old run k extended fit long same has = re
     sound = more-law code k.stands.names inputs more f args k.fits fit extended q k.stands.sound;
   };
   few = subst (λ n. n ≤ fuel) (sym same.spent) k.few;
+  blocks = subst (λ n. HasFew (fuel + n) run.heap) (sym same.spent) (subst (λ h. HasFew (fuel + old.spent) h) (sym same.heap) k.blocks);
+  numbers = subst (λ h. next h ≤ 2 * fuel) (sym same.heap) k.numbers;
 }
 
 -- and so it is where it is kept

@@ -1,5 +1,5 @@
 -- What an engine keeps is the run from scratch on its present inputs.
-use Rattle.std.proofs.Common.{◌≡◌, ℕ, zero, suc, ◌+◌, ◌<◌, ◌≤◌, ◌==◌, Bool, true, false, if◌then◌else◌, Option, Some, None, List, [], ◌∷◌, length, map, slice_get, slice_index, refl, sym, ap, ◌∙◌, subst, arith}
+use Rattle.std.proofs.Common.{◌≡◌, ℕ, zero, suc, ◌+◌, ◌<◌, ◌≤◌, ◌*◌, ◌==◌, Bool, true, false, if◌then◌else◌, Option, Some, None, List, [], ◌∷◌, length, map, slice_get, slice_index, refl, sym, ap, ◌∙◌, subst, arith}
 use Rattle.std.specs.Option.{option_map}
 use Rattle.std.specs.Prelude.{IfSome, IsSome, is_some}
 use Rattle.ceal_base.proofs.TraceLemmas.{trace-flat}
@@ -219,6 +219,12 @@ module _ (code : Code) (fuel : ℕ) (inputs : List Block) (kept : Kept) (phase :
   numbers : IsWhole phase → IfSome (stands_for (forest_in run)) (HasLowNumbers (state_of code fuel inputs kept.call phase run))
   numbers = of-trace HasLowNumbers (λ c r k. low-numbers code inputs k.trace r k.of.stands) kept.call run s.keeps
 
+  few-numbers : (call : Option Call) (run : Option Running) → Keeps code fuel inputs phase call run → IfSome (heap_in run) (λ heap. next heap ≤ 2 * fuel)
+  few-numbers call None h = tt
+  few-numbers None (Some run) h = elim h [ ]
+  few-numbers (Some call) (Some run) (KeepsRun.whole h) = h.of.numbers
+  few-numbers (Some call) (Some run) (KeepsRun.part e h) = h.of.numbers
+
   nodes-are : (run : Option Running) → forest_in run ≡ option_map (λ t. forest_of t.nodes) (timeline_in run)
   nodes-are None = refl
   nodes-are (Some run) = refl
@@ -261,6 +267,7 @@ module _ (code : Code) (fuel : ℕ) (inputs : List Block) (kept : Kept) (phase :
     replays = replays;
     held = held;
     numbers = numbers;
+    few_numbers = few-numbers kept.call run s.keeps;
     traced = traced;
     present = present kept.call s.calls run s.keeps;
     idle = idle kept.call run s.keeps;

@@ -51,6 +51,7 @@ module _ (code : Code) (fuel : ℕ) (inputs : List Block) (phase : Phase) (whole
     fits = k.fits;
     replays = k.replays;
     few = k.few;
+    numbers = k.numbers;
   }
 
   keeps-idle : (call : Option Call) (run : Option Running) → Keeps code fuel inputs phase call run → Keeps code fuel inputs phase call (option_map idle run)
@@ -89,6 +90,7 @@ module _ (code : Code) (fuel : ℕ) (inputs : List Block) (phase : Phase) (whole
     fits = k.fits;
     replays = k.replays;
     few = k.few;
+    numbers = k.numbers;
   }
 
   keeps-told : (call : Option Call) (run : Option Running) → Keeps code fuel inputs phase call run → Keeps code fuel inputs phase call (option_map (told work) run)

@@ -112,7 +112,7 @@ module _ (code : Code) (inputs : List Block) (f : ℕ) (args : List Word) (fits 
       go (Some r) (FirstOutcome.some t) = t.work ∙ sym t.steps
 
   pub kept-run : (l : Trace) (run : Running) → IsRunOf code inputs f args fuel l run → IsKeptRun code inputs f args fuel l run
-  kept-run l run k = record { stands = k.stands; fits = fits; replays = k.replays; few = k.few }
+  kept-run l run k = record { stands = k.stands; fits = fits; replays = k.replays; few = k.few; numbers = k.numbers }
 
   -- an honest trace within the fuel is a run that ends
   pub no-end : (l : Trace) → Replays code inputs f args l → steps_of l ≤ fuel → IsHonest code inputs l → fresh code f args inputs fuel ≡ None → ⊥

@@ -1,6 +1,6 @@
 -- What an engine has, and when it is the run from scratch on the present inputs.
 use Rattle.std.specs.Option.{option_map}
-use Rattle.std.specs.Prelude.{◌≡◌, ℕ, ◌<◌, ◌≤◌, ◌&&◌, Bool, true, false, Option, Some, None, IfSome, IsSome, is_some, Result, Ok, Err, List, [], length, slice_get, ⊤}
+use Rattle.std.specs.Prelude.{◌≡◌, ℕ, ◌<◌, ◌≤◌, ◌*◌, ◌&&◌, Bool, true, false, Option, Some, None, IfSome, IsSome, is_some, Result, Ok, Err, List, [], length, slice_get, ⊤}
 use Rattle.ceal_base.specs.Block.{Block, Blocks, written_at}
 use Rattle.ceal_base.specs.Finished.{Finished}
 use Rattle.ceal_base.specs.Fitting.{kind_at, fits_field, memory_fits, inputs_fit}
@@ -198,6 +198,8 @@ pub record IsEngine (e : EngineState) : Type 0 where
   pub replays : IsWhole e.phase → IfSome (trace e) (ReplaysCall e)
   pub held : IsWhole e.phase → IfSome (trace e) (λ l. IfSome e.heap (IsHeapOf e.code e.inputs l))
   pub numbers : IsWhole e.phase → IfSome (trace e) (λ l. IfSome e.heap (λ heap. Above (next heap) l))
+  -- core blocks were given no more numbers than twice the steps that a run may take, whatever was repaired before
+  pub few_numbers : IfSome e.heap (λ heap. next heap ≤ 2 * e.fuel)
   pub traced : e.phase ≡ IsFinished → IfSome (trace e) (IsTraced e)
   pub present : e.phase ≡ IsFinished → IsPresent e
   -- no read is queued where nothing is to be done

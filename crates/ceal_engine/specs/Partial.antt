@@ -83,11 +83,12 @@ pub record RenamedFrom (e : EngineState) (next : ℕ) (r : Repair) (l m : Trace)
   pub kept : (b c : ℕ) → Tied b c pairs → b < next → b ≡ c
   pub apart : (b c : ℕ) → Tied b c pairs → r.known (Core b) ≡ None → words_in e.heap (Core c) ≡ None
 
--- A slice of the repair is there, and is not done; the engine goes on with it.
+-- A slice of the repair is there, and is not done; its items are the engine's trace, and the engine goes on with it.
 pub record GoesOn (e n : EngineState) (k : Option ℕ) (next : ℕ) (r : Repair) : Type 0 where
   pub repair : Repair
   pub is : sliced e.code own e.inputs k e.fuel r ≡ Some repair
   pub more : is_done e.code e.inputs repair ≡ false
+  pub items : IsSomeAnd (trace n) (RenamedFrom e next r repair.items)
   pub carries : CarriesFrom n next repair
 
 -- A slice of the repair is there, and is done; its items are the engine's trace, and what was spent on it is the work.
