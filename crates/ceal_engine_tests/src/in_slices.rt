@@ -69,7 +69,7 @@ fn a_read_is_edited_after_its_slice(rt: HostRuntime) -> Result<(), Fail> {
 }
 
 /// The images of two lists, one after another.
-const MAPS: &[u8] = b"
+pub const MAPS: &[u8] = b"
 struct cell { int head; mod struct cell tail; };
 init mk(struct cell *self, struct cell *from) { self->head = from->head * 10; }
 ceal map(mod struct cell *from, mod struct cell *to) {
@@ -90,7 +90,7 @@ ceal maps(mod struct cell *a, mod struct cell *b, mod struct cell *c, mod struct
 ";
 
 /// The lists 1, 2, 3 in the cells 2, 3, 4 and 4, 5 in the cells 7, 8, each with a modifiable that points to it, and one for its image.
-fn two_lists(alloc: Global) -> Result<Inputs, NoMemory> {
+pub fn two_lists(alloc: Global) -> Result<Inputs, NoMemory> {
     let mut inputs = list(alloc, &[1, 2, 3])?;
     for (shape, words) in [
         (Shape::ModPtr(0), [input(7)].as_slice()),

@@ -1,6 +1,7 @@
 //! The tests, by public calls, of what runs and repairs: repair over whole traces (`adjust`, with `edits`), the run over nodes
-//! (`nodes`), the engine (with `drive`; beside `adjust` in `side_by_side`, in slices in `in_slices`, and where memory is refused in
-//! `recovered`), the recorded traces (`dumps`), and sessions: where memory is refused (`refused`), and saved (`saves`). No crate
+//! (`nodes`), the engine (with `drive`; beside `adjust` in `side_by_side`, in slices in `in_slices` and `known`, after edits that change
+//! nothing in `idle`, and where memory is refused in `recovered`), the recorded traces (`dumps`), and sessions: where memory is refused
+//! (`refused`), and saved (`saves`). No crate
 //! stands on this one.
 #![tactic(auto)]
 
@@ -17,7 +18,11 @@ mod edits;
 #[cfg(test)]
 mod engine;
 #[cfg(test)]
+mod idle;
+#[cfg(test)]
 mod in_slices;
+#[cfg(test)]
+mod known;
 #[cfg(test)]
 mod nodes;
 #[cfg(test)]

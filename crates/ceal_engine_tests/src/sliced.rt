@@ -305,3 +305,38 @@ pub fn side_by_side(
     drop(program);
     told
 }
+
+/// What is left of the repair of a call's first trace after a step, where it goes on.
+fn left_after(call: Call<'_>, inputs: &mut Inputs, step: Step<'_>) -> Result<Option<Repair>, Fail>
+    requires { valid call.code.now ≡ true }
+{
+    let repair = begun(call, inputs)?;
+    match next(call, repair, inputs, step)? {
+        Sliced::More(repair) => Ok(Some(repair)),
+        Sliced::Done(repair) => {
+            drop(repair);
+            Ok(None)
+        }
+        Sliced::Spent => Ok(None),
+    }
+}
+
+/// The same for a call of this function of a program with these arguments.
+pub fn after_one(
+    alloc: Global,
+    source: &[u8],
+    call: (u32, &[Word]),
+    inputs: &mut Inputs,
+    step: Step<'_>,
+) -> Result<Option<Repair>, Fail> {
+    let program = compiled(alloc, source)?;
+    let call = Call {
+        alloc,
+        code: &program.code,
+        function: call.0,
+        args: call.1,
+    };
+    let left = left_after(call, inputs, step);
+    drop(program);
+    left
+}
