@@ -1,4 +1,4 @@
--- A repair turn by turn where the numbers of new blocks are chosen as it goes.
+-- A repair, one move at a time, where the numbers of new blocks are chosen as it goes.
 use Rattle.std.specs.Prelude.{◌≡◌, ℕ, ◌+◌, ◌≤◌, ◌<◌, Some, None, List, [], ◌∷◌, ◌++◌, length, slice_get}
 use Rattle.ceal_base.specs.Block.{Block}
 use Rattle.ceal_base.specs.Trace.{Trace, Nothing, flat, steps_of, blocks_of}
@@ -77,10 +77,10 @@ first_begins code inputs f args = record {
   frames = Bottom;
 }
 
--- what holds of names that are chosen turn by turn
+-- what holds of names that are chosen one move at a time
 pub record ChosenLaws (code : Code) : Type 0 where
   -- at a beginning, where some numbers were handed out before; after what all names have in common; and after
-  -- a turn that makes a block of any number
+  -- a move that makes a block of any number
   pub begun : (m : Machine) (chosen : List ℕ) → m.state.number ≡ length chosen → ComesBy code m m chosen []
   pub more : (start m m' : Machine) (chosen : List ℕ) (out is : List Item) → ComesBy code start m chosen out
       → ((names : ℕ → ℕ) → Leads code names m m' is) → m'.state.number ≡ m.state.number

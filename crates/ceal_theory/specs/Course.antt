@@ -1,5 +1,5 @@
 -- The course of a turn over nodes: what an engine does to its nodes is what the machine of repair does in its
--- turns, but for steps that are between the items of what is left over, which do not matter and may be
+-- moves, but for steps that are between the items of what is left over, which do not matter and may be
 -- dropped.
 use Rattle.std.specs.Prelude.{◌≡◌, ℕ, suc, ◌≤◌, ◌<◌, true, false, Some, None, List, [], ◌∷◌, ◌++◌, length}
 use Rattle.ceal_base.specs.Block.{Block}

@@ -39,7 +39,7 @@ pub data Turn : Type 0 where
   Ended : Turn
   Went : (written : List Item) (machine : Machine) → Turn
 
--- a turn that writes these items, and the machine after it
+-- a move that writes these items, and the machine after it
 abbrev pub goes_on : List Item → State → Mode → Frames → Turn
 goes_on written s mode frames = Went written (record { state = s; mode = mode; frames = frames })
 
@@ -55,7 +55,7 @@ abbrev pub opened : Code → Bool → UnitId → ℕ → List Word → Word → 
 opened code true u v args now inside = Fixing inside
 opened code false u v args now inside = Running (resumed code u v args now) inside
 
--- a turn while old items are repaired
+-- a move while old items are repaired
 abbrev pub fixing : Code → State → Frames → Trace → Turn
 fixing code s fs Nothing = closed s Nothing fs
 fixing code s fs (Stepped rest) = goes_on (Step ∷ []) s (Fixing rest) fs
@@ -65,7 +65,7 @@ fixing code s fs (WasRead p value u v args inside rest) =
     goes_on (Read p (s.store p) u v args ∷ []) s
     (opened code (same_word (s.store p) value) u v args (s.store p) inside) (AfterFix rest fs)
 
--- a turn that allocates
+-- a move that allocates
 abbrev pub making : Code → (ℕ → ℕ) → State → Frames → Key → ℕ → ℕ → ℕ → Variables → Stack → Trace
     → Option TakenAlloc → Turn
 making code names s fs key v u i env below old (Some t) =
@@ -75,7 +75,7 @@ making code names s fs key v u i env below old None =
     goes_on (Step ∷ Alloc (Core (names s.number)) key ∷ []) (grows code names (works s) key)
     (Running (Run u i (set env v (pointer key (Core (names s.number)))) below) old) fs
 
--- a turn that reads
+-- a move that reads
 abbrev pub reading : Code → State → Frames → Place → UnitId → ℕ → List Word → Stack → Trace → Option TakenRead → Turn
 reading code s fs p u v args below old (Some r) =
     goes_on (Step ∷ Read p (s.store p) u v args ∷ []) (works s)
@@ -84,7 +84,7 @@ reading code s fs p u v args below old None =
     goes_on (Step ∷ Read p (s.store p) u v args ∷ []) (works s)
     (Running (resumed code u v args (s.store p)) old) (AfterRun below fs)
 
--- a turn of a run, by its next step
+-- a move of a run, by its next step
 abbrev pub acting : Code → (ℕ → ℕ) → State → Frames → Trace → Act → Turn
 acting code names s fs old Over = closed s old fs
 acting code names s fs old (Quiet after) = goes_on (Step ∷ []) (works s) (Running after old) fs
@@ -94,12 +94,12 @@ acting code names s fs old (Writes p value after) =
     goes_on (Step ∷ Write p value ∷ []) (puts (works s) p value) (Running after old) fs
 acting code names s fs old (Reads p u v args below) = reading code s fs p u v args below old (take_read p u v args old)
 
--- a turn, by the mode
+-- a move, by the mode
 abbrev pub moving : Code → (ℕ → ℕ) → State → Frames → Mode → Turn
 moving code names s fs (Fixing todo) = fixing code s fs todo
 moving code names s fs (Running st old) = acting code names s fs old (next code s.plain st)
 
--- one turn of the machine
+-- one move of the machine
 unfoldable pub turn : Code → (ℕ → ℕ) → Machine → Turn
 turn code names m = moving code names m.state m.frames m.mode
 
@@ -137,17 +137,17 @@ pub record Leads (code : Code) (names : ℕ → ℕ) (m m' : Machine) (written :
       → Finishes code names m s' (written ++ rest)
   pub ahead : (s' : State) (items : List Item) → Finishes code names m s' items → Goes code names m' s' written items
 
--- what a machine finishes with where its turn is its last
+-- what a machine finishes with where its move is its last
 pub record Ends (code : Code) (names : ℕ → ℕ) (m : Machine) : Type 0 where
   pub back : Finishes code names m m.state []
   pub ahead : (s' : State) (items : List Item) → Finishes code names m s' items → items ≡ []
 
--- the turn is one by the rules
+-- the move is one by the rules
 abbrev pub TakesTurn : Code → (ℕ → ℕ) → Machine → Turn → Type 0
 TakesTurn code names m Ended = Ends code names m
 TakesTurn code names m (Went written m') = Leads code names m m' written
 
--- The machine: one turn, turns after one another, the machine of a repair and that of a first trace.
+-- The machine: one move, moves after one another, the machine of a repair and that of a first trace.
 pub record MachineLaws (code : Code) (names : ℕ → ℕ) : Type 0 where
   pub turns : (m : Machine) → TakesTurn code names m (turn code names m)
   pub stays : (m : Machine) → Leads code names m m []

@@ -8,7 +8,7 @@ pub fn bare_law()
     ensures law { BareLaw }
 {}
 
-/// What an engine does to its nodes is what the machine does in its turns.
+/// What an engine does to its nodes is what the machine does in its moves.
 pub fn moves_law()
     ensures law { MovesLaw }
 {}

@@ -5,7 +5,7 @@ ghost use Rattle.ceal_theory.specs.Levels.{FlatLevelsLaw, FlatTakeLaw};
 ghost use Rattle.ceal_theory.specs.Segments.{SegmentLaw};
 ghost use Rattle.ceal_theory.specs.Turns.{MachineLaw};
 
-/// The machine of repair, turn by turn.
+/// The machine of repair, one move at a time.
 pub fn machine_law()
     ensures law { MachineLaw }
 {}

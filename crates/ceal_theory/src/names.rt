@@ -19,7 +19,7 @@ pub fn handed_law()
     ensures law { HandedLaw }
 {}
 
-/// A repair turn by turn, where the numbers of new blocks are chosen as it goes.
+/// A repair, one move at a time, where the numbers of new blocks are chosen as it goes.
 pub fn chosen_law()
     ensures law { ChosenLaw }
 {}

@@ -1,4 +1,4 @@
--- What an engine does to its nodes, as turns of the machine and steps that are dropped.
+-- What an engine does to its nodes, as moves of the machine and steps that are dropped.
 use Rattle.std.proofs.Common.{◌≡◌, ℕ, zero, suc, true, false, Some, None, List, [], ◌∷◌, ◌++◌, refl, sym, ap, ◌∙◌, subst, append_assoc, append-nil}
 use Rattle.ceal_base.specs.Operators.{same_word}
 use Rattle.ceal_base.specs.Trace.{Trace, Stepped, flat, followed}
@@ -78,14 +78,14 @@ module _ (code : Code) (names : ℕ → ℕ) where
   bare-self : (m : Machine) → BareSame m m
   bare-self m = record { state = refl; mode = mode-self code names m.mode; frames = frames-self code names m.frames }
 
-  -- one turn, and then steps that are dropped
+  -- one move, and then steps that are dropped
   turn-then : (m m1 m2 : Machine) (w : List Item) → turn code names m ≡ Went w m1 → BareSame m1 m2 → Leads code names m m2 w
   turn-then m m1 m2 w e d = subst (λ o. Leads code names m m2 o) (append-nil w) (leads-then code names m m1 m2 w [] (leads-turn code names m m1 w e) (bare-law code names m1 m2 d))
 
   one-turn : (m m1 : Machine) (w : List Item) → turn code names m ≡ Went w m1 → Leads code names m m1 w
   one-turn m m1 w e = leads-turn code names m m1 w e
 
-  -- one turn, and what follows
+  -- one move, and what follows
   and-on : (m m1 m2 : Machine) (i : Item) (is : List Item) → turn code names m ≡ Went (i ∷ []) m1 → Leads code names m1 m2 is → Leads code names m m2 (i ∷ is)
   and-on m m1 m2 i is e l = leads-then code names m m1 m2 (i ∷ []) is (leads-turn code names m m1 (i ∷ []) e) l
 

@@ -41,7 +41,7 @@ work-law code names start m out l t items f = of (l.ahead t items f)
     of : Goes code names m t out items → (m.state.work ≤ t.work) × (steps_in out ≤ steps_in items)
     of g = (finishes-rises g.finishes, subst (λ is. steps_in out ≤ steps_in is) (sym g.same) (steps-front out g.rest))
 
--- a machine whose turn is its last finishes with what it has
+-- a machine whose move is its last finishes with what it has
 ended-finishes : (code : Code) (names : ℕ → ℕ) (m : Machine) → turn code names m ≡ Ended → Finishes code names m m.state []
 ended-finishes code names m e = of (subst (TakesTurn code names m) e (takes-turn code names m))
   where

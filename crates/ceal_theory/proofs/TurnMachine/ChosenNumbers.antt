@@ -1,4 +1,4 @@
--- A repair turn by turn where the numbers of new blocks are chosen as it goes.
+-- A repair, one move at a time, where the numbers of new blocks are chosen as it goes.
 use Rattle.std.proofs.Common.{◌≡◌, ℕ, zero, suc, ◌+◌, ◌<◌, Option, Some, None, List, [], ◌∷◌, ◌++◌, length, slice_get, append-nil, refl, sym, ap, ◌∙◌, arith}
 use Rattle.ceal_base.specs.Block.{Block}
 use Rattle.ceal_base.specs.Finished.{Finished}

@@ -145,7 +145,7 @@ module _ (code : Code) (names : ℕ → ℕ) where
   unfolding turn
   takes-stale-turn s fs st below p u v args n is e f w k = rw (e, take-found-read p u v args is n, w, k, found-beyond-read p u v args is n f w, loose-one (levels f.rest)) refl
 
-  -- a machine whose turn is known
+  -- a machine whose move is known
   by : (m m' : Machine) (written : List Item) → turn code names m ≡ Went written m' → Leads code names m m' written
   by = leads-turn code names
 

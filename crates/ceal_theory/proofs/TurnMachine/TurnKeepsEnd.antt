@@ -1,4 +1,4 @@
--- One turn of the machine keeps what it finishes with.
+-- One move of the machine keeps what it finishes with.
 use Rattle.std.proofs.Common.{◌≡◌, ℕ, ◌≤◌, Bool, true, false, Option, Some, None, List, [], ◌∷◌, ◌++◌, append_assoc, append-nil, refl, sym, ap, subst, arith}
 use Rattle.ceal_base.specs.Operators.{same_word}
 use Rattle.ceal_base.specs.Trace.{Trace, Nothing, Stepped, Allocated, Wrote, WasRead, flat}
@@ -25,7 +25,7 @@ use Rattle.ceal_theory.specs.Turns.{Finishes}
 abbrev pub at : State → Mode → Frames → Machine
 at s mode fs = record { state = s; mode = mode; frames = fs }
 
--- what holds where a turn has been taken: whatever the machine after it finishes with, the one before finishes with,
+-- what holds where a move has been taken: whatever the machine after it finishes with, the one before finishes with,
 -- and what was written in front
 abbrev pub Kept : Code → (ℕ → ℕ) → Machine → Turn → Type 0
 Kept code names m Ended = Finishes code names m m.state []
@@ -168,7 +168,7 @@ mode-turn : (code : Code) (names : ℕ → ℕ) (s : State) (fs : Frames) (m : M
 mode-turn code names s fs (Fixing todo) = fix-turn code names s fs todo
 mode-turn code names s fs (Running st old) = act-turn code names s st fs old (next code s.plain st) refl
 
--- a turn keeps what the machine finishes with
+-- a move keeps what the machine finishes with
 pub turn-kept : (code : Code) (names : ℕ → ℕ) (m : Machine) → Kept code names m (turn code names m)
 unfolding turn
 turn-kept code names m = mode-turn code names m.state m.frames m.mode
@@ -197,7 +197,7 @@ mend-ahead : (code : Code) (names : ℕ → ℕ) (s t s' : State) (p : Place) (u
 mend-ahead code names s t s' p u v args value inside new fs later (Mend.kept e f) r = rw (e, word-refl value) (Finishes.fixes f (r Nothing))
 mend-ahead code names s t s' p u v args value inside new fs later (Mend.stale {left = left} e a) r = rw (not-same (s.store p) value e) (Finishes.runs a (r left))
 
--- what a machine finishes with begins with what its turn writes, and the machine after the turn finishes with the rest
+-- what a machine finishes with begins with what its move writes, and the machine after the move finishes with the rest
 pub turn-ahead : (code : Code) (names : ℕ → ℕ) {m : Machine} {s' : State} {out : List Item} → Finishes code names m s' out → Ahead code names s' out (turn code names m)
 unfolding turn
 turn-ahead code names (Finishes.fixes Fix.end r) = closed-ahead code names r
