@@ -95,5 +95,5 @@ none-in aside (CodeBegun floor read ∷ fs) e = absurd (cc)
 none-in aside (CodeTaken floor limit ∷ fs) e = absurd (cc)
 none-in aside (CodeKept until ∷ fs) e = absurd (cc)
 
-pub idle-first : {aside : Pile} (fs : List CodeFrame) → frames_in aside (reverse fs) ≡ [] → fs ≡ []
-idle-first {aside} fs e = sym (reverse-reverse fs) ∙ ap reverse (none-in aside (reverse fs) e)
+pub idle-first : (aside : Pile) (fs : List CodeFrame) → frames_in aside (reverse fs) ≡ [] → fs ≡ []
+idle-first aside fs e = sym (reverse-reverse fs) ∙ ap reverse (none-in aside (reverse fs) e)

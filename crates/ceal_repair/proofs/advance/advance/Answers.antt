@@ -21,7 +21,7 @@ turns-requires-clause-comes c =
     )
 
 pub turns-requires-clause-idle : goal.turns-requires-clause-idle
-turns-requires-clause-idle c = idle-first c.at_root-repair.result.frames.now.items c.at_root-repair.ensures.frames
+turns-requires-clause-idle c = idle-first c.at_root-repair.result.stack.now.waits.aside c.at_root-repair.result.frames.now.items c.at_root-repair.ensures.frames
 
 pub returns-clause-sliced : goal.returns-clause-sliced
 returns-clause-sliced c = λ f args r part.

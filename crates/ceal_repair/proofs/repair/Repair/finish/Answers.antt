@@ -5,7 +5,7 @@ use Rattle.ceal_repair.proofs.Runs.UnitSteps.{NodeMore, cursor-here}
 use Rattle.ceal_repair.proofs.Runs.RepairView.{runs-as, with_parts}
 use Rattle.ceal_repair.specs.Entries.{entries}
 use Rattle.ceal_repair.specs.Moment.{View}
-use Rattle.ceal_repair.specs.Repairs.{code_of, inputs_of, view, view_under, units_on}
+use Rattle.ceal_repair.specs.Repairs.{code_of, inputs_of, view_under, units_on}
 use Rattle.ceal_repair.specs.Frames.{Begun, frames_in}
 use Rattle.ceal_repair.specs.declared.repair.Repair.{Repair}
 use Rattle.ceal_trace.specs.declared.node.Node.TheVariants.{End}

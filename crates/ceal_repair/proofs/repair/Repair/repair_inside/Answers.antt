@@ -1,4 +1,4 @@
-use Rattle.std.proofs.Common.{◌≡◌, Option, Some, List, [], ◌∷◌, reverse, refl, sym, ap, ◌∙◌}
+use Rattle.std.proofs.Common.{◌≡◌, Option, Some, List, ◌∷◌, reverse, refl, sym, ap, ◌∙◌}
 use Rattle.ceal_code.specs.Stacks.{aside_in}
 use Rattle.ceal_order.specs.declared.stamp.Stamp.{Stamp}
 use Rattle.ceal_repair.proofs.Reuse.ReadReuseInCode.{bases-cells}
