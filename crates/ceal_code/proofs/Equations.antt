@@ -16,3 +16,4 @@ pub mod InitSteps
 pub mod StackSteps
 pub mod GivenSteps
 pub mod WaitSteps
+pub mod FloorSteps

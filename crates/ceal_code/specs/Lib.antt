@@ -16,6 +16,7 @@ pub mod Determined
 pub mod Laws
 pub mod Over
 pub mod PlainWords
+pub mod Piles
 pub mod Stacks
 pub mod Tables
 pub mod After

@@ -4,6 +4,7 @@ use Rattle.ceal_base.specs.declared.forest.Key.{Key}
 use Rattle.ceal_base.specs.declared.forest.Key.TheVariants.{Init}
 use Rattle.ceal_base.specs.declared.word.Word.{Word}
 use Rattle.ceal_code.specs.Init.{arguments}
+use Rattle.ceal_code.specs.Piles.{Pile, Piles}
 use Rattle.ceal_code.specs.Program.{Code}
 use Rattle.ceal_code.specs.Step.{Stack, Empty, Run, Act, Over, Quiet, Makes, Writes, Reads, act, command_at, key_of}
 use Rattle.ceal_code.specs.Value.{Plain, Variables, values}
@@ -19,7 +20,7 @@ use Rattle.ceal_code.specs.declared.step.Reading.{Reading}
 use Rattle.ceal_code.specs.declared.step.Step.{Step as CodeStep}
 use Rattle.ceal_code.specs.declared.step.Step.TheVariants.{Over as StepOver, Quiet as StepQuiet, Makes as StepMakes, Writes as StepWrites, Reads as StepReads}
 use Rattle.ceal_code.specs.declared.waits.Waiting.{Waiting}
-use Rattle.ceal_code.specs.declared.waits.Waits.{Waits}
+use Rattle.ceal_code.specs.declared.waits.Floor.{Floor}
 
 -- an activation over other units
 abbrev pub over : Activation → Stack → Stack
@@ -37,8 +38,15 @@ unfoldable pub waiting : List Waiting → List Word → Stack
 waiting units words = waiting_on (reverse units) words
 
 -- units that wait, as the code keeps them
-unfoldable pub waits_in : Waits → Stack
-waits_in w = waiting w.units.items w.words.items
+unfoldable pub waits_in : Piles → Stack
+waits_in w = waiting w.waits.units w.waits.words
+
+-- of units that are set aside, those above a floor as a stack, and those under it
+unfoldable pub above_floor : Floor → Pile → Stack
+above_floor floor aside = waiting (drop floor.units aside.units) (drop floor.words aside.words)
+
+abbrev pub under_floor : Floor → Pile → Pile
+under_floor floor aside = record { units = take floor.units aside.units; words = take floor.words aside.words }
 
 -- a unit over others, where it runs
 abbrev pub topped : Bool → Activation → Stack → Stack
@@ -57,16 +65,20 @@ top_of s = s.top
 abbrev pub below_in : CodeStack → Stack
 below_in s = waits_in s.waits
 
+-- the units that are set aside
+abbrev pub aside_in : CodeStack → Pile
+aside_in s = s.waits.aside
+
 -- how many units wait
 abbrev pub below_count : CodeStack → ℕ
-below_count s = length s.waits.units.items
+below_count s = length s.waits.waits.units
 
 -- how many units it has
 abbrev pub left_in : CodeStack → ℕ
-left_in s = length s.waits.units.items + (if s.runs then 1 else 0)
+left_in s = length s.waits.waits.units + (if s.runs then 1 else 0)
 
 -- the next of the units that wait has begun, or there is none
-abbrev pub Began : Bool → Waits → Activation → Waits → Type 0
+abbrev pub Began : Bool → Piles → Activation → Piles → Type 0
 Began true old a new = waits_in old ≡ over a (waits_in new)
 Began false old a new = (waits_in old ≡ Empty) × (waits_in new ≡ Empty)
 

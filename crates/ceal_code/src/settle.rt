@@ -3,7 +3,7 @@
 ghost use Rattle.std.specs.Prelude.{◌≡◌, true, unwrap_or, if◌then◌else◌, IfOk, IfSome, OnOk};
 ghost use Rattle.std.specs.Option.{option_map};
 ghost use Rattle.ceal_code.specs.Init.{arguments};
-ghost use Rattle.ceal_code.specs.Stacks.{waits_in, stack_in, landing, Stands};
+ghost use Rattle.ceal_code.specs.Stacks.{waits_in, stack_in, aside_in, landing, Stands};
 ghost use Rattle.ceal_code.specs.Step.{Stack as StackOf, Empty, command_at, entered, landed, settled_at, settled};
 ghost use Rattle.ceal_code.specs.Value.{values};
 ghost use Rattle.ceal_code.specs.declared.command.Cmd.TheVariants.{Done};
@@ -129,6 +129,7 @@ impl Stack {
             ≡ landing found self.new Empty) }
         ensures command { IfOk result
             (λ found. IfSome found (λ c. Stands code.now c.now self.new)) }
+        ensures aside { OnOk result (aside_in self.new ≡ aside_in self.old) }
     {
         while self.begin()? {
             if let Some(c) = self.arrive(code, plain)? {

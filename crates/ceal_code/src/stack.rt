@@ -4,7 +4,7 @@ ghost use Rattle.std.specs.Prelude.{◌≡◌, ◌<◌, length, true, false, IfO
 ghost use Rattle.std.specs.declared.alloc.Global.{Global as Allocator};
 ghost use Rattle.ceal_base.specs.Operators.{number_of};
 ghost use Rattle.ceal_code.specs.Init.{arguments};
-ghost use Rattle.ceal_code.specs.Stacks.{Began, over, waits_in, stack_in, top_of, below_in, below_count, left_in};
+ghost use Rattle.ceal_code.specs.Stacks.{Began, over, waits_in, stack_in, aside_in, above_floor, under_floor, top_of, below_in, below_count, left_in};
 ghost use Rattle.ceal_code.specs.Step.{Empty, Run, entered, started, given};
 ghost use Rattle.ceal_code.specs.Value.{set, expr_value, values};
 
@@ -13,7 +13,7 @@ use crate::code::Code;
 use crate::evaluate::Scope;
 use crate::expr::CodeExpr;
 use crate::plain_words::PlainWords;
-use crate::waits::Waits;
+use crate::waits::{Floor, Waits};
 use ceal_base::forest::UnitId;
 use ceal_base::no_memory::NoMemory;
 use ceal_base::word::{Place, Word};
@@ -48,7 +48,8 @@ pub struct Activation {
     pub env: Vec<Word>,
 }
 
-/// Units still to do. One of them runs, or none; the others wait. What has room for the words of a unit keeps it.
+/// Units still to do. One of them runs, or none; the others wait, over those that are set aside. What has room for the words of a
+/// unit keeps it.
 #[derive(Drop)]
 pub struct Stack {
     pub(crate) runs: bool,
@@ -163,6 +164,7 @@ impl Stack {
     #[tactic(auto, unfolding(crate::specs::Stacks::stack_in))]
     fn park(&mut self) -> Result<(), NoMemory>
         ensures waits { OnOk result (waits_in self.new.waits ≡ stack_in self.old) }
+        ensures aside { OnOk result (aside_in self.new ≡ aside_in self.old) }
     {
         if self.runs {
             self.waits
@@ -201,6 +203,7 @@ impl Stack {
     pub fn enter(&mut self, code: &Code, unit: usize, words: &[Word]) -> Result<(), NoMemory>
         ensures entered { OnOk result
             (stack_in self.new ≡ entered code.now unit words.now (stack_in self.old)) }
+        ensures aside { OnOk result (aside_in self.new ≡ aside_in self.old) }
     {
         self.park()?;
         bind(&mut self.top.env, code.params_of(unit), words)?;
@@ -218,6 +221,7 @@ impl Stack {
         ensures resumed { OnOk result (stack_in self.new ≡ entered code.now next.entry.unit.0
             (given code.now next.entry.unit.0 next.entry.var next.entry.args.now value)
             (stack_in self.old)) }
+        ensures aside { OnOk result (aside_in self.new ≡ aside_in self.old) }
     {
         self.park()?;
         let unit = next.unit.0 as usize;
@@ -251,6 +255,7 @@ impl Stack {
         ensures waits { OnOk result (waits_in self.new.waits ≡ entered code.now unit
             (values code.now.structs (P.plain plain.now)
             (arguments self.old.top.env.items) es.now) (waits_in self.old.waits)) }
+        ensures aside { OnOk result (aside_in self.new ≡ aside_in self.old) }
     {
         let scope = self.top.scope(code, plain);
         bind_values(&scope, &mut self.room, code.params_of(unit), es)?;
@@ -286,6 +291,7 @@ impl Stack {
         requires runs { self.old.runs ≡ true }
         ensures jumped { stack_in self.new ≡ Run self.old.top.unit index
             (arguments self.old.top.env.items) (waits_in self.old.waits) }
+        ensures aside { aside_in self.new ≡ aside_in self.old }
     {
         self.top.index = index;
     }
@@ -311,6 +317,7 @@ impl Stack {
         ensures set { OnOk result (stack_in self.new
             ≡ Run (top_of self.old).unit (top_of self.old).index
             (set (arguments (top_of self.old).env.items) var word) (below_in self.old)) }
+        ensures aside { OnOk result (aside_in self.new ≡ aside_in self.old) }
     {
         self.top.set(var, word)?;
         self.runs = true;
@@ -322,6 +329,7 @@ impl Stack {
     pub fn leave(&mut self)
         ensures left { stack_in self.new ≡ below_in self.old }
         ensures fewer { left_in self.new ≡ below_count self.old }
+        ensures aside { aside_in self.new ≡ aside_in self.old }
     {
         self.runs = false;
     }
@@ -337,32 +345,47 @@ impl Stack {
         mem::replace(&mut self.top, none)
     }
 
-    /// Takes all units off the stack, which keeps its room.
+    /// Takes all units off the stack, which keeps its room. Those that were set aside stay so.
     #[tactic(auto, unfolding(crate::specs::Stacks::stack_in))]
     pub fn clear(&mut self)
         ensures cleared { stack_in self.new ≡ Empty }
+        ensures aside { aside_in self.new ≡ aside_in self.old }
     {
         self.runs = false;
         self.waits.clear();
     }
 
-    /// Takes the units off the stack, which keeps its room: others can run now, and these afterwards.
+    /// Takes all units off the stack, and those that were set aside.
     #[tactic(auto, unfolding(crate::specs::Stacks::stack_in))]
-    pub fn set_aside(&mut self) -> Result<Waits, NoMemory>
-        ensures aside { IfOk result (λ below. waits_in below ≡ stack_in self.old) }
+    pub fn reset(&mut self)
+        ensures cleared { stack_in self.new ≡ Empty }
+    {
+        self.runs = false;
+        self.waits.reset();
+    }
+
+    /// Sets the units aside: others can run now, and these afterwards. It answers the floor that they stand on.
+    #[tactic(auto, unfolding(crate::specs::Stacks::stack_in))]
+    pub fn set_aside(&mut self) -> Result<Floor, NoMemory>
+        ensures above { IfOk result
+            (λ floor. above_floor floor (aside_in self.new) ≡ stack_in self.old) }
+        ensures under { IfOk result
+            (λ floor. under_floor floor (aside_in self.new) ≡ aside_in self.old) }
         ensures empty { OnOk result (stack_in self.new ≡ Empty) }
     {
         self.park()?;
         self.runs = false;
-        Ok(self.waits.take())
+        let floor = self.waits.raise();
+        Ok(floor)
     }
 
-    /// Puts units that were taken off in place of those that there are.
+    /// Puts the units that were set aside on this floor in place of those that there are.
     #[tactic(auto, unfolding(crate::specs::Stacks::stack_in))]
-    pub fn bring_back(&mut self, below: Waits)
-        ensures back { stack_in self.new ≡ waits_in below }
+    pub fn bring_back(&mut self, floor: Floor)
+        ensures back { stack_in self.new ≡ above_floor floor (aside_in self.old) }
+        ensures aside { aside_in self.new ≡ under_floor floor (aside_in self.old) }
     {
-        self.waits.put(below);
+        self.waits.lower(floor);
         self.runs = false;
     }
 
@@ -373,7 +396,8 @@ impl Stack {
             (λ more. Began more self.old.waits self.new.top self.new.waits) }
         ensures runs { IfOk result (λ more. self.new.runs ≡ more) }
         ensures fewer { IfOk result (λ more. more ≡ true
-            → length self.new.waits.units.items < length self.old.waits.units.items) }
+            → length self.new.waits.waits.units < length self.old.waits.waits.units) }
+        ensures aside { OnOk result (aside_in self.new ≡ aside_in self.old) }
     {
         let more = self.waits.pop(&mut self.top)?;
         self.runs = more;
@@ -387,7 +411,8 @@ impl Stack {
         ensures runs { IfOk result (λ more. self.new.runs ≡ more) }
         ensures none { IfOk result (λ more. more ≡ false → stack_in self.old ≡ Empty) }
         ensures fewer { IfOk result
-            (λ more. more ≡ true → length self.new.waits.units.items < left_in self.old) }
+            (λ more. more ≡ true → length self.new.waits.waits.units < left_in self.old) }
+        ensures aside { OnOk result (aside_in self.new ≡ aside_in self.old) }
     {
         if self.runs {
             return Ok(true);

@@ -4,7 +4,7 @@ ghost use Rattle.std.specs.Prelude.{◌≡◌, ◌+◌, ◌<◌, ◌^◌, true, 
 ghost use Rattle.ceal_base.specs.Access.{holds};
 ghost use Rattle.ceal_code.specs.Init.{arguments};
 ghost use Rattle.ceal_code.specs.Program.{Code as Parts};
-ghost use Rattle.ceal_code.specs.Stacks.{waits_in, stack_in, act_in, act_on, top_of, key_made, making_in, reading_in, step_in};
+ghost use Rattle.ceal_code.specs.Stacks.{waits_in, stack_in, aside_in, act_in, act_on, top_of, key_made, making_in, reading_in, step_in};
 ghost use Rattle.ceal_code.specs.Step.{Run, variable_default, entered, given, key_of, place_of, writes_at, next};
 ghost use Rattle.ceal_code.specs.Value.{Plain, set, values};
 ghost use Rattle.ceal_base.specs.declared.word.Word.TheVariants.{Num as IsNum};
@@ -117,8 +117,10 @@ fn target(test: i64, yes: u32, no: u32) -> usize
 fn assign(stack: &mut Stack, v: u32, word: Word) -> Result<(), NoMemory>
     requires index { stack.old.top.index < 2 ^ 63 }
     requires runs { stack.old.runs ≡ true }
-    ensures { OnOk result (stack_in stack.new ≡ Run stack.old.top.unit (stack.old.top.index + 1)
+    ensures assigned { OnOk result (stack_in stack.new
+        ≡ Run stack.old.top.unit (stack.old.top.index + 1)
         (set (arguments stack.old.top.env.items) v word) (waits_in stack.old.waits)) }
+    ensures aside { OnOk result (aside_in stack.new ≡ aside_in stack.old) }
 {
     stack.top.set(v, word)?;
     stack.jump(stack.top.index + 1);
@@ -128,9 +130,10 @@ fn assign(stack: &mut Stack, v: u32, word: Word) -> Result<(), NoMemory>
 /// Makes a block.
 fn make<'c>(stack: &mut Stack, making: Making<'c>) -> Step<'c>
     requires index { stack.old.top.index < 2 ^ 63 }
-    ensures { (code : Parts) (x : Plain) → step_in code x result stack.new
+    ensures makes { (code : Parts) (x : Plain) → step_in code x result stack.new
         ≡ making_in code x making.entry stack.old.top.unit (stack.old.top.index + 1)
         (arguments stack.old.top.env.items) (waits_in stack.old.waits) }
+    ensures aside { aside_in stack.new ≡ aside_in stack.old }
 {
     stack.top.index += 1;
     Step::Makes(making)
@@ -140,9 +143,10 @@ fn make<'c>(stack: &mut Stack, making: Making<'c>) -> Step<'c>
 fn write<'c>(stack: &mut Stack, at: Word, value: Word) -> Step<'c>
     requires index { stack.old.top.index < 2 ^ 63 }
     requires runs { stack.old.runs ≡ true }
-    ensures { (code : Parts) (x : Plain) → step_in code x result stack.new
+    ensures writes { (code : Parts) (x : Plain) → step_in code x result stack.new
         ≡ writes_at (place_of at) value (Run stack.old.top.unit (stack.old.top.index + 1)
         (arguments stack.old.top.env.items) (waits_in stack.old.waits)) }
+    ensures aside { aside_in stack.new ≡ aside_in stack.old }
 {
     stack.jump(stack.top.index + 1);
     match place_at(at) {
@@ -159,9 +163,10 @@ fn read_null(
     v: u32,
     args: &[Word],
 ) -> Result<(), NoMemory>
-    ensures { OnOk result (stack_in stack.new ≡ entered code.now unit
+    ensures entered { OnOk result (stack_in stack.new ≡ entered code.now unit
         (given code.now unit v args.now (variable_default code.now unit v))
         (waits_in stack.old.waits)) }
+    ensures aside { OnOk result (aside_in stack.new ≡ aside_in stack.old) }
 {
     let value = null_content(code, unit, v);
     bind_given(&mut stack.top.env, code.params_of(unit), v, value, args)?;
@@ -178,10 +183,11 @@ fn read_nothing<P: PlainWords>(
     var: VarId,
     args: &CodeExprs,
 ) -> Result<(), NoMemory>
-    ensures { OnOk result (stack_in stack.new ≡ entered code.now unit.0
+    ensures entered { OnOk result (stack_in stack.new ≡ entered code.now unit.0
         (given code.now unit.0 var.0 (values code.now.structs (P.plain plain.now)
         (arguments stack.old.top.env.items) args.now) (variable_default code.now unit.0 var.0))
         (waits_in stack.old.waits)) }
+    ensures aside { OnOk result (aside_in stack.new ≡ aside_in stack.old) }
 {
     let words = stack.top.values(code, plain, args.items())?;
     let begun = read_null(code, stack, unit.0 as usize, var.0, words.items());
@@ -198,9 +204,10 @@ fn perform<'c, P: PlainWords>(
 ) -> Result<Step<'c>, NoMemory>
     requires index { stack.old.top.index < 2 ^ 63 }
     requires runs { stack.old.runs ≡ true }
-    ensures { IfOk result (λ s. act_on code.now (P.plain plain.now) c.now
+    ensures acts { IfOk result (λ s. act_on code.now (P.plain plain.now) c.now
         stack.old.top (waits_in stack.old.waits)
         ≡ step_in code.now (P.plain plain.now) s stack.new) }
+    ensures aside { OnOk result (aside_in stack.new ≡ aside_in stack.old) }
 {
     match c {
         Cmd::Move { var, value } => {
@@ -280,6 +287,7 @@ impl Stack {
     ) -> Result<Step<'c>, NoMemory>
         ensures step { IfOk result (λ s. next code.now (P.plain plain.now) (stack_in self.old)
             ≡ step_in code.now (P.plain plain.now) s self.new) }
+        ensures aside { OnOk result (aside_in self.new ≡ aside_in self.old) }
     {
         match self.settle(code, plain)? {
             None => Ok(Step::Over),

@@ -1,11 +1,9 @@
 -- What is left over to a unit, and what waits around it, by the nodes after the cursor.
 use Rattle.std.specs.Prelude.{◌≡◌, ℕ, Option, None, Some, List, [], ◌∷◌, ◌++◌}
-use Rattle.ceal_code.specs.Stacks.{waits_in}
-use Rattle.ceal_code.specs.declared.waits.Waits.{Waits}
+use Rattle.ceal_code.specs.Step.{Stack}
 use Rattle.ceal_order.specs.declared.stamp.Stamp.{Stamp}
 use Rattle.ceal_repair.specs.Entries.{stamped, closing, entries}
-use Rattle.ceal_repair.specs.declared.frame.Frame.{Frame}
-use Rattle.ceal_repair.specs.declared.frame.Frame.TheVariants.{Begun, Taken, Kept}
+use Rattle.ceal_repair.specs.Frames.{Frame, Begun, Taken, Kept}
 use Rattle.ceal_theory.specs.Course.{Wait, Fixes, Takes, Begins}
 use Rattle.ceal_theory.specs.Groves.{Grove}
 use Rattle.ceal_trace.specs.Nodes.{Entry}
@@ -33,14 +31,14 @@ mutual
     last : Tails limit beyond limit [] [] [] beyond
     -- a new read shares what is left over
     begun : {until : Option Stamp} {fs : List Frame} {ws : List Wait} {rs : List ℕ} {tail : List Entry}
-        (below : Waits) (read : Stamp)
+        (below : Stack) (read : Stamp)
         → Tails limit beyond until fs ws rs tail
-        → Tails limit beyond until (Begun below read ∷ fs) (Begins (waits_in below) ∷ ws) (read.0 ∷ rs) tail
+        → Tails limit beyond until (Begun below read ∷ fs) (Begins below ∷ ws) (read.0 ∷ rs) tail
     -- a taken read that is re-executed: its end, and what is left over after it
     taken : {until : Stamp} {fs : List Frame} {ws : List Wait} {rs : List ℕ} {tail : List Entry}
-        (below : Waits) (e r m : ℕ) (g : Grove)
+        (below : Stack) (e r m : ℕ) (g : Grove)
         → Tails limit beyond (Some until) fs ws rs tail
-        → Tails limit beyond (Some (stamped e)) (Taken below until ∷ fs) (Takes (waits_in below) ∷ ws) (r ∷ rs)
+        → Tails limit beyond (Some (stamped e)) (Taken below until ∷ fs) (Takes below ∷ ws) (r ∷ rs)
         (closing e r m ∷ (entries g ++ tail))
     -- a stale read of a taken one: its end, and the nodes that are passed then
     kept : {until : Stamp} {fs : List Frame} {ws : List Wait} {rs : List ℕ} {back : List Entry} (e r m : ℕ)
@@ -51,7 +49,7 @@ mutual
   pub data Passes (limit : Option Stamp) (beyond : List Entry)
       : Stamp → List Frame → List Wait → List ℕ → List Entry → Type 0 where
     passes : {until : Stamp} {fs : List Frame} {ws vs : List Wait} {rs qs : List ℕ} {es tail : List Entry}
-        (below : Waits) (e r m : ℕ) (g : Grove)
-        → Inside (Takes (waits_in below) ∷ ws) (r ∷ rs) vs qs es
+        (below : Stack) (e r m : ℕ) (g : Grove)
+        → Inside (Takes below ∷ ws) (r ∷ rs) vs qs es
         → Tails limit beyond (Some until) fs ws rs tail
         → Passes limit beyond (stamped e) (Taken below until ∷ fs) vs qs (es ++ closing e r m ∷ (entries g ++ tail))

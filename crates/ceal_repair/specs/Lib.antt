@@ -11,6 +11,7 @@ pub mod Entries
 pub mod Blocks
 pub mod Answers
 -- what its own functions say of each other
+pub mod Frames
 pub mod Around
 pub mod Moment
 pub mod Repairs

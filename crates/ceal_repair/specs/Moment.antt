@@ -13,8 +13,7 @@ use Rattle.ceal_repair.specs.Around.{Bounds, Tails, Passes}
 use Rattle.ceal_repair.specs.Blocks.{HasBlocks, Given}
 use Rattle.ceal_repair.specs.Entries.{entries, entry}
 use Rattle.ceal_repair.specs.Words.{words_of}
-use Rattle.ceal_repair.specs.declared.frame.Frame.{Frame}
-use Rattle.ceal_repair.specs.declared.frame.Frame.TheVariants.{Begun, Taken, Kept as FrameKept}
+use Rattle.ceal_repair.specs.Frames.{Frame, Begun, Taken, Kept as FrameKept}
 use Rattle.ceal_repair.specs.Covered.{contents_after}
 use Rattle.ceal_repair.specs.Kept.{Kept, QueuedBehind, base_in}
 use Rattle.ceal_repair.specs.declared.tables.Tables.{Tables}

@@ -4,18 +4,18 @@ use Rattle.ceal_base.specs.Block.{Block}
 use Rattle.ceal_base.specs.declared.forest.Key.{Key}
 use Rattle.ceal_base.specs.declared.word.Word.{Word}
 use Rattle.ceal_code.specs.Program.{Code}
-use Rattle.ceal_code.specs.Stacks.{stack_in, top_of, below_in, act_in, step_in}
+use Rattle.ceal_code.specs.Stacks.{stack_in, aside_in, above_floor, under_floor, top_of, below_in, act_in, step_in}
 use Rattle.ceal_code.specs.Step.{Stack, Act as Step, Over, next}
 use Rattle.ceal_code.specs.declared.stack.Stack.{Stack as CodeStack}
 use Rattle.ceal_code.specs.declared.step.Act.{Act}
 use Rattle.ceal_code.specs.declared.step.Act.TheVariants.{Makes}
 use Rattle.ceal_code.specs.declared.step.Step.{Step as CodeStep}
-use Rattle.ceal_code.specs.declared.waits.Waits.{Waits}
+use Rattle.ceal_code.specs.declared.waits.Floor.{Floor}
 use Rattle.ceal_order.specs.declared.stamp.Stamp.{Stamp}
+use Rattle.ceal_repair.specs.Frames.{Begun, frames_in}
 use Rattle.ceal_repair.specs.Moment.{View, Start, RunningNow, PassingNow}
 use Rattle.ceal_repair.specs.Words.{words_of}
 use Rattle.ceal_repair.specs.declared.frame.Frame.{Frame}
-use Rattle.ceal_repair.specs.declared.frame.Frame.TheVariants.{Begun}
 use Rattle.ceal_repair.specs.declared.repair.Repair.{Repair}
 use Rattle.ceal_repair.specs.declared.running.Running.{Running}
 use Rattle.ceal_repair.specs.Lists.{between}
@@ -50,8 +50,17 @@ view r = record {
   spent = (running_of r).spent;
   cursor = r.cursor.0;
   limit = r.limit;
-  frames = reverse (frames_of r);
+  frames = frames_in (aside_in (stack_of r)) (reverse (frames_of r));
 }
+
+-- the units that are set aside on a floor
+abbrev pub units_on : Floor → Repair → Stack
+units_on floor r = above_floor floor (aside_in (stack_of r))
+
+-- the parts of a repair without those units
+abbrev pub view_under : Floor → Repair → View
+view_under floor r =
+    record (view r) { frames = frames_in (under_floor floor (aside_in (stack_of r))) (reverse (frames_of r)) }
 
 -- the next step of a stack over the plain words of a repair
 abbrev pub next_in : Repair → Stack → Step
@@ -100,10 +109,10 @@ pub record SameCall (old new : Repair) : Type 0 where
   pub place : new.running.ghost_name ≡ old.running.ghost_name
 
 -- the unit of a new read is over; its frame was taken off
-pub record EndsRead (start : Start) (below : Waits) (read : Stamp) (r : Repair) : Type 0 where
+pub record EndsRead (start : Start) (below : Floor) (read : Stamp) (r : Repair) : Type 0 where
   pub stack : Stack
   pub now : RunningNow (code_of r) (inputs_of r) start stack
-      (record (view r) { frames = Begun below read ∷ (view r).frames })
+      (record (view_under below r) { frames = Begun (units_on below r) read ∷ (view_under below r).frames })
   pub over : next_in r stack ≡ Over
 
 -- the nodes after a cursor up to the limit; without a limit none is left over

@@ -1,7 +1,7 @@
 // A repair that is under way: the machine of change propagation over the nodes of a trace.
 
 ghost use Rattle.std.specs.Prelude.{◌≡◌, ◌+◌, ◌∷◌, ◌++◌, [], Some, None, true, false, IfOk, OnOk, reverse};
-ghost use Rattle.ceal_code.specs.Stacks.{stack_in, top_of, below_in, act_in};
+ghost use Rattle.ceal_code.specs.Stacks.{stack_in, aside_in, top_of, below_in, act_in};
 ghost use Rattle.ceal_code.specs.declared.step.Step.TheVariants.{Makes as IsMaking, Reads as IsReading};
 ghost use Rattle.ceal_code.specs.declared.step.Act.TheVariants as does;
 ghost use Rattle.ceal_repair.specs.Moment.{Start};
@@ -101,6 +101,8 @@ impl<'a> Repair<'a> {
         ensures rest { self.new ≡ record self.old { stack = self.new.stack } }
         ensures acts { IfOk result (λ s. next_in self.old (stack_in (stack_of self.old))
             ≡ step_of self.new s) }
+        ensures aside { OnOk result
+            (aside_in (stack_of self.new) ≡ aside_in (stack_of self.old)) }
     {
         let words = RunWords {
             code: self.code,
@@ -131,6 +133,8 @@ impl<'a> Repair<'a> {
         ensures closure { OnOk result (step_of self.old (IsReading reading.entry)
             ≡ act_in (does.Reads (closure_in reading.entry (arguments_of self.new)))
             (stack_in (stack_of self.new))) }
+        ensures aside { OnOk result
+            (aside_in (stack_of self.new) ≡ aside_in (stack_of self.old)) }
     {
         let words = RunWords {
             code: self.code,

@@ -68,8 +68,6 @@ module _ (code : Code) (x : Plain) where
   unfolding settled
   settle-none st e = ap (settled code x) e
 
-pub ruleset wait_steps = (wait-none, wait-next, wait-over)
-
 -- the next step, by the command of the unit that takes it
 pub next-of : (code : Code) (x : Plain) (st : Stack) (s : CodeStack) (c : Cmd) → settled code x st ≡ stack_in s → Stands code c s
     → next code x st ≡ act_on code x c s.top (waits_in s.waits)

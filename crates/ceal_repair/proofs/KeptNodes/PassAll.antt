@@ -9,9 +9,10 @@ use Rattle.ceal_base.specs.declared.word.Place.{Place}
 use Rattle.ceal_base.specs.declared.word.Word.{Word}
 use Rattle.ceal_code.specs.Program.{Code}
 use Rattle.ceal_code.specs.Replay.{Store, KnownBlock}
-use Rattle.ceal_code.specs.Stacks.{waits_in}
+use Rattle.ceal_code.specs.Piles.{Pile}
+use Rattle.ceal_code.specs.Stacks.{above_floor, under_floor}
 use Rattle.ceal_code.specs.Step.{Stack}
-use Rattle.ceal_code.specs.declared.waits.Waits.{Waits}
+use Rattle.ceal_code.specs.declared.waits.Floor.{Floor}
 use Rattle.ceal_order.proofs.Places.{place_tells}
 use Rattle.ceal_order.specs.Stamps as order
 use Rattle.ceal_order.specs.Stamps.{is_in, place}
@@ -31,8 +32,9 @@ use Rattle.ceal_repair.specs.Entries.{stamped, entry, closing, entries}
 use Rattle.ceal_repair.specs.Kept.{Kept, Records, IsHonestRecord, QueuedBehind, QueuedFrom, base_in}
 use Rattle.ceal_repair.specs.Lists.{before}
 use Rattle.ceal_repair.specs.Moment.{View, Start, RunningNow, PassingNow, Unfinished, through, state_at}
-use Rattle.ceal_repair.specs.declared.frame.Frame.{Frame}
-use Rattle.ceal_repair.specs.declared.frame.Frame.TheVariants.{Taken}
+use Rattle.ceal_repair.specs.Frames.{Frame, Taken, frames_in}
+use Rattle.ceal_repair.specs.declared.frame.Frame.{Frame as CodeFrame}
+use Rattle.ceal_repair.specs.declared.frame.Frame.TheVariants.{Begun as CodeBegun, Taken as CodeTaken, Kept as CodeKept}
 use Rattle.ceal_repair.specs.declared.tables.Tables.{Tables}
 use Rattle.ceal_theory.proofs.Reuse.StepsBetween.{frames-self}
 use Rattle.ceal_theory.proofs.Reuse.TakenAfterRevocation.{bare-stepped}
@@ -99,7 +101,7 @@ unqueued-from t k s from r lt = unqueued-honest t k r (false-of (is_in r t.stale
 
 -- what the frame of the taken read says of what waits
 pub record PassesTaken (limit : Option Stamp) (beyond : List Entry) (until : Stamp) (fs : List Frame) (ws : List Wait) (rs : List ℕ) (back : List Entry) : Type 0 where
-  pub below : Waits
+  pub below : Stack
   pub next : Stamp
   pub frames : List Frame
   pub end : ℕ
@@ -113,7 +115,7 @@ pub record PassesTaken (limit : Option Stamp) (beyond : List Entry) (until : Sta
   pub until_is : until ≡ stamped end
   pub fs_are : fs ≡ Taken below next ∷ frames
   pub back_is : back ≡ nodes ++ closing end read steps ∷ (entries behind ++ rest)
-  pub inside : Inside (Takes (waits_in below) ∷ waits) (read ∷ reads) ws rs nodes
+  pub inside : Inside (Takes below ∷ waits) (read ∷ reads) ws rs nodes
   pub tails : Tails limit beyond (Some next) frames waits reads rest
 
 pub passes-taken : {limit : Option Stamp} {beyond : List Entry} {until : Stamp} {fs : List Frame} {ws : List Wait} {rs : List ℕ} {back : List Entry}
@@ -175,16 +177,26 @@ module _ (code : Code) (inputs : List Block) (start : Start) (until : Stamp) (v 
       (subst (λ o. ¬ IsBefore (stamps_in v.tables.trace.nodes) o s) now.limit (h s i)) in
       omega (arith, far)
 
-  -- the frame that comes next
-  module _ (all fewer : List Frame) (f : Frame) (is : v.frames ≡ reverse all) (popped : all ≡ fewer ++ f ∷ []) where
-    next-and-others : f ∷ reverse fewer ≡ Taken around-it.below around-it.next ∷ around-it.frames
-    next-and-others = sym (reverse-append fewer (f ∷ [])) ∙ (sym (ap reverse popped) ∙ (sym is ∙ around-it.fs_are))
+  -- the frame that comes next, with its units
+  module _ (aside : Pile) (all fewer : List CodeFrame) (f : CodeFrame) (is : v.frames ≡ frames_in aside (reverse all)) (popped : all ≡ fewer ++ f ∷ []) where
+    pub next-and-others : frames_in aside (f ∷ reverse fewer) ≡ Taken around-it.below around-it.next ∷ around-it.frames
+    next-and-others = ap (frames_in aside) (sym (reverse-append fewer (f ∷ []))) ∙ (ap (λ fs. frames_in aside (reverse fs)) (sym popped) ∙ (sym is ∙ around-it.fs_are))
 
-    pub frame-next : f ≡ Taken around-it.below around-it.next
-    frame-next = let both = next-and-others in cc
+    -- it is that of a read that was taken
+    pub next-not-begun : (floor : Floor) (read : Stamp) → f ≡ CodeBegun floor read → ⊥
+    next-not-begun floor read e = let both = ap (λ g. frames_in aside (g ∷ reverse fewer)) (sym e) ∙ next-and-others in cc
 
-    pub frames-next : reverse fewer ≡ around-it.frames
-    frames-next = let both = next-and-others in cc
+    pub next-not-kept : (limit : Stamp) → f ≡ CodeKept limit → ⊥
+    next-not-kept limit e = let both = ap (λ g. frames_in aside (g ∷ reverse fewer)) (sym e) ∙ next-and-others in cc
+
+    pub next-units : (floor : Floor) (limit : Stamp) → f ≡ CodeTaken floor limit → above_floor floor aside ≡ around-it.below
+    next-units floor limit e = let both = ap (λ g. frames_in aside (g ∷ reverse fewer)) (sym e) ∙ next-and-others in cc
+
+    pub next-limit : (floor : Floor) (limit : Stamp) → f ≡ CodeTaken floor limit → limit ≡ around-it.next
+    next-limit floor limit e = let both = ap (λ g. frames_in aside (g ∷ reverse fewer)) (sym e) ∙ next-and-others in cc
+
+    pub frames-next : (floor : Floor) (limit : Stamp) → f ≡ CodeTaken floor limit → frames_in (under_floor floor aside) (reverse fewer) ≡ around-it.frames
+    frames-next floor limit e = let both = ap (λ g. frames_in aside (g ∷ reverse fewer)) (sym e) ∙ next-and-others in cc
 
   -- ---- none of them is stale
 
@@ -229,7 +241,7 @@ module _ (code : Code) (inputs : List Block) (start : Start) (until : Stamp) (v 
         (λ u lt. unqueued-from t1 kept1 until.0 left u lt) r p w is
         ∙ contents-base (base_in t1.mods) (base_in v.tables.mods) p (cells p) (before r walked)
 
-    moment-end : Walked code inputs start v now.blocks now.placed.kept walked (next-end ∷ last-part) all-nodes honest-then (Takes (waits_in around-it.below) ∷ around-it.waits) (around-it.read ∷ around-it.reads)
+    moment-end : Walked code inputs start v now.blocks now.placed.kept walked (next-end ∷ last-part) all-nodes honest-then (Takes around-it.below ∷ around-it.waits) (around-it.read ∷ around-it.reads)
     moment-end = walk code inputs start v now.blocks now.placed.kept walked (next-end ∷ last-part) all-nodes honest-then (walks-all around-it.inside) (through now.placed.done now.placed.last) refl now.placed.opened now.placed.began moment-at
 
     known-then : (q : Place) → KnownBlock (length inputs) (known_after [] (forest_of (through walked (entry until.0 (End (stamped around-it.read)) 0)))) q.block
@@ -237,7 +249,7 @@ module _ (code : Code) (inputs : List Block) (start : Start) (until : Stamp) (v 
     known-then q c = subst (λ bs. KnownBlock (length inputs) bs q.block) (ap (known_after []) (forest-put walked until.0 (End (stamped around-it.read))) ∙ known-append [] (forest_of walked) (item.End ∷ [])) c
 
     -- all are in front with the end, and the units below run with what stands after it
-    pub now-passed : RunningNow code inputs start (waits_in around-it.below) (record { tables = t; heap = v.heap; spent = v.spent; cursor = until.0; limit = Some around-it.next; frames = around-it.frames })
+    pub now-passed : RunningNow code inputs start around-it.below (record { tables = t; heap = v.heap; spent = v.spent; cursor = until.0; limit = Some around-it.next; frames = around-it.frames })
     now-passed = record {
       reads = around-it.reads;
       left = around-it.behind;
@@ -260,15 +272,15 @@ module _ (code : Code) (inputs : List Block) (start : Start) (until : Stamp) (v 
       bare = λ none. absurd (cc);
       bounds = now.bounds;
       blocks = blocks-steps code inputs v.heap t1 t (blocks-as code inputs v.heap v.tables t1 seen cells now.blocks) until.0 0 dropped mods;
-      course = course-bare code inputs start v walked (forest_of walked) (λ s. fixing_at s (Takes (waits_in around-it.below) ∷ around-it.waits) (forest_of (next-end ∷ last-part))) moment-end.course
+      course = course-bare code inputs start v walked (forest_of walked) (λ s. fixing_at s (Takes around-it.below ∷ around-it.waits) (forest_of (next-end ∷ last-part))) moment-end.course
           (record { tables = t; heap = v.heap; spent = v.spent; cursor = until.0; limit = Some around-it.next; frames = around-it.frames })
           (through walked (entry until.0 (End (stamped around-it.read)) 0)) (forest_of (through walked (entry until.0 (End (stamped around-it.read)) 0)))
-          (λ s. running_at s (waits_in around-it.below) around-it.waits (forest_of last-part))
+          (λ s. running_at s around-it.below around-it.waits (forest_of last-part))
           (item.End ∷ []) moment-end.course.store
-          (running_at (state_at code inputs v moment-end.course.store (start.chosen ++ moment-end.course.made)) (waits_in around-it.below) around-it.waits (ticks around-it.steps ++ forest_of last-part))
+          (running_at (state_at code inputs v moment-end.course.store (start.chosen ++ moment-end.course.made)) around-it.below around-it.waits (ticks around-it.steps ++ forest_of last-part))
           (forest-put walked until.0 (End (stamped around-it.read)))
-          (λ names. end-turn code names (state_at code inputs v moment-end.course.store (start.chosen ++ moment-end.course.made)) (waits_in around-it.below) around-it.waits (ticks around-it.steps ++ forest_of last-part)) refl
-          (bare-ticks code (state_at code inputs v moment-end.course.store (start.chosen ++ moment-end.course.made)) (waits_in around-it.below) around-it.waits around-it.steps (forest_of last-part))
+          (λ names. end-turn code names (state_at code inputs v moment-end.course.store (start.chosen ++ moment-end.course.made)) around-it.below around-it.waits (ticks around-it.steps ++ forest_of last-part)) refl
+          (bare-ticks code (state_at code inputs v moment-end.course.store (start.chosen ++ moment-end.course.made)) around-it.below around-it.waits around-it.steps (forest_of last-part))
           (λ q c. moment-end.course.same q (known-then q c)
           ∙ (contents-base (base_in v.tables.mods) (base_in t.mods) q (sym (bases-then q)) walked
           ∙ sym (ap (λ (f : Store). f q) (contents-put (base_in t.mods) walked until.0 (End (stamped around-it.read))))))

@@ -12,7 +12,6 @@ use Rattle.ceal_base.specs.declared.word.Place.{Place}
 use Rattle.ceal_base.specs.declared.word.Word.{Word}
 use Rattle.ceal_code.specs.Program.{Code}
 use Rattle.ceal_code.specs.Replay.{Store, KnownBlock}
-use Rattle.ceal_code.specs.Stacks.{waits_in}
 use Rattle.ceal_order.specs.Stamps as order
 use Rattle.ceal_order.specs.Stamps.{is_in, place}
 use Rattle.ceal_order.specs.declared.stamp.Stamp.{Stamp}
@@ -32,7 +31,7 @@ use Rattle.ceal_repair.specs.Entries.{stamped, entry, closing, entries}
 use Rattle.ceal_repair.specs.Kept.{Kept, Records, IsStale, IsHonestRecord, QueuedBehind, base_in, contents_at}
 use Rattle.ceal_repair.specs.Lists.{before}
 use Rattle.ceal_repair.specs.Moment.{View, Start, RunningNow, PassingNow, through, state_at}
-use Rattle.ceal_repair.specs.declared.frame.Frame.TheVariants.{Kept as FrameKept}
+use Rattle.ceal_repair.specs.Frames.{Kept as FrameKept}
 use Rattle.ceal_repair.specs.declared.tables.Tables.{Tables}
 use Rattle.ceal_theory.specs.Course.{Wait, Fixes, Takes, running_at, fixing_at}
 use Rattle.ceal_theory.specs.Cover.{known_after}
@@ -121,7 +120,7 @@ module _ (code : Code) (inputs : List Block) (start : Start) (until : Stamp) (v 
       ∙ entry-front read x.nodes (next-end code inputs start until v now ∷ last-part code inputs start until v now) among) in
       ap is_read (sym found ∙ stale.read.is)
 
-  pub the-read : Reached read (Takes (waits_in (around-it code inputs start until v now).below) ∷ (around-it code inputs start until v now).waits) ((around-it code inputs start until v now).read ∷ (around-it code inputs start until v now).reads)
+  pub the-read : Reached read (Takes (around-it code inputs start until v now).below ∷ (around-it code inputs start until v now).waits) ((around-it code inputs start until v now).read ∷ (around-it code inputs start until v now).reads)
       now.waits now.reads (around-it code inputs start until v now).nodes
   the-read = reached read (around-it code inputs start until v now).inside reads-one
 

@@ -25,8 +25,7 @@ use Rattle.ceal_repair.specs.Blocks.{HasBlocks}
 use Rattle.ceal_repair.specs.Entries.{stamped, closing, entries, first_in, Lies}
 use Rattle.ceal_repair.specs.Moment.{View, Start, RunningNow, PassingNow, through, state_at}
 use Rattle.ceal_repair.specs.Words.{words_of}
-use Rattle.ceal_repair.specs.declared.frame.Frame.{Frame}
-use Rattle.ceal_repair.specs.declared.frame.Frame.TheVariants.{Kept as FrameKept}
+use Rattle.ceal_repair.specs.Frames.{Frame, Kept as FrameKept}
 use Rattle.ceal_repair.specs.Kept.{Kept, QueuedBehind, base_in}
 use Rattle.ceal_repair.specs.declared.tables.Tables.{Tables}
 use Rattle.ceal_theory.proofs.Reuse.StepsBetween.{frames-self}

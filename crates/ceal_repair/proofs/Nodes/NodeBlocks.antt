@@ -4,8 +4,7 @@ use Rattle.std.proofs.lemmas.Bool.Decides.{eqb_tells}
 use Rattle.ceal_base.specs.declared.forest.Item.{Item}
 use Rattle.ceal_base.specs.declared.word.BlockId.TheVariants.{Input, Core}
 use Rattle.ceal_repair.specs.Moment.{Unfinished}
-use Rattle.ceal_repair.specs.declared.frame.Frame.{Frame}
-use Rattle.ceal_repair.specs.declared.frame.Frame.TheVariants.{Begun, Taken, Kept}
+use Rattle.ceal_repair.specs.Frames.{Frame, Begun, Taken, Kept}
 use Rattle.ceal_theory.specs.KnownContent.{allocs}
 use Rattle.ceal_trace.specs.Items.{ticks, item_of, forest_of}
 use Rattle.ceal_trace.specs.Nodes.{Entry, node_at, end_in, new_entry, with_entry_after, with_steps}

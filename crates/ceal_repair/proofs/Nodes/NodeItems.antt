@@ -13,14 +13,12 @@ use Rattle.ceal_base.specs.declared.word.Word.{Word}
 use Rattle.ceal_code.specs.Known.{Subset}
 use Rattle.ceal_code.specs.Replay.{Store, In, here, there, stored}
 use Rattle.ceal_order.specs.Stamps.{NotIn, Distinct, is_in}
+use Rattle.ceal_code.specs.Step.{Stack}
 use Rattle.ceal_order.specs.declared.stamp.Stamp.{Stamp}
-use Rattle.ceal_code.specs.Stacks.{waits_in}
-use Rattle.ceal_code.specs.declared.waits.Waits.{Waits}
 use Rattle.ceal_repair.specs.Around.{Bounds, Inside, Tails, Passes}
 use Rattle.ceal_repair.specs.Entries.{entries, entry, closing, knots_of}
 use Rattle.ceal_repair.specs.Moment.{Start, Began, Unfinished, through}
-use Rattle.ceal_repair.specs.declared.frame.Frame.{Frame}
-use Rattle.ceal_repair.specs.declared.frame.Frame.TheVariants.{Begun, Taken, Kept}
+use Rattle.ceal_repair.specs.Frames.{Frame, Begun, Taken, Kept}
 use Rattle.ceal_repair.specs.AsItems.{item_in}
 use Rattle.ceal_repair.specs.Covered.{content_after, contents_after}
 use Rattle.ceal_repair.specs.Lists.{up_to}
@@ -483,10 +481,10 @@ tails-bound (Tails.taken {tail = tail} below e r m g t) b = (r, m, entries g ++ 
 tails-bound (Tails.kept {back = back} e r m t) b = (r, m, back, refl)
 
 -- what a frame that comes next says of what waits
-pub record WaitsBegun (limit : Option Stamp) (beyond : List Entry) (until : Option Stamp) (below : Waits) (read : Stamp) (fs : List Frame) (ws : List Wait) (rs : List ℕ) (tail : List Entry) : Type 0 where
+pub record WaitsBegun (limit : Option Stamp) (beyond : List Entry) (until : Option Stamp) (below : Stack) (read : Stamp) (fs : List Frame) (ws : List Wait) (rs : List ℕ) (tail : List Entry) : Type 0 where
   pub waits : List Wait
   pub reads : List ℕ
-  pub waits_are : ws ≡ Begins (waits_in below) ∷ waits
+  pub waits_are : ws ≡ Begins below ∷ waits
   pub reads_are : rs ≡ read.0 ∷ reads
   pub tails : Tails limit beyond until fs waits reads tail
 

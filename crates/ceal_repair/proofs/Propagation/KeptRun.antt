@@ -17,7 +17,10 @@ use Rattle.ceal_repair.specs.Answers.{IsKeptRun}
 use Rattle.ceal_repair.specs.Propagation.{HasCome}
 use Rattle.ceal_repair.specs.Repairs.{code_of, inputs_of}
 use Rattle.ceal_repair.specs.Turning.{StandsFor, TurnedSoFar, IsOrigin, since_begun}
-use Rattle.ceal_repair.specs.declared.frame.Frame.{Frame}
+use Rattle.ceal_code.specs.Piles.{Pile}
+use Rattle.ceal_repair.specs.Frames.{frames_in}
+use Rattle.ceal_repair.specs.declared.frame.Frame.{Frame as CodeFrame}
+use Rattle.ceal_repair.specs.declared.frame.Frame.TheVariants.{Begun as CodeBegun, Taken as CodeTaken, Kept as CodeKept}
 use Rattle.ceal_repair.specs.declared.repair.Repair.{Repair}
 use Rattle.ceal_repair.specs.declared.running.Running.{Running}
 use Rattle.ceal_repair.specs.declared.tables.Tables.{Tables}
@@ -106,5 +109,11 @@ has-come-in code inputs f args fuel l run kept r same_code same_inputs tables he
     rw (same_code, same_inputs, same) (has-come code inputs f args fuel l run kept)
 
 -- no frame waits
-pub idle-first : (fs : List Frame) → reverse fs ≡ [] → fs ≡ []
-idle-first fs e = sym (reverse-reverse fs) ∙ ap reverse e
+none-in : (aside : Pile) (fs : List CodeFrame) → frames_in aside fs ≡ [] → fs ≡ []
+none-in aside [] e = refl
+none-in aside (CodeBegun floor read ∷ fs) e = absurd (cc)
+none-in aside (CodeTaken floor limit ∷ fs) e = absurd (cc)
+none-in aside (CodeKept until ∷ fs) e = absurd (cc)
+
+pub idle-first : (aside : Pile) (fs : List CodeFrame) → frames_in aside (reverse fs) ≡ [] → fs ≡ []
+idle-first aside fs e = sym (reverse-reverse fs) ∙ ap reverse (none-in aside (reverse fs) e)

@@ -12,7 +12,8 @@ use Rattle.ceal_base.specs.declared.word.BlockId.TheVariants.{Input, Core}
 use Rattle.ceal_base.specs.declared.word.Place.{Place}
 use Rattle.ceal_base.specs.declared.word.Word.{Word}
 use Rattle.ceal_code.specs.Program.{Code}
-use Rattle.ceal_code.specs.Stacks.{stack_in}
+use Rattle.ceal_code.specs.Piles.{Pile}
+use Rattle.ceal_code.specs.Stacks.{stack_in, aside_in}
 use Rattle.ceal_code.specs.Step.{Stack, Empty, entered, given}
 use Rattle.ceal_code.specs.Replay.{Store, KnownBlock}
 use Rattle.ceal_code.specs.Value.{Plain}
@@ -39,7 +40,8 @@ use Rattle.ceal_repair.specs.Moment.{View, Start, CourseNow, RunningNow, through
 use Rattle.ceal_repair.specs.Turning.{Since, ReadAt, turn_start, FoundStale, TurnBegan, TurnRuns}
 use Rattle.ceal_repair.specs.Words.{words_of}
 use Rattle.ceal_repair.specs.Repairs.{code_of, inputs_of}
-use Rattle.ceal_repair.specs.declared.frame.Frame.{Frame}
+use Rattle.ceal_repair.specs.Frames.{frames_in}
+use Rattle.ceal_repair.specs.declared.frame.Frame.{Frame as CodeFrame}
 use Rattle.ceal_repair.specs.declared.repair.Repair.{Repair as RepairInCode}
 use Rattle.ceal_repair.specs.declared.running.Running.{Running}
 use Rattle.ceal_repair.specs.declared.tables.Tables.{Tables}
@@ -135,9 +137,9 @@ end-is (Some end) e s some none is =
     ap (λ k. Some (stamped k)) same
 
 -- the parts of a repair in code, where nothing follows
-view-is : (t : Tables) (heap heap' : Contents) → heap ≡ heap' → (n n' : ℕ) → n ≡ n' → (s s' : ℕ) → s ≡ s' → (o o' : Option Stamp) → o ≡ o' → (fs : List Frame) → fs ≡ []
-    → ◌≡◌ {A = View} (record { tables = t; heap = heap; spent = n; cursor = s; limit = o; frames = reverse fs }) (record { tables = t; heap = heap'; spent = n'; cursor = s'; limit = o'; frames = [] })
-view-is t heap heap' a n n' b s s' c o o' d fs e = rw (a, b, c, d, e) refl
+view-is : (t : Tables) (heap heap' : Contents) → heap ≡ heap' → (n n' : ℕ) → n ≡ n' → (s s' : ℕ) → s ≡ s' → (o o' : Option Stamp) → o ≡ o' → (aside : Pile) (fs : List CodeFrame) → fs ≡ []
+    → ◌≡◌ {A = View} (record { tables = t; heap = heap; spent = n; cursor = s; limit = o; frames = frames_in aside (reverse fs) }) (record { tables = t; heap = heap'; spent = n'; cursor = s'; limit = o'; frames = [] })
+view-is t heap heap' a n n' b s s' c o o' d aside fs e = rw (a, b, c, d, e) refl
 
 module _ (code : Code) (inputs : List Block) (f : ℕ) (args : List Word) (o : Since) (read : ℕ) (run : Running) (listed : ListedLaw) (ready : ReadyLaw) (knowing : TurnKnownLaw)
     (found : FoundStale code inputs f args o read run) where
@@ -405,5 +407,5 @@ module _ (code : Code) (inputs : List Block) (f : ℕ) (args : List Word) (o : S
     runs = runs-as code inputs start (resumed code unit var words (store at-place)) (view-then new.running.now.tables nodes mods queue kept) new (now-begun new.running.now.tables nodes mods queue kept)
         same_code same_inputs (resumes at-place (store at-place) unit var words node-now)
         (view-is new.running.now.tables new.running.now.heap run.heap heap new.running.now.spent run.spent spent new.cursor.0 read cursor
-        new.limit (Some (stamped spot.end)) (end-is new.limit (end_in read run.tables.trace.nodes) spot.end some none end-run) new.frames.now.items frames);
+        new.limit (Some (stamped spot.end)) (end-is new.limit (end_in read run.tables.trace.nodes) spot.end some none end-run) (aside_in new.stack.now) new.frames.now.items frames);
   }

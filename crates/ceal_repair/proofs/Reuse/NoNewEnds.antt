@@ -4,8 +4,7 @@ use Rattle.std.proofs.lemmas.Bool.{cases_Bool}
 use Rattle.ceal_repair.proofs.Nodes.NodeItems.{entries-joined}
 use Rattle.ceal_repair.specs.Entries.{closing, entries, CutTo}
 use Rattle.ceal_repair.specs.Moment.{Unfinished}
-use Rattle.ceal_repair.specs.declared.frame.Frame.{Frame}
-use Rattle.ceal_repair.specs.declared.frame.Frame.TheVariants.{Begun, Taken, Kept as FrameKept}
+use Rattle.ceal_repair.specs.Frames.{Frame, Begun, Taken, Kept as FrameKept}
 use Rattle.ceal_theory.specs.Groves.{Grove, Bare, Made, Put, Got, cut}
 use Rattle.ceal_trace.specs.Nodes.{Entry, end_in, ends}
 

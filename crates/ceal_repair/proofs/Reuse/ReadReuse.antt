@@ -16,10 +16,8 @@ use Rattle.ceal_base.specs.declared.word.Word.{Word}
 use Rattle.ceal_code.proofs.Words.SameIsEqual.{word-same, word-refl}
 use Rattle.ceal_code.specs.Program.{Code}
 use Rattle.ceal_code.specs.Replay.{Store, KnownBlock}
-use Rattle.ceal_code.specs.Stacks.{waits_in}
 use Rattle.ceal_code.specs.Step.{Stack, Reads, next}
 use Rattle.ceal_code.specs.Value.{Plain}
-use Rattle.ceal_code.specs.declared.waits.Waits.{Waits}
 use Rattle.ceal_heap.specs.Heap.{Contents, block_of}
 use Rattle.ceal_order.specs.Stamps as order
 use Rattle.ceal_order.specs.Stamps.{is_in, head_of, place}
@@ -35,7 +33,7 @@ use Rattle.ceal_repair.specs.Around.{Tails, Passes, Inside}
 use Rattle.ceal_repair.specs.Blocks.{HasBlocks, Given}
 use Rattle.ceal_repair.specs.Entries.{stamped, entry, closing, entries, CutTo, Lies}
 use Rattle.ceal_repair.specs.Moment.{View, Start, Placed, RunningNow, PassingNow, through, state_at}
-use Rattle.ceal_repair.specs.declared.frame.Frame.TheVariants.{Taken}
+use Rattle.ceal_repair.specs.Frames.{Taken}
 use Rattle.ceal_repair.specs.Words.{words_of}
 use Rattle.ceal_repair.specs.Covered.{contents_after}
 use Rattle.ceal_repair.specs.Kept.{Kept, Records, QueuedBehind, base_in, contents_at}
@@ -184,8 +182,8 @@ around-ticks zero is = refl
 around-ticks (suc n) is = around-ticks n is
 
 module _ (code : Code) (inputs : List Block) (start : Start) (st : Stack) (v : View) (now : RunningNow code inputs start st v)
-    (p : Place) (u : UnitId) (x : ℕ) (args : List Word) (below : Waits) (found : Stamp) (heap : Contents) (t1 t2 : Tables) (rest : Grove)
-    (does : next code (words_of code inputs v.heap) st ≡ Reads p u x args (waits_in below))
+    (p : Place) (u : UnitId) (x : ℕ) (args : List Word) (below : Stack) (found : Stamp) (heap : Contents) (t1 t2 : Tables) (rest : Grove)
+    (does : next code (words_of code inputs v.heap) st ≡ Reads p u x args below)
     (h : StepMore v.cursor v.tables t1)
     (c : CutDone code inputs v.cursor found.0 (through now.placed.done (more now.placed.last)) now.left rest now.tail v.heap heap t1 t2)
     (matches : head_of (stamps_where (recalls (record { place = p; unit = u; var = x; args = args })) (entries now.left)) ≡ Some found.0) where
@@ -244,8 +242,8 @@ module _ (code : Code) (inputs : List Block) (start : Start) (st : Stack) (v : V
   takes-left : take_read p u x args (first (levels (forest_of (entries now.left ++ now.tail)))) ≡ Some the-match.taken
   takes-left = ap (take_read p u x args) is-left ∙ the-match.takes_it
 
-  frames-mid : BareFrames (AfterMend (waits_in below) the-match.taken.leftover (frames_at now.waits (around (levels (forest_of (entries now.left ++ now.tail))))))
-      (frames_at (Takes (waits_in below) ∷ now.waits) (around (levels (forest_of (entries the-match.inside ++ closing the-match.end found.0 the-match.end_steps ∷ (entries the-match.behind ++ now.tail))))))
+  frames-mid : BareFrames (AfterMend below the-match.taken.leftover (frames_at now.waits (around (levels (forest_of (entries now.left ++ now.tail))))))
+      (frames_at (Takes below ∷ now.waits) (around (levels (forest_of (entries the-match.inside ++ closing the-match.end found.0 the-match.end_steps ∷ (entries the-match.behind ++ now.tail))))))
   frames-mid = rw (
     levels-behind the-match.inside the-match.end found.0 the-match.end_steps (entries the-match.behind ++ now.tail),
     first-ticks the-match.end_steps (forest_of (entries the-match.behind ++ now.tail)),
@@ -276,7 +274,7 @@ module _ (code : Code) (inputs : List Block) (start : Start) (st : Stack) (v : V
   mid-running w = record {
     state = works (state_at code inputs v now.course.store (start.chosen ++ now.course.made));
     mode = Running (resumed code u x args w) the-match.taken.inside;
-    frames = AfterMend (waits_in below) the-match.taken.leftover (frames_at now.waits (around (levels (forest_of (entries now.left ++ now.tail)))));
+    frames = AfterMend below the-match.taken.leftover (frames_at now.waits (around (levels (forest_of (entries now.left ++ now.tail)))));
   }
 
   stale-turn : (w : Word) → now.course.store p ≡ w → same_word w the-match.taken.value ≡ false → (names : ℕ → ℕ)
@@ -293,7 +291,7 @@ module _ (code : Code) (inputs : List Block) (start : Start) (st : Stack) (v : V
 
   bare-running : (w : Word) → BareSame (mid-running w)
       (running_at (record { store = now.course.store; plain = words_of code inputs heap; number = length (start.chosen ++ now.course.made); work = v.spent + 1 })
-      (resumed code u x args w) (Takes (waits_in below) ∷ now.waits) (forest_of (entries the-match.inside ++ closing the-match.end found.0 the-match.end_steps ∷ (entries the-match.behind ++ now.tail))))
+      (resumed code u x args w) (Takes below ∷ now.waits) (forest_of (entries the-match.inside ++ closing the-match.end found.0 the-match.end_steps ∷ (entries the-match.behind ++ now.tail))))
   unfolding mid-running
   bare-running w = record {
     state = state-then;
@@ -359,7 +357,7 @@ module _ (code : Code) (inputs : List Block) (start : Start) (st : Stack) (v : V
     now-retake until limit = record {
       reads = found.0 ∷ now.reads;
       left = the-match.inside;
-      waits = Takes (waits_in below) ∷ now.waits;
+      waits = Takes below ∷ now.waits;
       tail = closing the-match.end found.0 the-match.end_steps ∷ (entries the-match.behind ++ now.tail);
       placed = record {
         kept = kept;
@@ -379,7 +377,7 @@ module _ (code : Code) (inputs : List Block) (start : Start) (st : Stack) (v : V
       course = course-bare code inputs start v (through now.placed.done now.placed.last) (forest_of (through now.placed.done now.placed.last)) (λ s. running_at s st now.waits (forest_of (entries now.left ++ now.tail))) now.course
           (record { tables = t; heap = heap; spent = v.spent + 1; cursor = found.0; limit = Some (stamped the-match.end); frames = Taken below until ∷ v.frames })
           (through (through now.placed.done (more now.placed.last)) (entry found.0 (Read p w u x args) 0)) (forest_of (through (through now.placed.done (more now.placed.last)) (entry found.0 (Read p w u x args) 0)))
-          (λ s. running_at s (resumed code u x args w) (Takes (waits_in below) ∷ now.waits) (forest_of (entries the-match.inside ++ closing the-match.end found.0 the-match.end_steps ∷ (entries the-match.behind ++ now.tail))))
+          (λ s. running_at s (resumed code u x args w) (Takes below ∷ now.waits) (forest_of (entries the-match.inside ++ closing the-match.end found.0 the-match.end_steps ∷ (entries the-match.behind ++ now.tail))))
           (item.Step ∷ item.Read p w u x args ∷ []) now.course.store (mid-running w)
           (items-next code inputs start st v now found.0 (Read p w u x args)) (stale-turn w word-now other-word) (running-number w) (bare-running w)
           (λ q k. same-then t bases-then w 0 q (subst (λ is. KnownBlock (length inputs) (known_after [] is) q.block) (forest-put (through now.placed.done (more now.placed.last)) found.0 (Read p w u x args)) k))
@@ -392,7 +390,7 @@ module _ (code : Code) (inputs : List Block) (start : Start) (st : Stack) (v : V
   mid-fixing w = record {
     state = works (state_at code inputs v now.course.store (start.chosen ++ now.course.made));
     mode = Fixing the-match.taken.inside;
-    frames = AfterMend (waits_in below) the-match.taken.leftover (frames_at now.waits (around (levels (forest_of (entries now.left ++ now.tail)))));
+    frames = AfterMend below the-match.taken.leftover (frames_at now.waits (around (levels (forest_of (entries now.left ++ now.tail)))));
   }
 
   honest-turn : (w : Word) → now.course.store p ≡ w → same_word w the-match.taken.value ≡ true → (names : ℕ → ℕ)
@@ -405,7 +403,7 @@ module _ (code : Code) (inputs : List Block) (start : Start) (st : Stack) (v : V
 
   bare-fixing : (w : Word) → BareSame (mid-fixing w)
       (fixing_at (record { store = now.course.store; plain = words_of code inputs heap; number = length (start.chosen ++ now.course.made); work = v.spent + 1 })
-      (Takes (waits_in below) ∷ now.waits) (ticks the-match.steps ++ forest_of (entries the-match.inside ++ closing the-match.end found.0 the-match.end_steps ∷ (entries the-match.behind ++ now.tail))))
+      (Takes below ∷ now.waits) (ticks the-match.steps ++ forest_of (entries the-match.inside ++ closing the-match.end found.0 the-match.end_steps ∷ (entries the-match.behind ++ now.tail))))
   unfolding mid-fixing
   bare-fixing w = record {
     state = state-then;
@@ -445,7 +443,7 @@ module _ (code : Code) (inputs : List Block) (start : Start) (st : Stack) (v : V
         → PassingNow code inputs start (stamped the-match.end) (record { tables = t; heap = heap; spent = v.spent + 1; cursor = found.0; limit = Some (stamped the-match.end); frames = Taken below until ∷ v.frames })
     now-enter until limit = record {
       reads = found.0 ∷ now.reads;
-      waits = Takes (waits_in below) ∷ now.waits;
+      waits = Takes below ∷ now.waits;
       behind = entries the-match.inside ++ closing the-match.end found.0 the-match.end_steps ∷ (entries the-match.behind ++ now.tail);
       limit = refl;
       placed = record {
@@ -465,7 +463,7 @@ module _ (code : Code) (inputs : List Block) (start : Start) (st : Stack) (v : V
       course = course-bare code inputs start v (through now.placed.done now.placed.last) (forest_of (through now.placed.done now.placed.last)) (λ s. running_at s st now.waits (forest_of (entries now.left ++ now.tail))) now.course
           (record { tables = t; heap = heap; spent = v.spent + 1; cursor = found.0; limit = Some (stamped the-match.end); frames = Taken below until ∷ v.frames })
           (through (through now.placed.done (more now.placed.last)) (entry found.0 (Read p the-match.value u x args) the-match.steps)) (forest_of (through now.placed.done (more now.placed.last)) ++ item_of (Read p the-match.value u x args))
-          (λ s. fixing_at s (Takes (waits_in below) ∷ now.waits) (ticks the-match.steps ++ forest_of (entries the-match.inside ++ closing the-match.end found.0 the-match.end_steps ∷ (entries the-match.behind ++ now.tail))))
+          (λ s. fixing_at s (Takes below ∷ now.waits) (ticks the-match.steps ++ forest_of (entries the-match.inside ++ closing the-match.end found.0 the-match.end_steps ∷ (entries the-match.behind ++ now.tail))))
           (item.Step ∷ item.Read p the-match.value u x args ∷ []) now.course.store (mid-fixing the-match.value)
           (items-then the-match.value) (honest-turn the-match.value value-now same-value) (fixing-number the-match.value) (bare-fixing the-match.value)
           (λ q k. same-then t cells the-match.value the-match.steps q k)

@@ -1,7 +1,6 @@
 -- A read that is taken, in code.
-use Rattle.std.proofs.Common.{◌≡◌, ℕ, inl, ◌+◌, Option, Some, None, List, [], ◌∷◌, ◌++◌, reverse, refl, sym, ap, ap₂, subst, ◌∙◌}
+use Rattle.std.proofs.Common.{◌≡◌, ℕ, inl, ◌+◌, Option, Some, None, List, [], ◌∷◌, ◌++◌, refl, sym, ap, ap₂, subst, ◌∙◌}
 use Rattle.std.specs.Prelude.{option_map}
-use Rattle.std.proofs.lemmas.List.{reverse-append}
 use Rattle.ceal_base.specs.Block.{Block}
 use Rattle.ceal_base.specs.declared.forest.UnitId.{UnitId}
 use Rattle.ceal_base.specs.declared.word.BlockId.{BlockId}
@@ -25,7 +24,7 @@ use Rattle.ceal_repair.proofs.Runs.RepairView.{IsStepped, cursor-kept, stepped-v
 use Rattle.ceal_repair.specs.Blocks.{HasBlocks}
 use Rattle.ceal_repair.specs.Entries.{stamped, entries, CutTo, IsUntil, Lies}
 use Rattle.ceal_repair.specs.Moment.{View, Start, PassingNow, through}
-use Rattle.ceal_repair.specs.declared.frame.Frame.{Frame}
+use Rattle.ceal_repair.specs.Frames.{Frame}
 use Rattle.ceal_mods.specs.Mods.{Contents as Mods}
 use Rattle.ceal_repair.specs.Kept.{Records}
 use Rattle.ceal_trace.specs.declared.node.Node.TheVariants.{Read}
@@ -91,15 +90,12 @@ none-entered r start st now key h =
     none-first (x ∷ xs) e = absurd (cc)
 
 -- the view of a read that was entered
-reverse-more : {A : Type 0} (xs : List A) (x : A) → reverse (xs ++ x ∷ []) ≡ x ∷ reverse xs
-reverse-more xs x = reverse-append xs (x ∷ [])
-
-pub entered-view : (old new : Repair) → IsStepped old new → (t : Tables) (heap : Contents) (n s : ℕ) (o o' : Option Stamp) (f : Frame) (fs : List Frame) → n ≡ new.running.now.spent → o ≡ o' → fs ≡ new.frames.now.items ++ f ∷ []
-    → ◌≡◌ {A = View} (record { tables = t; heap = heap; spent = n; cursor = s; limit = o; frames = reverse fs })
+pub entered-view : (old new : Repair) → IsStepped old new → (t : Tables) (heap : Contents) (n s : ℕ) (o o' : Option Stamp) (f : Frame) (fs : List Frame) → n ≡ new.running.now.spent → o ≡ o' → fs ≡ f ∷ (view new).frames
+    → ◌≡◌ {A = View} (record { tables = t; heap = heap; spent = n; cursor = s; limit = o; frames = fs })
     (record { tables = t; heap = heap; spent = (view old).spent + 1; cursor = s; limit = o'; frames = f ∷ (view old).frames })
 entered-view old new h t heap n s o o' f fs e k is =
-    ap₂ (λ (l : Option Stamp) (gs : List Frame). record { tables = t; heap = heap; spent = n; cursor = s; limit = l; frames = gs }) k (ap reverse is ∙ reverse-more new.frames.now.items f)
-    ∙ (ap (λ (m : ℕ). record { tables = t; heap = heap; spent = m; cursor = s; limit = o'; frames = f ∷ reverse new.frames.now.items }) e
+    ap₂ (λ (l : Option Stamp) (gs : List Frame). record { tables = t; heap = heap; spent = n; cursor = s; limit = l; frames = gs }) k is
+    ∙ (ap (λ (m : ℕ). record { tables = t; heap = heap; spent = m; cursor = s; limit = o'; frames = f ∷ (view new).frames }) e
     ∙ ap (λ (w : View). record { tables = t; heap = heap; spent = w.spent; cursor = s; limit = o'; frames = f ∷ w.frames }) (stepped-view old new h))
 
 pub passes-as : (code : Code) (inputs : List Block) (start : Start) (until : Stamp) (v : View) (r : Repair) → PassingNow code inputs start until v

@@ -5,11 +5,10 @@ use Rattle.ceal_base.specs.declared.word.BlockId.{BlockId}
 use Rattle.ceal_base.specs.declared.word.Place.{Place}
 use Rattle.ceal_base.specs.declared.word.Word.{Word}
 use Rattle.ceal_code.specs.Program.{Code}
-use Rattle.ceal_code.specs.Stacks.{stack_in, waits_in}
+use Rattle.ceal_code.specs.Stacks.{stack_in}
 use Rattle.ceal_code.specs.Step.{Stack, Reads, next}
 use Rattle.ceal_code.specs.declared.stack.Closure.{Closure}
 use Rattle.ceal_code.specs.declared.step.Act.TheVariants as does
-use Rattle.ceal_code.specs.declared.waits.Waits.{Waits}
 use Rattle.ceal_heap.specs.Heap.{block_of}
 use Rattle.ceal_order.specs.Stamps.{head_of}
 use Rattle.ceal_order.specs.declared.stamp.Stamp.{Stamp}
@@ -27,7 +26,7 @@ use Rattle.ceal_repair.specs.Moment.{Start, RunningNow, PassingNow, through}
 use Rattle.ceal_repair.specs.Reads.{key_in}
 use Rattle.ceal_repair.specs.Repairs.{code_of, inputs_of, view, Acts, left_nodes}
 use Rattle.ceal_repair.specs.Words.{words_of}
-use Rattle.ceal_repair.specs.declared.frame.Frame.TheVariants.{Taken}
+use Rattle.ceal_repair.specs.Frames.{Taken}
 use Rattle.ceal_repair.specs.declared.repair.Repair.{Repair}
 use Rattle.ceal_repair.specs.declared.running.Running.{Running}
 use Rattle.ceal_repair.specs.declared.tables.Tables.{Tables}
@@ -37,7 +36,7 @@ use Rattle.ceal_trace.specs.Nodes.{end_in, node_at, with_steps, with_value}
 use Rattle.ceal_trace.specs.declared.node.Node.TheVariants.{Read}
 
 -- a step was counted, what stood before the read was revoked, and the units below were set aside
-pub record IsCut (old new : Repair) (closure : Closure) (found : Stamp) (run : Running) (below : Waits) : Type 0 where
+pub record IsCut (old new : Repair) (closure : Closure) (found : Stamp) (run : Running) (below : Stack) : Type 0 where
   pub stepped : IsStepped old new
   pub matches : head_of (stamps_where (recalls (key_in closure)) (left_nodes old)) ≡ Some found.0
   pub there : CutsThere new.cursor.0 found.0 new.running.now.tables run.tables
@@ -45,7 +44,7 @@ pub record IsCut (old new : Repair) (closure : Closure) (found : Stamp) (run : R
   pub blocks : (b : BlockId) → block_of run.heap b ≡ block_of new.running.now.heap b
   pub has : (code : Code) (inputs : List Block) → HasBlocks code inputs new.running.now.heap new.running.now.tables → HasBlocks code inputs run.heap run.tables
   pub kept : Kept run.tables
-  pub aside : stack_in old.stack.now ≡ waits_in below
+  pub aside : stack_in old.stack.now ≡ below
 
 -- then it had another value, has the one of its moment, and its steps are dropped
 pub record IsRenewed (found : ℕ) (before seen after : Tables) : Type 0 where
@@ -66,14 +65,14 @@ pub record IsHonestHere (found : ℕ) (before seen : Tables) : Type 0 where
   pub late : QueuedBehind found seen
   pub kept : Kept seen
 
-module _ (old new : Repair) (closure : Closure) (found : Stamp) (run : Running) (below : Waits) (cut : IsCut old new closure found run below) (start : Start) (a : Acts start (does.Reads closure) old) where
+module _ (old new : Repair) (closure : Closure) (found : Stamp) (run : Running) (below : Stack) (cut : IsCut old new closure found run below) (start : Start) (a : Acts start (does.Reads closure) old) where
   abbrev pub lies : (rest : Grove) × CutTo found.0 a.now.left rest × Lies old.cursor.0 (through a.now.placed.done (more a.now.placed.last)) rest a.now.tail run.tables
   lies = cut-read old new cut.stepped start a.stack a.now closure.place closure.unit closure.var closure.args found cut.matches run.tables cut.kept cut.there
 
   pub done : CutDone (code_of old) (inputs_of old) old.cursor.0 found.0 (through a.now.placed.done (more a.now.placed.last)) a.now.left lies.0 a.now.tail old.running.now.heap run.heap new.running.now.tables run.tables
   done = cut-done old new cut.stepped start a.stack a.now closure.place closure.unit closure.var closure.args found cut.matches run.tables cut.kept cut.there run.heap cut.bases cut.blocks cut.has
 
-  pub reads : next (code_of old) (words_of (code_of old) (inputs_of old) old.running.now.heap) a.stack ≡ Reads closure.place closure.unit closure.var closure.args (waits_in below)
+  pub reads : next (code_of old) (words_of (code_of old) (inputs_of old) old.running.now.heap) a.stack ≡ Reads closure.place closure.unit closure.var closure.args below
   reads = a.does ∙ ap (λ (s : Stack). Reads closure.place closure.unit closure.var closure.args s) cut.aside
 
   pub left : head_of (stamps_where (recalls (key_in closure)) (entries a.now.left)) ≡ Some found.0

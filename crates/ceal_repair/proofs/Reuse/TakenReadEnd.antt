@@ -8,10 +8,8 @@ use Rattle.ceal_base.specs.declared.word.BlockId.{BlockId}
 use Rattle.ceal_base.specs.declared.word.Place.{Place}
 use Rattle.ceal_code.specs.Program.{Code}
 use Rattle.ceal_code.specs.Replay.{Store, KnownBlock}
-use Rattle.ceal_code.specs.Stacks.{waits_in}
 use Rattle.ceal_code.specs.Step.{Stack, Over, next}
 use Rattle.ceal_code.specs.Value.{Plain}
-use Rattle.ceal_code.specs.declared.waits.Waits.{Waits}
 use Rattle.ceal_heap.specs.Heap.{Contents, block_of}
 use Rattle.ceal_order.proofs.Places.{place_tells}
 use Rattle.ceal_order.specs.Stamps as order
@@ -28,8 +26,7 @@ use Rattle.ceal_repair.specs.Blocks.{HasBlocks}
 use Rattle.ceal_repair.specs.Entries.{stamped, entry, closing, entries, first_in, Lies}
 use Rattle.ceal_repair.specs.Moment.{View, Start, RunningNow, through, state_at}
 use Rattle.ceal_repair.specs.Words.{words_of}
-use Rattle.ceal_repair.specs.declared.frame.Frame.{Frame}
-use Rattle.ceal_repair.specs.declared.frame.Frame.TheVariants.{Taken}
+use Rattle.ceal_repair.specs.Frames.{Frame, Taken}
 use Rattle.ceal_repair.specs.Kept.{Kept, QueuedBehind, base_in}
 use Rattle.ceal_repair.specs.declared.tables.Tables.{Tables}
 use Rattle.ceal_theory.proofs.Reuse.StepsBetween.{frames-self}
@@ -47,7 +44,7 @@ use Rattle.ceal_trace.specs.Nodes.{Entry, stamps_in, has_node, position, node_at
 use Rattle.ceal_trace.specs.declared.node.Node.TheVariants.{End}
 
 -- what the frame of a taken read says of what waits
-pub record WaitsTaken (limit : Option Stamp) (beyond : List Entry) (now : Option Stamp) (below : Waits) (until : Stamp) (fs : List Frame) (ws : List Wait) (rs : List ℕ) (tail : List Entry) : Type 0 where
+pub record WaitsTaken (limit : Option Stamp) (beyond : List Entry) (now : Option Stamp) (below : Stack) (until : Stamp) (fs : List Frame) (ws : List Wait) (rs : List ℕ) (tail : List Entry) : Type 0 where
   pub end : ℕ
   pub read : ℕ
   pub steps : ℕ
@@ -56,7 +53,7 @@ pub record WaitsTaken (limit : Option Stamp) (beyond : List Entry) (now : Option
   pub reads : List ℕ
   pub rest : List Entry
   pub now_is : now ≡ Some (stamped end)
-  pub waits_are : ws ≡ Takes (waits_in below) ∷ waits
+  pub waits_are : ws ≡ Takes below ∷ waits
   pub reads_are : rs ≡ read ∷ reads
   pub tail_is : tail ≡ closing end read steps ∷ (entries behind ++ rest)
   pub tails : Tails limit beyond (Some until) fs waits reads rest
@@ -78,7 +75,7 @@ leave-turn : (code : Code) (names : ℕ → ℕ) (s : State) (st below : Stack) 
 unfolding turn
 leave-turn code names s st below ws vs is e over = rw (over, e) refl
 
-module _ (code : Code) (inputs : List Block) (start : Start) (st : Stack) (w : View) (below : Waits) (until : Stamp)
+module _ (code : Code) (inputs : List Block) (start : Start) (st : Stack) (w : View) (below : Stack) (until : Stamp)
     (now : RunningNow code inputs start st (record { tables = w.tables; heap = w.heap; spent = w.spent; cursor = w.cursor; limit = w.limit; frames = Taken below until ∷ w.frames })) where
   pub next-taken : WaitsTaken start.limit start.beyond w.limit below until w.frames now.waits now.reads now.tail
   next-taken = comes-taken now.tails
@@ -159,7 +156,7 @@ module _ (code : Code) (inputs : List Block) (start : Start) (st : Stack) (w : V
     mid-machine : Machine
     mid-machine = record {
       state = state_at code inputs (record { tables = w.tables; heap = w.heap; spent = w.spent; cursor = w.cursor; limit = w.limit; frames = Taken below until ∷ w.frames }) now.course.store (start.chosen ++ now.course.made);
-      mode = Running (waits_in below) (first (around (levels (forest_of (entries now.left ++ now.tail)))));
+      mode = Running below (first (around (levels (forest_of (entries now.left ++ now.tail)))));
       frames = frames_at next-taken.waits (around (around (levels (forest_of (entries now.left ++ now.tail)))));
     }
 
@@ -168,7 +165,7 @@ module _ (code : Code) (inputs : List Block) (start : Start) (st : Stack) (w : V
         ≡ Went (item.End ∷ []) mid-machine
     unfolding mid-machine
     left-turn names = leave-turn code names (state_at code inputs (record { tables = w.tables; heap = w.heap; spent = w.spent; cursor = w.cursor; limit = w.limit; frames = Taken below until ∷ w.frames }) now.course.store (start.chosen ++ now.course.made))
-        st (waits_in below) now.waits next-taken.waits (forest_of (entries now.left ++ now.tail)) next-taken.waits_are over
+        st below now.waits next-taken.waits (forest_of (entries now.left ++ now.tail)) next-taken.waits_are over
 
     state-then : state_at code inputs (record { tables = w.tables; heap = w.heap; spent = w.spent; cursor = w.cursor; limit = w.limit; frames = Taken below until ∷ w.frames }) now.course.store (start.chosen ++ now.course.made)
         ≡ record { store = now.course.store; plain = words_of code inputs heap; number = length (start.chosen ++ now.course.made); work = w.spent }
@@ -176,7 +173,7 @@ module _ (code : Code) (inputs : List Block) (start : Start) (st : Stack) (w : V
 
     bare-then : BareSame mid-machine
         (running_at (record { store = now.course.store; plain = words_of code inputs heap; number = length (start.chosen ++ now.course.made); work = w.spent })
-        (waits_in below) next-taken.waits (forest_of (entries next-taken.behind ++ next-taken.rest)))
+        below next-taken.waits (forest_of (entries next-taken.behind ++ next-taken.rest)))
     unfolding mid-machine
     bare-then = record {
       state = state-then;
@@ -197,7 +194,7 @@ module _ (code : Code) (inputs : List Block) (start : Start) (st : Stack) (w : V
         (ap (known_after []) (forest-put (through now.placed.done now.placed.last) next-taken.end (End (stamped next-taken.read))) ∙ known-append [] (forest_of (through now.placed.done now.placed.last)) (item.End ∷ [])) c
 
     -- what is left over inside the read is revoked, its end is in front, and the units below run with what stands after it
-    pub now-leave : RunningNow code inputs start (waits_in below) (record { tables = t; heap = heap; spent = w.spent; cursor = next-taken.end; limit = Some until; frames = w.frames })
+    pub now-leave : RunningNow code inputs start below (record { tables = t; heap = heap; spent = w.spent; cursor = next-taken.end; limit = Some until; frames = w.frames })
     now-leave = record {
       reads = next-taken.reads;
       left = next-taken.behind;
@@ -224,7 +221,7 @@ module _ (code : Code) (inputs : List Block) (start : Start) (st : Stack) (w : V
           (λ s. running_at s st now.waits (forest_of (entries now.left ++ now.tail))) now.course
           (record { tables = t; heap = heap; spent = w.spent; cursor = next-taken.end; limit = Some until; frames = w.frames })
           (through (through now.placed.done now.placed.last) (entry next-taken.end (End (stamped next-taken.read)) 0)) (forest_of (through (through now.placed.done now.placed.last) (entry next-taken.end (End (stamped next-taken.read)) 0)))
-          (λ s. running_at s (waits_in below) next-taken.waits (forest_of (entries next-taken.behind ++ next-taken.rest)))
+          (λ s. running_at s below next-taken.waits (forest_of (entries next-taken.behind ++ next-taken.rest)))
           (item.End ∷ []) now.course.store mid-machine (forest-put (through now.placed.done now.placed.last) next-taken.end (End (stamped next-taken.read)))
           left-turn mid-number bare-then
           (λ q c. now.course.same q (known-before q c)

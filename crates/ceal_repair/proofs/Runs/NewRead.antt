@@ -11,9 +11,7 @@ use Rattle.ceal_base.specs.declared.word.Word.{Word}
 use Rattle.ceal_code.specs.Known.{Holds}
 use Rattle.ceal_code.specs.Program.{Code}
 use Rattle.ceal_code.specs.Replay.{Store, KnownBlock}
-use Rattle.ceal_code.specs.Stacks.{waits_in}
 use Rattle.ceal_code.specs.Step.{Stack, Empty, Reads, next, entered, given}
-use Rattle.ceal_code.specs.declared.waits.Waits.{Waits}
 use Rattle.ceal_heap.specs.Heap.{Contents, Known, block_of, plain_block}
 use Rattle.ceal_order.specs.declared.stamp.Stamp.{Stamp}
 use Rattle.ceal_repair.proofs.Nodes.NodeItems.{more, up-to-last, contents-put, known-append}
@@ -24,7 +22,7 @@ use Rattle.ceal_repair.specs.Blocks.{There}
 use Rattle.ceal_repair.specs.Entries.{entries}
 use Rattle.ceal_repair.specs.Moment.{View, Start, Placed, RunningNow, through, state_at}
 use Rattle.ceal_repair.specs.Words.{words_of}
-use Rattle.ceal_repair.specs.declared.frame.Frame.TheVariants.{Begun}
+use Rattle.ceal_repair.specs.Frames.{Begun}
 use Rattle.ceal_repair.specs.Covered.{contents_after}
 use Rattle.ceal_repair.specs.Kept.{Records, base_in}
 use Rattle.ceal_repair.specs.Lists.{up_to}
@@ -78,15 +76,15 @@ module _ (code : Code) (inputs : List Block) (start : Start) (st : Stack) (v : V
       is (rw (does, none) refl)
 
   -- a new read begins, where none that is left over is taken: its unit runs on what its place holds, and shares what is left over
-  pub now-begin : (p : Place) (u : UnitId) (x : ℕ) (args : List Word) (below : Waits) (word : Word) (t1 t : Tables) (read : Stamp)
-      → take_read p u x args (first (levels (forest_of (entries now.left ++ now.tail)))) ≡ None → next code (words_of code inputs v.heap) st ≡ Reads p u x args (waits_in below) → StepMore v.cursor v.tables t1
+  pub now-begin : (p : Place) (u : UnitId) (x : ℕ) (args : List Word) (below : Stack) (word : Word) (t1 t : Tables) (read : Stamp)
+      → take_read p u x args (first (levels (forest_of (entries now.left ++ now.tail)))) ≡ None → next code (words_of code inputs v.heap) st ≡ Reads p u x args below → StepMore v.cursor v.tables t1
       → word ≡ contents_after (base_in t1.mods) (up_to v.cursor t1.trace.nodes) p → NodeMore v.cursor read.0 (Read p word u x args) t1 t → end_in read.0 t.trace.nodes ≡ None
       → RunningNow code inputs start (resumed code u x args word) (record { tables = t; heap = v.heap; spent = v.spent + 1; cursor = read.0; limit = v.limit; frames = Begun below read ∷ v.frames })
   unfolding placed-step placed-put
   now-begin p u x args below word t1 t read none does h is k unended = record {
     reads = read.0 ∷ now.reads;
     left = now.left;
-    waits = Begins (waits_in below) ∷ now.waits;
+    waits = Begins below ∷ now.waits;
     tail = now.tail;
     placed = placed-put start (record { tables = t1; heap = v.heap; spent = v.spent + 1; cursor = v.cursor; limit = v.limit; frames = v.frames }) now.reads (entries now.left ++ now.tail)
         (placed-step start v now.reads (entries now.left ++ now.tail) now.placed t1 (v.spent + 1) h) t read.0 (Read p word u x args) v.heap v.limit (Begun below read ∷ v.frames) (read.0 ∷ now.reads) k refl (
@@ -101,9 +99,9 @@ module _ (code : Code) (inputs : List Block) (start : Start) (st : Stack) (v : V
     course = course-turn code inputs start v (through now.placed.done now.placed.last) (forest_of (through now.placed.done now.placed.last)) (λ s. running_at s st now.waits (forest_of (entries now.left ++ now.tail))) now.course
         (record { tables = t; heap = v.heap; spent = v.spent + 1; cursor = read.0; limit = v.limit; frames = Begun below read ∷ v.frames })
         (through (through now.placed.done (more now.placed.last)) (new_entry read.0 (Read p word u x args))) (forest_of (through (through now.placed.done (more now.placed.last)) (new_entry read.0 (Read p word u x args))))
-        (λ s. running_at s (resumed code u x args word) (Begins (waits_in below) ∷ now.waits) (forest_of (entries now.left ++ now.tail)))
+        (λ s. running_at s (resumed code u x args word) (Begins below ∷ now.waits) (forest_of (entries now.left ++ now.tail)))
         (item.Step ∷ item.Read p word u x args ∷ []) now.course.store (items-next code inputs start st v now read.0 (Read p word u x args))
-        (begun-turn p u x args (waits_in below) word none does (value-there t1 h p word is place-known)) refl
+        (begun-turn p u x args below word none does (value-there t1 h p word is place-known)) refl
         (λ q c. same-next code inputs start st v now t (λ o. k.bases o ∙ ap (λ d. base_in d o) h.mods) q (known-before q c)
         ∙ sym (ap (λ (f : Store). f q) (contents-put (base_in t.mods) (through now.placed.done (more now.placed.last)) read.0 (Read p word u x args))))
         now.course.given;

@@ -7,9 +7,7 @@ use Rattle.ceal_base.specs.declared.forest.Item.TheVariants as item
 use Rattle.ceal_base.specs.declared.word.Place.{Place}
 use Rattle.ceal_code.specs.Program.{Code}
 use Rattle.ceal_code.specs.Replay.{Store, KnownBlock}
-use Rattle.ceal_code.specs.Stacks.{waits_in}
 use Rattle.ceal_code.specs.Step.{Stack, Over, next}
-use Rattle.ceal_code.specs.declared.waits.Waits.{Waits}
 use Rattle.ceal_order.specs.Stamps.{Distinct, is_in}
 use Rattle.ceal_order.specs.declared.stamp.Stamp.{Stamp}
 use Rattle.ceal_repair.proofs.Nodes.NodeItems.{forest-put, contents-put, contents-base, closed-last, known-append, unclosed-reads, not-in-is, entry-front, position-front, position-there, unfinished-waiting, waiting, waiting-open, comes-next, distinct-front}
@@ -17,7 +15,7 @@ use Rattle.ceal_repair.proofs.Runs.UnitSteps.{NodeMore, nodes-distinct, placed-p
 use Rattle.ceal_repair.specs.Entries.{entries}
 use Rattle.ceal_repair.specs.Moment.{View, Start, Placed, RunningNow, through, state_at}
 use Rattle.ceal_repair.specs.Words.{words_of}
-use Rattle.ceal_repair.specs.declared.frame.Frame.TheVariants.{Begun}
+use Rattle.ceal_repair.specs.Frames.{Begun}
 use Rattle.ceal_repair.specs.Kept.{base_in}
 use Rattle.ceal_repair.specs.declared.tables.Tables.{Tables}
 use Rattle.ceal_theory.specs.Course.{Wait, Begins, running_at}
@@ -63,7 +61,7 @@ end-turn : (code : Code) (names : ℕ → ℕ) (s : State) (st below : Stack) (w
 unfolding turn
 end-turn code names s st below ws vs is e over = rw (over, e) refl
 
-module _ (code : Code) (inputs : List Block) (start : Start) (st : Stack) (w : View) (below : Waits) (read : Stamp)
+module _ (code : Code) (inputs : List Block) (start : Start) (st : Stack) (w : View) (below : Stack) (read : Stamp)
     (now : RunningNow code inputs start st (record { tables = w.tables; heap = w.heap; spent = w.spent; cursor = w.cursor; limit = w.limit; frames = Begun below read ∷ w.frames })) where
   abbrev v : View
   v = record { tables = w.tables; heap = w.heap; spent = w.spent; cursor = w.cursor; limit = w.limit; frames = Begun below read ∷ w.frames }
@@ -73,8 +71,8 @@ module _ (code : Code) (inputs : List Block) (start : Start) (st : Stack) (w : V
 
   ended-turn : next code (words_of code inputs w.heap) st ≡ Over → (names : ℕ → ℕ)
       → turn code names (running_at (state_at code inputs (record { tables = w.tables; heap = w.heap; spent = w.spent; cursor = w.cursor; limit = w.limit; frames = Begun below read ∷ w.frames }) now.course.store (start.chosen ++ now.course.made)) st now.waits (forest_of (entries now.left ++ now.tail)))
-      ≡ Went (item.End ∷ []) (running_at (state_at code inputs w now.course.store (start.chosen ++ now.course.made)) (waits_in below) (comes-next now.tails).waits (forest_of (entries now.left ++ now.tail)))
-  ended-turn over names = end-turn code names (state_at code inputs w now.course.store (start.chosen ++ now.course.made)) st (waits_in below) now.waits (comes-next now.tails).waits (forest_of (entries now.left ++ now.tail)) (comes-next now.tails).waits_are over
+      ≡ Went (item.End ∷ []) (running_at (state_at code inputs w now.course.store (start.chosen ++ now.course.made)) below (comes-next now.tails).waits (forest_of (entries now.left ++ now.tail)))
+  ended-turn over names = end-turn code names (state_at code inputs w now.course.store (start.chosen ++ now.course.made)) st below now.waits (comes-next now.tails).waits (forest_of (entries now.left ++ now.tail)) (comes-next now.tails).waits_are over
 
   -- the reads that wait are others
   others-kept : (t : Tables) (s : ℕ) → NodeMore w.cursor s (End read) w.tables t → (r : ℕ) → is_in r (waiting w.frames) ≡ true → end_in r t.trace.nodes ≡ end_in r w.tables.trace.nodes
@@ -90,7 +88,7 @@ module _ (code : Code) (inputs : List Block) (start : Start) (st : Stack) (w : V
           absurd (cc)
 
   pub now-finish : (t : Tables) (s : ℕ) → next code (words_of code inputs w.heap) st ≡ Over → NodeMore w.cursor s (End read) w.tables t
-      → RunningNow code inputs start (waits_in below) (record { tables = t; heap = w.heap; spent = w.spent; cursor = s; limit = w.limit; frames = w.frames })
+      → RunningNow code inputs start below (record { tables = t; heap = w.heap; spent = w.spent; cursor = s; limit = w.limit; frames = w.frames })
   unfolding placed-put
   now-finish t s over k = record {
     reads = (comes-next now.tails).reads;
@@ -109,7 +107,7 @@ module _ (code : Code) (inputs : List Block) (start : Start) (st : Stack) (w : V
         (λ s. running_at s st now.waits (forest_of (entries now.left ++ now.tail))) now.course
         (record { tables = t; heap = w.heap; spent = w.spent; cursor = s; limit = w.limit; frames = w.frames })
         (through (through now.placed.done now.placed.last) (new_entry s (End read))) (forest_of (through (through now.placed.done now.placed.last) (new_entry s (End read))))
-        (λ s. running_at s (waits_in below) (comes-next now.tails).waits (forest_of (entries now.left ++ now.tail)))
+        (λ s. running_at s below (comes-next now.tails).waits (forest_of (entries now.left ++ now.tail)))
         (item.End ∷ []) now.course.store (forest-put (through now.placed.done now.placed.last) s (End read))
         (ended-turn over) refl
         (λ q c. now.course.same q (known-before q c)

@@ -4,16 +4,21 @@ use Rattle.std.specs.Global.{Vec}
 use Rattle.std.proofs.lemmas.List.{reverse-append}
 use Rattle.ceal_base.specs.Block.{Block}
 use Rattle.ceal_code.specs.Program.{Code}
-use Rattle.ceal_code.specs.Stacks.{stack_in}
+use Rattle.ceal_code.specs.Piles.{Pile}
+use Rattle.ceal_code.specs.Stacks.{stack_in, above_floor, under_floor}
 use Rattle.ceal_code.specs.Step.{Stack}
 use Rattle.ceal_code.specs.declared.stack.Stack.{Stack as CodeStack}
+use Rattle.ceal_code.specs.declared.waits.Floor.{Floor}
 use Rattle.ceal_heap.specs.Heap.{Contents}
 use Rattle.ceal_repair.proofs.Runs.UnitSteps.{StepMore, NodeMore, cursor-here, here-next, late-next}
 use Rattle.ceal_repair.specs.Entries.{entries}
 use Rattle.ceal_repair.specs.Kept.{QueuedBehind}
 use Rattle.ceal_repair.specs.Moment.{View, Start, RunningNow}
 use Rattle.ceal_repair.specs.Repairs.{code_of, inputs_of, view, RunsAt}
-use Rattle.ceal_repair.specs.declared.frame.Frame.{Frame}
+use Rattle.ceal_order.specs.declared.stamp.Stamp.{Stamp}
+use Rattle.ceal_repair.specs.Frames.{Frame, Begun, Taken, Kept, frames_in}
+use Rattle.ceal_repair.specs.declared.frame.Frame.{Frame as CodeFrame}
+use Rattle.ceal_repair.specs.declared.frame.Frame.TheVariants.{Begun as CodeBegun, Taken as CodeTaken, Kept as CodeKept}
 use Rattle.ceal_repair.specs.declared.repair.Repair.{Repair}
 use Rattle.ceal_repair.specs.declared.running.Running.{Running}
 use Rattle.ceal_repair.specs.declared.tables.Tables.{Tables}
@@ -21,7 +26,7 @@ use Rattle.ceal_trace.specs.Nodes.{has_node}
 use Rattle.ceal_trace.specs.declared.node.Node.{Node}
 
 -- a repair whose run keeps this, with these units and frames
-abbrev pub with_parts : Repair → Running → CodeStack → Vec Frame → Repair
+abbrev pub with_parts : Repair → Running → CodeStack → Vec CodeFrame → Repair
 with_parts r running stack frames = record r {
   running = record r.running { now = running };
   stack = record r.stack { now = stack };
@@ -77,17 +82,35 @@ put-view old new h t s = ap (λ (w : View). record { tables = t; heap = w.heap; 
 reverse-more : {A : Type 0} (xs : List A) (x : A) → reverse (xs ++ x ∷ []) ≡ x ∷ reverse xs
 reverse-more xs x = reverse-append xs (x ∷ [])
 
--- a frame that was put on the others
-pub begun-view : (old new : Repair) → IsStepped old new → (t : Tables) (s : ℕ) (f : Frame) (fs : List Frame) → fs ≡ new.frames.now.items ++ f ∷ []
-    → ◌≡◌ {A = View} (record { tables = t; heap = (view new).heap; spent = (view new).spent; cursor = s; limit = (view new).limit; frames = reverse fs })
+-- a frame that was put on the others, whose units were set aside
+pub begun-frames : (old aside now : Pile) (floor : Floor) (read : Stamp) (fs gs : List CodeFrame) → now ≡ aside → under_floor floor aside ≡ old → gs ≡ fs ++ CodeBegun floor read ∷ []
+    → frames_in now (reverse gs) ≡ Begun (above_floor floor aside) read ∷ frames_in old (reverse fs)
+begun-frames old aside now floor read fs gs e u is =
+    ap₂ frames_in e (ap reverse is ∙ reverse-more fs (CodeBegun floor read))
+    ∙ ap (λ (a : Pile). Begun (above_floor floor aside) read ∷ frames_in a (reverse fs)) u
+
+pub taken-frames : (old aside now : Pile) (floor : Floor) (limit : Stamp) (fs gs : List CodeFrame) → now ≡ aside → under_floor floor aside ≡ old → gs ≡ fs ++ CodeTaken floor limit ∷ []
+    → frames_in now (reverse gs) ≡ Taken (above_floor floor aside) limit ∷ frames_in old (reverse fs)
+taken-frames old aside now floor limit fs gs e u is =
+    ap₂ frames_in e (ap reverse is ∙ reverse-more fs (CodeTaken floor limit))
+    ∙ ap (λ (a : Pile). Taken (above_floor floor aside) limit ∷ frames_in a (reverse fs)) u
+
+-- and one that was put on them, where no unit was
+pub kept-frames : (old now : Pile) (until : Stamp) (fs gs : List CodeFrame) → now ≡ old → gs ≡ fs ++ CodeKept until ∷ []
+    → frames_in now (reverse gs) ≡ Kept until ∷ frames_in old (reverse fs)
+kept-frames old now until fs gs e is = ap₂ frames_in e (ap reverse is ∙ reverse-more fs (CodeKept until))
+
+-- the view with other frames
+pub begun-view : (old new : Repair) → IsStepped old new → (t : Tables) (s : ℕ) (f : Frame) (fs : List Frame) → fs ≡ f ∷ (view new).frames
+    → ◌≡◌ {A = View} (record { tables = t; heap = (view new).heap; spent = (view new).spent; cursor = s; limit = (view new).limit; frames = fs })
     (record { tables = t; heap = (view old).heap; spent = (view old).spent + 1; cursor = s; limit = (view old).limit; frames = f ∷ (view old).frames })
 begun-view old new h t s f fs e =
-    ap (λ (gs : List Frame). record { tables = t; heap = (view new).heap; spent = (view new).spent; cursor = s; limit = (view new).limit; frames = gs }) (ap reverse e ∙ reverse-more new.frames.now.items f)
+    ap (λ (gs : List Frame). record { tables = t; heap = (view new).heap; spent = (view new).spent; cursor = s; limit = (view new).limit; frames = gs }) e
     ∙ ap (λ (w : View). record { tables = t; heap = w.heap; spent = w.spent; cursor = s; limit = w.limit; frames = f ∷ w.frames }) (stepped-view old new h)
 
-pub made-view : (old new : Repair) → IsStepped old new → (t : Tables) (heap : Contents) (n s : ℕ) → n ≡ new.running.now.spent
-    → ◌≡◌ {A = View} (record { tables = t; heap = heap; spent = n; cursor = s; limit = (view new).limit; frames = (view new).frames })
+pub made-view : (old new : Repair) → IsStepped old new → (t : Tables) (heap : Contents) (n s : ℕ) (aside : Pile) → n ≡ new.running.now.spent → aside ≡ new.stack.now.waits.aside
+    → ◌≡◌ {A = View} (record { tables = t; heap = heap; spent = n; cursor = s; limit = (view new).limit; frames = frames_in aside (reverse new.frames.now.items) })
     (record { tables = t; heap = heap; spent = (view old).spent + 1; cursor = s; limit = (view old).limit; frames = (view old).frames })
-made-view old new h t heap n s e =
-    ap (λ (k : ℕ). record { tables = t; heap = heap; spent = k; cursor = s; limit = (view new).limit; frames = (view new).frames }) e
+made-view old new h t heap n s aside e k =
+    ap₂ (λ (m : ℕ) (a : Pile). record { tables = t; heap = heap; spent = m; cursor = s; limit = (view new).limit; frames = frames_in a (reverse new.frames.now.items) }) e k
     ∙ ap (λ (w : View). record { tables = t; heap = heap; spent = w.spent; cursor = s; limit = w.limit; frames = w.frames }) (stepped-view old new h)

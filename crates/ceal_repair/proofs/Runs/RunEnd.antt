@@ -7,7 +7,7 @@ use Rattle.ceal_code.specs.Fitting.{Fits}
 use Rattle.ceal_code.specs.Fresh.{fresh}
 use Rattle.ceal_code.specs.Program.{Code}
 use Rattle.ceal_code.specs.Step.{Stack, Over, next}
-use Rattle.ceal_code.specs.Stacks.{stack_in}
+use Rattle.ceal_code.specs.Stacks.{stack_in, aside_in}
 use Rattle.ceal_heap.specs.Heap.{HasSlots, ReleasesRevoked}
 use Rattle.ceal_order.specs.Stamps.{Distinct}
 use Rattle.ceal_order.specs.declared.stamp.Stamp.{Stamp}
@@ -22,7 +22,7 @@ use Rattle.ceal_repair.specs.Entries.{entries}
 use Rattle.ceal_repair.specs.Moment.{View, RunningNow, first_start, state_at, through}
 use Rattle.ceal_repair.specs.Repairs.{code_of, inputs_of, view, Runs, IsOver}
 use Rattle.ceal_repair.specs.Words.{words_of}
-use Rattle.ceal_repair.specs.declared.frame.Frame.{Frame}
+use Rattle.ceal_repair.specs.Frames.{Frame, frames_in}
 use Rattle.ceal_repair.specs.declared.repair.Repair.{Repair}
 use Rattle.ceal_repair.specs.declared.running.Running.{Running}
 use Rattle.ceal_theory.specs.Chosen.{ChosenLaws, ComesBy, EndedFirst, first_begins}
@@ -133,7 +133,7 @@ module _ (code : Code) (inputs : List Block) (f : ℕ) (args : List Word) (fits 
   pub first-done : IsOver (first_start code inputs f args) r → (view r).spent ≤ fuel → (run : Running) → run.tables ≡ r.running.now.tables → run.spent ≡ r.running.now.spent → ReleasesRevoked r.running.now.heap run.heap
       → HasSlots run.heap → PaysFirst run → IsFirstRun code inputs f args fuel run
   first-done over few run tables spent rel slots paid =
-      first-run code inputs f args fits laws over.stack (view r) (rw (same_code, same_inputs) at over.now) (rw (same_code, same_inputs) at over.over) (ap (λ fs. reverse fs) over.last) run tables spent rel slots fuel few paid
+      first-run code inputs f args fits laws over.stack (view r) (rw (same_code, same_inputs) at over.now) (rw (same_code, same_inputs) at over.over) (ap (λ fs. frames_in (aside_in r.stack.now) (reverse fs)) over.last) run tables spent rel slots fuel few paid
 
   pub first-out : Runs (first_start code inputs f args) r → fuel < (view r).spent → fresh code f args inputs fuel ≡ None
   first-out runs more = first-over code inputs f args fits laws (stack_in r.stack.now) (view r) (rw (same_code, same_inputs) at runs) fuel more

@@ -23,7 +23,7 @@ use Rattle.ceal_repair.specs.Blocks.{There, HasBlocks, Given}
 use Rattle.ceal_repair.specs.Entries.{entries}
 use Rattle.ceal_repair.specs.Moment.{View, Start, Placed, CourseNow, RunningNow, Unfinished, through, state_at, items_before}
 use Rattle.ceal_repair.specs.Words.{words_of}
-use Rattle.ceal_repair.specs.declared.frame.Frame.{Frame}
+use Rattle.ceal_repair.specs.Frames.{Frame}
 use Rattle.ceal_repair.specs.Covered.{contents_after}
 use Rattle.ceal_repair.specs.Kept.{Kept, QueuedBehind, Records, base_in}
 use Rattle.ceal_repair.specs.declared.tables.Tables.{Tables}

@@ -17,7 +17,7 @@ use ceal_base::word::{Place, Word};
 use ceal_code::initialise::pointer_to;
 use ceal_code::stack::Continuation;
 use ceal_code::step::Reading;
-use ceal_code::waits::Waits;
+use ceal_code::waits::Floor;
 use ceal_memo::key::ReadKey;
 use ceal_order::stamp::Stamp;
 
@@ -118,7 +118,7 @@ impl<'a> Repair<'a> {
     }
 
     /// The unit of a new read is over: its end stands after the cursor, and the units below run with what is left over.
-    pub fn finish(&mut self, below: Waits, read: Stamp) -> Result<(), NoMemory>
+    pub fn finish(&mut self, below: Floor, read: Stamp) -> Result<(), NoMemory>
         requires ends { (start : Start) × EndsRead start below read self.old }
         ensures call { OnOk result (SameCall self.old self.new) }
         ensures pays { OnOk result (Pays (running_of self.old) (running_of self.new)) }

@@ -20,7 +20,7 @@ use ceal_base::no_memory::NoMemory;
 use ceal_base::word::Word;
 use ceal_code::stack::Continuation;
 use ceal_code::step::Reading;
-use ceal_code::waits::Waits;
+use ceal_code::waits::Floor;
 use ceal_memo::key::ReadKey;
 use ceal_order::stamp::Stamp;
 use ceal_trace::trace::Trace;
@@ -119,7 +119,7 @@ impl<'a> Repair<'a> {
     }
 
     /// The cursor goes on a read that is taken, and the limit on its end. The units below wait, with their limit.
-    fn go_inside(&mut self, read: Stamp, limit: Stamp, below: Waits) -> Result<(), NoMemory>
+    fn go_inside(&mut self, read: Stamp, limit: Stamp, below: Floor) -> Result<(), NoMemory>
         requires read { is_read (node_at read.0 (running_of self.old).tables.trace.nodes) ≡ true }
         ensures rest { OnOk result (self.new ≡ record self.old {
           cursor = read;
@@ -139,7 +139,7 @@ impl<'a> Repair<'a> {
 
     /// The unit of a read that was taken is over: what is left over is revoked. The units below run with what stands after its
     /// end, up to their own limit; the steps on the end are dropped.
-    pub fn leave(&mut self, below: Waits, until: Stamp) -> Result<(), NoMemory>
+    pub fn leave(&mut self, below: Floor, until: Stamp) -> Result<(), NoMemory>
         requires ends { (start : Start) × EndsTaken start below until self.old }
         ensures call { OnOk result (SameCall self.old self.new) }
         ensures pays { OnOk result (Pays (running_of self.old) (running_of self.new)) }

@@ -4,7 +4,7 @@ ghost use Rattle.std.specs.Prelude.{◌≡◌, [], ℕ, List, Some, true, OnOk};
 ghost use Rattle.ceal_base.specs.declared.forest.UnitId.{UnitId as UnitOf};
 ghost use Rattle.ceal_base.specs.declared.word.Place.{Place as PlaceOf};
 ghost use Rattle.ceal_base.specs.declared.word.Word.{Word as WordOf};
-ghost use Rattle.ceal_code.specs.Stacks.{stack_in};
+ghost use Rattle.ceal_code.specs.Stacks.{stack_in, aside_in};
 ghost use Rattle.ceal_repair.specs.Looks.{Pays};
 ghost use Rattle.ceal_repair.specs.Repairs.{code_of, inputs_of, running_of, frames_of, SameCall};
 ghost use Rattle.ceal_repair.specs.Turning.{Since as SinceOf, FoundStale, TurnRuns};
@@ -27,6 +27,7 @@ pub fn unit_at(stack: &mut Stack, code: &Code, trace: &Trace, read: Stamp) -> Re
     ensures unit { OnOk result ((p : PlaceOf) (v : WordOf) (u : UnitOf) (x : ℕ)
         (args : List WordOf) → node_at read.0 trace.now.nodes ≡ Some (Read p v u x args)
         → stack_in stack.new ≡ resumed code.now u x args v) }
+    ensures aside { OnOk result (aside_in stack.new ≡ aside_in stack.old) }
 {
     let seen = trace.read_at(read);
     let args = seen.args.items();
@@ -58,6 +59,7 @@ impl<'a> Repair<'a> {
         listed_law();
         ready_law();
         turn_known_law();
+        self.stack.reset();
         let trace = &self.running.tables.trace;
         unit_at(self.stack, self.code, trace, read)?;
         self.limit = self.running.tables.trace.end_of(read);

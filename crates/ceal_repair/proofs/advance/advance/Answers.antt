@@ -1,4 +1,4 @@
-use Rattle.std.proofs.Common.{◌≡◌, ◌≢◌, ◌≤◌, false, true, refl, sym, ap, subst, ◌∙◌, arith, rules}
+use Rattle.std.proofs.Common.{◌≡◌, ◌≢◌, ◌≤◌, false, true, ap, subst, ◌∙◌, arith, rules}
 use Rattle.ceal_repair.proofs.Propagation.KeptRun.{has-come-in, idle-first}
 use Rattle.ceal_repair.proofs.Propagation.SlicesOfRun.{since, begun-in, is-sliced, front-stays, is-repaired}
 use Rattle.ceal_repair.proofs.Runs.Paid.{pays-as}
@@ -20,7 +20,7 @@ turns-requires-clause-comes c =
     )
 
 pub turns-requires-clause-idle : goal.turns-requires-clause-idle
-turns-requires-clause-idle c = idle-first c.at_root-repair.result.frames.now.items c.at_root-repair.ensures.frames
+turns-requires-clause-idle c = idle-first c.at_root-repair.result.stack.now.waits.aside c.at_root-repair.result.frames.now.items c.at_root-repair.ensures.frames
 
 pub returns-clause-sliced : goal.returns-clause-sliced
 returns-clause-sliced c = λ f args r part.

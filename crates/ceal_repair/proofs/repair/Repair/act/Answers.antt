@@ -1,4 +1,4 @@
-use Rattle.std.proofs.Common.{refl}
+use Rattle.std.proofs.Common.{refl, ◌∙◌}
 use Rattle.ceal_code.specs.Stacks.{stack_in, top_of, below_in}
 use Rattle.ceal_code.specs.declared.step.Act.TheVariants as does
 use Rattle.ceal_code.specs.declared.step.Step.TheVariants as step
@@ -11,7 +11,7 @@ close-requires c = record {
   over = (
     c.requires.runs.0,
     acts-over c.args.self.now c.next.new.self c.next.new.self c.in_ok-next.field-0 step.Over does.Over (stack_in c.next.new.self.stack.now)
-        c.in_ok-next.ensures.rest c.in_ok-next.ensures.acts c.in-Over.is refl refl c.requires.runs.0 c.requires.runs.1,
+        c.in_ok-next.ensures.rest c.in_ok-next.ensures.acts c.in-Over.is refl refl c.in_ok-next.ensures.aside c.requires.runs.0 c.requires.runs.1,
   );
 }
 
@@ -20,7 +20,7 @@ quiet-requires c = record {
   acts = (
     c.requires.runs.0,
     acts-over c.args.self.now c.next.new.self c.next.new.self c.in_ok-next.field-0 step.Quiet does.Quiet (stack_in c.next.new.self.stack.now)
-        c.in_ok-next.ensures.rest c.in_ok-next.ensures.acts c.in-Quiet.is refl refl c.requires.runs.0 c.requires.runs.1,
+        c.in_ok-next.ensures.rest c.in_ok-next.ensures.acts c.in-Quiet.is refl refl c.in_ok-next.ensures.aside c.requires.runs.0 c.requires.runs.1,
   );
 }
 
@@ -30,7 +30,7 @@ make-requires c = record {
     c.requires.runs.0,
     acts-over c.args.self.now c.next.new.self c.next.new.self c.in_ok-next.field-0 (step.Makes c.in-Makes.making)
         (does.Makes c.in_ok-key-in-Makes.key c.in-Makes.making.var (top_of c.next.new.self.stack.now)) (below_in c.next.new.self.stack.now)
-        c.in_ok-next.ensures.rest c.in_ok-next.ensures.acts c.in-Makes.is refl c.in_ok-key-in-Makes.ensures.key c.requires.runs.0 c.requires.runs.1,
+        c.in_ok-next.ensures.rest c.in_ok-next.ensures.acts c.in-Makes.is refl c.in_ok-key-in-Makes.ensures.key c.in_ok-next.ensures.aside c.requires.runs.0 c.requires.runs.1,
   );
 }
 
@@ -40,7 +40,7 @@ write-requires c = record {
     c.requires.runs.0,
     acts-over c.args.self.now c.next.new.self c.next.new.self c.in_ok-next.field-0 (step.Writes c.in-Writes.place c.in-Writes.value)
         (does.Writes c.in-Writes.place c.in-Writes.value) (stack_in c.next.new.self.stack.now)
-        c.in_ok-next.ensures.rest c.in_ok-next.ensures.acts c.in-Writes.is refl refl c.requires.runs.0 c.requires.runs.1,
+        c.in_ok-next.ensures.rest c.in_ok-next.ensures.acts c.in-Writes.is refl refl c.in_ok-next.ensures.aside c.requires.runs.0 c.requires.runs.1,
   );
 }
 
@@ -50,6 +50,6 @@ read-requires c = record {
     c.requires.runs.0,
     acts-over c.args.self.now c.next.new.self c.leave_for.new.self c.in_ok-next.field-0 (step.Reads c.in-Reads.reading)
         (does.Reads (closure_in c.in-Reads.reading c.leave_for.new.self.args.now.items)) (stack_in c.leave_for.new.self.stack.now)
-        c.in_ok-next.ensures.rest c.in_ok-next.ensures.acts c.in-Reads.is c.in_ok-leave_for-in-Reads.ensures.rest c.in_ok-leave_for-in-Reads.ensures.closure c.requires.runs.0 c.requires.runs.1,
+        c.in_ok-next.ensures.rest c.in_ok-next.ensures.acts c.in-Reads.is c.in_ok-leave_for-in-Reads.ensures.rest c.in_ok-leave_for-in-Reads.ensures.closure (c.in_ok-leave_for-in-Reads.ensures.aside ∙ c.in_ok-next.ensures.aside) c.requires.runs.0 c.requires.runs.1,
   );
 }

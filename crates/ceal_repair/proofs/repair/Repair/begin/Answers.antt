@@ -1,15 +1,14 @@
 use Rattle.std.proofs.Common.{◌≡◌, sym, ap, subst, ◌∙◌}
-use Rattle.ceal_code.specs.Stacks.{stack_in, waits_in}
+use Rattle.ceal_code.specs.Stacks.{stack_in, aside_in, above_floor}
 use Rattle.ceal_code.specs.Step.{Stack, Reads}
-use Rattle.ceal_code.specs.declared.waits.Waits.{Waits}
 use Rattle.ceal_order.specs.declared.stamp.Stamp.{Stamp}
 use Rattle.ceal_repair.proofs.Reuse.ReadReuseInCode.{none-entered}
 use Rattle.ceal_repair.proofs.Runs.UnitSteps.{NodeMore}
 use Rattle.ceal_repair.proofs.Runs.NewRead.{now-begin, resumed-as}
-use Rattle.ceal_repair.proofs.Runs.RepairView.{running-here, runs-as, IsStepped, stepped-here, stepped-late, node-behind, begun-view, cursor-kept, with_parts}
+use Rattle.ceal_repair.proofs.Runs.RepairView.{running-here, runs-as, IsStepped, stepped-here, stepped-late, node-behind, begun-frames, begun-view, cursor-kept, with_parts}
 use Rattle.ceal_repair.specs.Reads.{key_in, closure_in}
 use Rattle.ceal_repair.specs.Repairs.{code_of, inputs_of, arguments_of, view}
-use Rattle.ceal_repair.specs.declared.frame.Frame.TheVariants.{Begun}
+use Rattle.ceal_repair.specs.Frames.{Begun}
 use Rattle.ceal_repair.specs.declared.repair.Repair.{Repair}
 use Rattle.ceal_theory.specs.Repair.{resumed}
 use Rattle.ceal_trace.specs.declared.node.Node.{Node}
@@ -50,8 +49,8 @@ returns-clause-runs c = λ start a.
     let put : NodeMore new.cursor.0 read.0 (Read p word c.args.reading.unit c.args.reading.var words) new.running.now.tables c.begin_read.new.self = record { nodes = f.nodes; inserted = f.inserted; bases = f.bases; behind = f.behind; kept = f.kept } in
     let k : NodeMore new.cursor.0 read.0 node new.running.now.tables c.begin_read.new.self =
     subst (λ ws. NodeMore new.cursor.0 read.0 (Read p word c.args.reading.unit c.args.reading.var ws) new.running.now.tables c.begin_read.new.self) args-kept put in
-    let below : Waits = c.in_ok-below.below in
-    let stack : stack_in old.stack.now ≡ waits_in below = sym (c.in_ok-below.ensures.aside ∙ ap (λ (r : Repair). stack_in r.stack.now) h.rest) in
+    let below : Stack = above_floor c.in_ok-below.below (aside_in c.set_aside.new.self) in
+    let stack : stack_in old.stack.now ≡ below = sym (c.in_ok-below.ensures.above ∙ ap (λ (r : Repair). stack_in r.stack.now) h.rest) in
     let code : new.code.now ≡ old.code.now = ap code_of h.rest in
     runs-as (code_of old) (inputs_of old) start (resumed (code_of old) c.args.reading.unit c.args.reading.var c.args.self.now.args.now.items word) _
     (record (with_parts new (record new.running.now { tables = c.begin_read.new.self }) c.resume.new.self c.push.new.self) { cursor = read })
@@ -63,7 +62,9 @@ returns-clause-runs c = λ start a.
     (ap code_of h.rest) (ap inputs_of h.rest)
     (resumed-as new.code.now old.code.now code c.args.reading.unit c.args.reading.var words word (stack_in c.resume.new.self) (stack_in c.set_aside.new.self) c.in_ok-below.ensures.empty c.in_ok-resume.ensures.resumed
     ∙ ap (λ ws. resumed old.code.now c.args.reading.unit c.args.reading.var ws word) args-kept)
-    (begun-view old new h c.begin_read.new.self read.0 (Begun below read) c.push.new.self.items c.in_ok-push.ensures.items)
+    (begun-view old new h c.begin_read.new.self read.0 (Begun below read) _
+    (begun-frames (aside_in new.stack.now) (aside_in c.set_aside.new.self) (aside_in c.resume.new.self) c.in_ok-below.below read new.frames.now.items c.push.new.self.items
+    c.in_ok-resume.ensures.aside c.in_ok-below.ensures.under c.in_ok-push.ensures.items))
 
 pub returns-clause-pays : goal.returns-clause-pays
 returns-clause-pays c =

@@ -1,12 +1,12 @@
-use Rattle.std.proofs.Common.{ℕ, ◌++◌, ◌∷◌, refl}
-use Rattle.ceal_code.specs.Stacks.{waits_in}
+use Rattle.std.proofs.Common.{ℕ, ◌++◌, ◌∷◌, reverse, refl}
+use Rattle.ceal_code.specs.Piles.{Pile}
 use Rattle.ceal_repair.proofs.Runs.NewReadEnd.{among, open-is-read, open-before, now-finish}
 use Rattle.ceal_repair.proofs.Runs.UnitSteps.{NodeMore, cursor-here}
 use Rattle.ceal_repair.proofs.Runs.RepairView.{runs-as, with_parts}
 use Rattle.ceal_repair.specs.Entries.{entries}
 use Rattle.ceal_repair.specs.Moment.{View}
-use Rattle.ceal_repair.specs.Repairs.{code_of, inputs_of, view}
-use Rattle.ceal_repair.specs.declared.frame.Frame.TheVariants.{Begun}
+use Rattle.ceal_repair.specs.Repairs.{code_of, inputs_of, view_under, units_on}
+use Rattle.ceal_repair.specs.Frames.{Begun, frames_in}
 use Rattle.ceal_repair.specs.declared.repair.Repair.{Repair}
 use Rattle.ceal_trace.specs.declared.node.Node.TheVariants.{End}
 use Rattle.std.proofs.Common.{arith, ap}
@@ -19,24 +19,24 @@ pub finish_read-requires-clause-read : goal.finish_read-requires-clause-read
 finish_read-requires-clause-read c =
     let r : Repair = c.args.self.now in
     let e = c.requires.ends.1 in
-    let v : View = record (view r) { frames = Begun c.args.below c.args.read ∷ (view r).frames } in
+    let v : View = record (view_under c.args.below r) { frames = Begun (units_on c.args.below r) c.args.read ∷ (view_under c.args.below r).frames } in
     open-is-read c.requires.ends.0 v e.now.reads (entries e.now.left ++ e.now.tail) e.now.placed c.args.read.0
-    (among (code_of r) (inputs_of r) c.requires.ends.0 e.stack (view r) c.args.below c.args.read e.now)
+    (among (code_of r) (inputs_of r) c.requires.ends.0 e.stack (view_under c.args.below r) (units_on c.args.below r) c.args.read e.now)
 
 pub finish_read-requires-clause-here : goal.finish_read-requires-clause-here
 finish_read-requires-clause-here c =
     let r : Repair = c.args.self.now in
     let e = c.requires.ends.1 in
-    let v : View = record (view r) { frames = Begun c.args.below c.args.read ∷ (view r).frames } in
+    let v : View = record (view_under c.args.below r) { frames = Begun (units_on c.args.below r) c.args.read ∷ (view_under c.args.below r).frames } in
     cursor-here c.requires.ends.0 v e.now.reads (entries e.now.left ++ e.now.tail) e.now.placed
 
 pub finish_read-requires-clause-order : goal.finish_read-requires-clause-order
 finish_read-requires-clause-order c =
     let r : Repair = c.args.self.now in
     let e = c.requires.ends.1 in
-    let v : View = record (view r) { frames = Begun c.args.below c.args.read ∷ (view r).frames } in
+    let v : View = record (view_under c.args.below r) { frames = Begun (units_on c.args.below r) c.args.read ∷ (view_under c.args.below r).frames } in
     open-before c.requires.ends.0 v e.now.reads (entries e.now.left ++ e.now.tail) e.now.placed c.args.read.0
-    (among (code_of r) (inputs_of r) c.requires.ends.0 e.stack (view r) c.args.below c.args.read e.now)
+    (among (code_of r) (inputs_of r) c.requires.ends.0 e.stack (view_under c.args.below r) (units_on c.args.below r) c.args.read e.now)
 
 pub returns-clause-runs : goal.returns-clause-runs
 returns-clause-runs c = λ start a.
@@ -45,10 +45,11 @@ returns-clause-runs c = λ start a.
     let f = c.in_ok-self.ensures in
     let k : NodeMore r.cursor.0 s (End c.args.read) r.running.now.tables c.finish_read.new.self =
     record { nodes = f.nodes; inserted = f.inserted; bases = λ p. rw f.mods refl; behind = f.behind; kept = f.kept } in
-    runs-as (code_of r) (inputs_of r) start (waits_in c.args.below) _
+    runs-as (code_of r) (inputs_of r) start (units_on c.args.below r) _
     (record (with_parts r (record r.running.now { tables = c.finish_read.new.self }) c.bring_back.new.self r.frames.now) { cursor = c.in_ok-self.field-0 })
-    (now-finish (code_of r) (inputs_of r) start a.stack (view r) c.args.below c.args.read a.now c.finish_read.new.self s a.over k)
-    refl refl c.bring_back.ensures.back refl
+    (now-finish (code_of r) (inputs_of r) start a.stack (view_under c.args.below r) (units_on c.args.below r) c.args.read a.now c.finish_read.new.self s a.over k)
+    refl refl c.bring_back.ensures.back
+    (ap (λ (a : Pile). record { tables = c.finish_read.new.self; heap = r.running.now.heap; spent = r.running.now.spent; cursor = s; limit = r.limit; frames = frames_in a (reverse r.frames.now.items) }) c.bring_back.ensures.aside)
 
 pub returns-clause-pays : goal.returns-clause-pays
 returns-clause-pays c =

@@ -60,7 +60,7 @@ returns-clause-runs c = λ start a.
     (alloc-behind old new h block b f.core.1 c.args.key s c.make.new.self.tables c.put_alloc.new.self node)
     (none-left old start a.stack a.now c.args.key c.requires.absent) c.args.var unit.unit unit.index (arguments unit.env.items) below a.does)
     (ap code_of h.rest) (ap inputs_of h.rest) stack
-    (made-view old new h c.put_alloc.new.self c.make.new.self.heap c.make.new.self.spent s f.spent)
+    (made-view old new h c.put_alloc.new.self c.make.new.self.heap c.make.new.self.spent s _ f.spent c.in_ok-set.ensures.aside)
 
 pub returns-clause-pays : goal.returns-clause-pays
 returns-clause-pays c =

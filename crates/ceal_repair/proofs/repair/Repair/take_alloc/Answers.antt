@@ -13,7 +13,7 @@ use Rattle.ceal_repair.specs.Moment.{through}
 use Rattle.ceal_repair.specs.Repairs.{code_of, inputs_of, stack_of, view}
 use Rattle.ceal_repair.specs.declared.repair.Repair.{Repair}
 use Rattle.ceal_trace.specs.declared.node.Node.TheVariants.{Alloc}
-use Rattle.std.proofs.Common.{refl, arith}
+use Rattle.std.proofs.Common.{arith}
 use Rattle.ceal_repair.proofs.Runs.Paid.{step-pays, spends, due-steps}
 use Rattle.ceal_repair.specs.declared.running.Running.{Running}
 use Rattle.ceal_repair.proofs.repair.Repair.take_alloc.Goals as goal
@@ -103,7 +103,7 @@ returns-clause-runs c = λ start a.
     (now-take-alloc (code_of old) (inputs_of old) start a.stack (view old) a.now c.args.key c.args.found c.cut_until.new.self.heap new.running.now.tables c.cut_until.new.self.tables c.set_steps.new.self r.0 h.more cut matches
     c.args.var unit.unit unit.index (arguments unit.env.items) below a.does)
     (ap code_of h.rest) (ap inputs_of h.rest) stack
-    (made-view old new h c.set_steps.new.self c.cut_until.new.self.heap c.cut_until.new.self.spent c.args.found.0 f.spent)
+    (made-view old new h c.set_steps.new.self c.cut_until.new.self.heap c.cut_until.new.self.spent c.args.found.0 _ f.spent c.in_ok-set.ensures.aside)
 
 pub returns-clause-pays : goal.returns-clause-pays
 returns-clause-pays c =
