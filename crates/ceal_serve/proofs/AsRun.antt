@@ -1,5 +1,7 @@
 -- What is said is what `ceal run` writes.
-use Rattle.std.proofs.Common.{◌≡◌, ◌⊎◌, inl, inr, zero, suc, ◌+◌, ◌<◌, ◌≤◌, ◌^◌, ℕ, Bool, true, false, Result, Err, List, [], ◌∷◌, ◌++◌, length, take, drop, refl, sym, ap, ◌∙◌, subst, append_assoc, append-nil, length-append, arith}
+use Rattle.std.proofs.Common.{◌≡◌, ◌⊎◌, inl, inr, zero, suc, ◌+◌, ◌<◌, ◌≤◌, ◌^◌, ℕ, Bool, true, false, Result, Err}
+use Rattle.std.proofs.Common.{List, [], ◌∷◌, ◌++◌, length, take, drop, refl, sym, ap, ◌∙◌, subst, append_assoc}
+use Rattle.std.proofs.Common.{append-nil, length-append, arith}
 use Rattle.std.proofs.Math.Seq.{take-append_seam}
 use Rattle.ceal_base.specs.declared.fault.Fault.{Fault}
 use Rattle.ceal_base.specs.declared.fault.Span.{Span}
@@ -146,7 +148,8 @@ turned-away-as-run law fuel ended text more said small h over within = (tt, inl 
     first : Comes (text ++ more) (Err h.fault)
     first = elim h.parts.is_head.complete [
       | inl m ↦ subst (λ (t : List ℕ). Comes t (Err h.fault)) (sym whole)
-          (comes-longer law h.parts.head (h.parts.script ++ more) h.parts.is_head.part h.parts.is_head.split h.parts.is_head.bare m.0 m.1 (subst (λ (t : List ℕ). length t < 2 ^ 32) whole small) _ h.first)
+          (comes-longer law h.parts.head (h.parts.script ++ more) h.parts.is_head.part h.parts.is_head.split
+              h.parts.is_head.bare m.0 m.1 (subst (λ (t : List ℕ). length t < 2 ^ 32) whole small) _ h.first)
       | inr e ↦ subst (λ (t : List ℕ). Comes t (Err h.fault)) (sym (whole ∙ (ap (λ (s : List ℕ). h.parts.head ++ s) (ap (λ (s : List ℕ). s ++ more) e.1 ∙ over e.0) ∙ append-nil h.parts.head))) h.first
     ]
 

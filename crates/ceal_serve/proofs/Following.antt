@@ -1,5 +1,7 @@
 -- Replies to lines, one after another, and what is said for a text.
-use Rattle.std.proofs.Common.{◌≡◌, ◌⊎◌, inl, inr, suc, ◌+◌, ℕ, Bool, true, false, Option, Some, None, Result, List, [], ◌∷◌, ◌++◌, length, take, drop, refl, sym, ap, ◌∙◌, subst, append_assoc, append-nil, arith, option_map}
+use Rattle.std.proofs.Common.{◌≡◌, ◌⊎◌, inl, inr, suc, ◌+◌, ℕ, Bool, true, false, Option, Some, None, Result, List, []}
+use Rattle.std.proofs.Common.{◌∷◌, ◌++◌, length, take, drop, refl, sym, ap, ◌∙◌, subst, append_assoc, append-nil, arith}
+use Rattle.std.proofs.Common.{option_map}
 use Rattle.std.specs.Prelude.{IfSome, OnErr}
 use Rattle.ceal_compile.specs.Compiled.{IsCompiled}
 use Rattle.ceal_compile.specs.Source.{IsProgram}
@@ -92,7 +94,7 @@ module _ (fuel : ℕ) (text said : List ℕ) (session : Situation) (h : Follows 
         replies = record { end = behind h.end (Some Blank); leads = subst (λ (l : List (List ℕ)). Leads first l said (behind h.end (Some Blank))) (sym lines-now) now };
       })
 
-  -- what is said where the text goes on so and ends
+  -- what is said where the text continues so and ends
   to-end : (rest out : List ℕ) (end : Situation) → Leads first (h.front ++ script_lines rest) (said ++ out) end → IsServed fuel true (text ++ rest) (said ++ out)
   to-end rest out end leads = record {
     parts = record {

@@ -1,5 +1,7 @@
 -- What was heard, piece after piece.
-use Rattle.std.proofs.Common.{◌≡◌, ℕ, zero, suc, ◌<◌, ◌≤◌, Bool, true, false, Option, Some, None, Result, Ok, Err, List, [], ◌∷◌, ◌++◌, length, take, drop, take-append-drop, refl, sym, ap, ◌∙◌, subst, append_assoc, append-nil, arith, option_map}
+use Rattle.std.proofs.Common.{◌≡◌, ℕ, zero, suc, ◌<◌, ◌≤◌, Bool, true, false, Option, Some, None, Result, Ok, Err, List}
+use Rattle.std.proofs.Common.{[], ◌∷◌, ◌++◌, length, take, drop, take-append-drop, refl, sym, ap, ◌∙◌, subst}
+use Rattle.std.proofs.Common.{append_assoc, append-nil, arith, option_map}
 use Rattle.std.specs.Prelude.{IfSome, OnErr}
 use Rattle.ceal_cli.specs.Output.{IsPrefix}
 use Rattle.ceal_serve.specs.Exchange.{Exchange, Says, SaysPrefix, hearing, saying}
@@ -37,7 +39,7 @@ is-turn rest e one h = record { lines = h.lines; part = rest; heard = h.heard; c
 pub caught-up : (rest more : List ℕ) (e : Exchange) → IsCaughtUp rest e → IsCaughtUp (rest ++ more) (heard_more more e)
 caught-up rest more e h = record { lines = h.lines; heard = ap (λ (l : List ℕ). l ++ more) h.heard ∙ append_assoc h.lines rest more; complete = h.complete; answered = h.answered }
 
--- an error leaves what is told of it
+-- an error leaves what is known of it
 pub on-err : {A E : Type 0} (r : Result A E) (P : Type 0) → P → OnErr r P
 on-err (Ok a) P h = tt
 on-err (Err e) P h = h

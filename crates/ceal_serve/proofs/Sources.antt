@@ -1,5 +1,7 @@
 -- The source part, line after line.
-use Rattle.std.proofs.Common.{◌≡◌, ◌⊎◌, inl, inr, ℕ, ◌+◌, ◌-◌, ◌<◌, ◌≤◌, Bool, true, false, IsTrue, ◌↔◌, take, drop, Option, Some, None, List, [], ◌∷◌, ◌++◌, length, option_map, refl, sym, ap, ◌∙◌, subst, append_assoc, append-nil, arith}
+use Rattle.std.proofs.Common.{◌≡◌, ◌⊎◌, inl, inr, ℕ, ◌+◌, ◌-◌, ◌<◌, ◌≤◌, Bool, true, false, IsTrue, ◌↔◌, take, drop}
+use Rattle.std.proofs.Common.{Option, Some, None, List, [], ◌∷◌, ◌++◌, length, option_map, refl, sym, ap, ◌∙◌, subst}
+use Rattle.std.proofs.Common.{append_assoc, append-nil, arith}
 use Rattle.std.specs.Prelude.{IfSome}
 use Rattle.ceal_lex.specs.Parts.{IsBeforeLine, IsMark}
 use Rattle.ceal_serve.specs.Exchange.{Exchange, IsBegun}
@@ -19,7 +21,9 @@ listening-more fuel text before after o n h k =
     }) k
 
 -- a line was taken to the text
-pub listening-taken : (fuel : ℕ) (old new lines rest : List ℕ) (marked : Bool) (o : Option Exchange) → TakesLine old new lines rest marked → IfSome o (IsListening fuel old lines) → IfSome o (IsListening fuel new rest)
+pub listening-taken : (fuel : ℕ) (old new lines rest : List ℕ) (marked : Bool) (o : Option Exchange)
+    → TakesLine old new lines rest marked → IfSome o (IsListening fuel old lines) → IfSome o
+    (IsListening fuel new rest)
 listening-taken fuel old new lines rest marked o t k =
     known-same o o (IsListening fuel old lines) (IsListening fuel new rest) refl (λ e b. record {
       fuel_is = b.fuel_is;
@@ -42,7 +46,9 @@ pub heard-marked : (fuel : ℕ) (text rest : List ℕ) (o : Option Exchange) →
 heard-marked fuel text rest o k =
     known-same o o (IsListening fuel text rest) (IsHeardSource fuel true text rest) refl (λ e b. record { fuel_is = b.fuel_is; unsaid = b.unsaid; heard = inl (refl, b.going, b.heard) }) k
 
-pub heard-open : (fuel : ℕ) (text whole before after : List ℕ) (o n : Option Exchange) → HearsEnd o n before after → whole ≡ text ++ after → IfSome o (IsListening fuel text before) → IfSome n (IsHeardSource fuel false whole after)
+pub heard-open : (fuel : ℕ) (text whole before after : List ℕ) (o n : Option Exchange) → HearsEnd o n before after
+    → whole ≡ text ++ after → IfSome o (IsListening fuel text before) → IfSome n
+    (IsHeardSource fuel false whole after)
 heard-open fuel text whole before after o n h w k =
     known-after (option_map (heard_more h.more) o) n heard_end (IsListening fuel text after) (IsHeardSource fuel false whole after) h.exchange
     (λ e b. record { fuel_is = b.fuel_is; unsaid = b.unsaid; heard = inr (refl, refl, b.heard ∙ sym w) })

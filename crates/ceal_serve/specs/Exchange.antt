@@ -1,5 +1,6 @@
 -- What a conversation has come to.
-use Rattle.std.specs.Prelude.{◌≡◌, ◌≤◌, ℕ, Bool, true, false, List, [], ◌∷◌, ◌++◌, Option, Result, MatchResult, option_map, take, length}
+use Rattle.std.specs.Prelude.{◌≡◌, ◌≤◌, ℕ, Bool, true, false, List, [], ◌∷◌, ◌++◌, Option, Result, MatchResult}
+use Rattle.std.specs.Prelude.{option_map, take, length}
 
 -- How many steps a run may take in it, what was heard so far, whether its end was heard, and what was said so far.
 pub record Exchange : Type 0 where

@@ -10,7 +10,7 @@ ServedLaw =
     (fuel : ℕ) (ended : Bool) (text said : List ℕ) → length text < 2 ^ 32 → IsServed fuel ended text said
     → IsAnswer (Run fuel) text said
 
--- So is the line of a first fault, also where the text goes on after the mark. The place of the fault is one of the
+-- So is the line of a first fault, also where the text continues after the mark. The place of the fault is one of the
 -- source part.
 abbrev pub TurnedAwayLaw : Type 0
 TurnedAwayLaw =

@@ -1,5 +1,6 @@
 -- Hearing lines, and the source part.
-use Rattle.std.specs.Prelude.{◌≡◌, ◌⊎◌, ◌<◌, ◌≤◌, ℕ, Bool, true, false, IsTrue, ◌↔◌, List, [], ◌∷◌, ◌++◌, length, Option, Some, None, option_map}
+use Rattle.std.specs.Prelude.{◌≡◌, ◌⊎◌, ◌<◌, ◌≤◌, ℕ, Bool, true, false, IsTrue, ◌↔◌, List, [], ◌∷◌, ◌++◌, length}
+use Rattle.std.specs.Prelude.{Option, Some, None, option_map}
 use Rattle.ceal_base.specs.declared.fault.Fault.{Fault}
 use Rattle.ceal_compile.specs.FaultLine.{fault_line}
 use Rattle.ceal_compile.specs.Source.{IsFirstFault}
@@ -54,7 +55,7 @@ pub record HasLine (text : List ℕ) (at : ℕ) : Type 0 where
   pub one : IsOneLine line
   pub ends : length line ≡ at
 
--- A line of at most so many bytes was heard, with its line feed; or the end was, and what is left is the last line.
+-- A line within the limit was heard, with its line feed; or the end was, and what is left is the last line.
 abbrev pub HearsLine : Option ℕ → ℕ → Option Exchange → Option Exchange → List ℕ → List ℕ → Type 0
 HearsLine None limit old new before after = HearsEnd old new before after × IsOneLine after × (length after ≤ limit)
 HearsLine (Some at) limit old new before after = Hears old new before after × HasLine after at × (at < limit)

@@ -1,4 +1,4 @@
--- The words of the command line, and what is told of a status.
+-- The words of the command line, and the line of a status.
 use Rattle.std.specs.Prelude.{ℕ, List, [], ◌∷◌, codes}
 use Rattle.ceal_cli.specs.Modes.{Text, Asks}
 use Rattle.ceal_cli.specs.declared.top.Status.{Status}

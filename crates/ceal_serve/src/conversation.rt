@@ -1,6 +1,7 @@
 // The two ends of a conversation.
 
-ghost use Rattle.std.specs.Prelude.{◌≡◌, ◌<◌, ◌≤◌, ℕ, Option, None, length, IfSome, IfOk, OnOk, OnErr, IsErrOf, option_map};
+ghost use Rattle.std.specs.Prelude.{◌≡◌, ◌<◌, ◌≤◌, ℕ, Option, None, length, IfSome, IfOk, OnOk, OnErr, IsErrOf};
+ghost use Rattle.std.specs.Prelude.{option_map};
 ghost use Rattle.std.specs.Io.{ReadsAtMost, WritesAtMost};
 ghost use Rattle.ceal_io.specs.Streams.{Rose};
 ghost use Rattle.ceal_serve.specs.Exchange.{Exchange, ReadHears, WriteSays, SaysPrefix, saying};
@@ -19,8 +20,8 @@ pub trait Conversation {
     /// How many writes have failed.
     ghost write_faults: { Self → ℕ };
 
-    /// Reads bytes into the front of a slice that has room, and answers how many. Nothing is the end of what there is to
-    /// hear. A read that failed heard nothing. More is asked for only where all was said to the lines that were heard.
+    /// Reads bytes into the front of a slice that has room, and answers how many. Nothing is the end of what there is
+    /// to hear. A read that failed heard nothing. More is asked for only where all was said to the lines that were heard.
     fn read(&mut self, into: &mut [u8]) -> Result<usize, Failed>
         requires turn { IfSome (exchange self.old) IsTurn }
         requires room { 0 < length into.old }
@@ -30,8 +31,8 @@ pub trait Conversation {
         ensures later { read_faults self.old ≤ read_faults self.new }
         ensures writes { write_faults self.new ≡ write_faults self.old };
 
-    /// Writes bytes from the front of a slice, at least one where there is one, and answers how many. A write that stopped
-    /// said nothing.
+    /// Writes bytes from the front of a slice, at least one where there is one, and answers how many. A write that
+    /// stopped said nothing.
     fn write(&mut self, bytes: &[u8]) -> Result<usize, Stopped>
         ensures bound { WritesAtMost result bytes.now }
         ensures some { IfOk result (λ n. 0 < length bytes.now → 0 < n) }
@@ -42,7 +43,7 @@ pub trait Conversation {
         ensures reads { read_faults self.new ≡ read_faults self.old };
 }
 
-/// A source and a sink. Of what they come to nothing is known.
+/// A source and a sink. Nothing is known of what they read and write.
 #[derive(Drop)]
 pub struct Streams<S: Source, K: Sink> {
     source: S,

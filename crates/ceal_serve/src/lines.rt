@@ -1,6 +1,7 @@
 // The lines of what is heard.
 
-ghost use Rattle.std.specs.Prelude.{◌≡◌, ◌+◌, ◌-◌, ◌<◌, ◌≤◌, ◌==◌, ◌++◌, [], Some, Ok, Err, length, drop, position, vec_len, IfSome, IfOk, IfErr, IsErrOf, MatchOption, OnOk, OnErr};
+ghost use Rattle.std.specs.Prelude.{◌≡◌, ◌+◌, ◌-◌, ◌<◌, ◌≤◌, ◌==◌, ◌++◌, [], Some, Ok, Err, length, drop, position};
+ghost use Rattle.std.specs.Prelude.{vec_len, IfSome, IfOk, IfErr, IsErrOf, MatchOption, OnOk, OnErr};
 ghost use Rattle.ceal_serve.specs.Listening.{IsCaughtUp, Hears, HearsMore, HearsEnd, HearsLine, HearsSome, HasLine};
 ghost use Rattle.ceal_serve.specs.Troubles.{IsCounted};
 ghost use Rattle.ceal_serve.specs.Turns.{IsLong, IsOneLine, IsTurn};
@@ -161,8 +162,8 @@ impl Lines {
         Err(Trouble::TooLong)
     }
 
-    /// Where the next line ends, which has at most `limit` bytes with its line feed, and is heard where it was not. At the
-    /// end of what there is to hear there is none, and what is left is the last line.
+    /// Where the next line ends, which has at most `limit` bytes with its line feed, and is heard where it was not. At
+    /// the end of what there is to hear there is none, and what is left is the last line.
     pub fn hear_line<C: Conversation>(
         &mut self,
         talk: &mut C,

@@ -109,8 +109,8 @@ fn serve_lines<C: Conversation>(
     served
 }
 
-/// Replies to each line when it is complete, before more is heard. What was said in the end is all that is to be said for
-/// what was heard, or begins it.
+/// Replies to each line when it is complete, before more is heard. What was said in the end is everything that is owed
+/// to what was heard, or begins it.
 pub fn serve<C: Conversation>(alloc: Global, fuel: u32, talk: &mut C) -> Status
     requires allowed { IsAllowed fuel }
     requires begun { IfSome (C.exchange talk.old) (IsBegun fuel) }

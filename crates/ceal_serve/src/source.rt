@@ -1,6 +1,7 @@
 // The source part of what is heard.
 
-ghost use Rattle.std.specs.Prelude.{◌≡◌, ◌≤◌, ◌<◌, ◌+◌, ◌↔◌, [], IsTrue, List, ℕ, vec_len, IfSome, IfOk, IfErr, OnOk, OnErr, IsErrOf};
+ghost use Rattle.std.specs.Prelude.{◌≡◌, ◌≤◌, ◌<◌, ◌+◌, ◌↔◌, [], IsTrue, List, ℕ, vec_len, IfSome, IfOk, IfErr, OnOk};
+ghost use Rattle.std.specs.Prelude.{OnErr, IsErrOf};
 ghost use Rattle.ceal_compile.specs.Source.{IsFirstFault};
 ghost use Rattle.ceal_lex.specs.Parts.{IsMark};
 ghost use Rattle.ceal_serve.specs.Exchange.{IsBegun, SaysPrefix, Says};

@@ -2,7 +2,8 @@
 
 ghost use Rattle.std.specs.Prelude.{◌≡◌, ◌≢◌, ◌⊎◌, ◌∷◌, ℕ, IfOk, IfSome, MatchOption, codes};
 ghost use Rattle.ceal_cli.specs.Modes.{texts};
-ghost use Rattle.ceal_cli.specs.declared.top.Status.TheVariants.{Done, Refused, Usage, TooLong, Memory, ReadFault, WriteFault};
+ghost use Rattle.ceal_cli.specs.declared.top.Status.TheVariants.{Done, Refused, Usage, TooLong, Memory, ReadFault};
+ghost use Rattle.ceal_cli.specs.declared.top.Status.TheVariants.{WriteFault};
 ghost use Rattle.ceal_cli.specs.declared.words.Mode.TheVariants.{Run};
 ghost use Rattle.ceal_io.specs.Streams.{Rose};
 ghost use Rattle.ceal_serve.specs.Exchange.{IsBegun};
