@@ -21,7 +21,8 @@ pub trait Conversation {
     ghost write_faults: { Self → ℕ };
 
     /// Reads bytes into the front of a slice that has room, and answers how many. Nothing is the end of what there is
-    /// to hear. A read that failed heard nothing. More is asked for only where all was said to the lines that were heard.
+    /// to hear. A read that failed heard nothing. More is asked for only where all was said to the lines that were
+    /// heard.
     fn read(&mut self, into: &mut [u8]) -> Result<usize, Failed>
         requires turn { IfSome (exchange self.old) IsTurn }
         requires room { 0 < length into.old }
