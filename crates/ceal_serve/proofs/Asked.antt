@@ -22,7 +22,7 @@ module _ (words all : List Text) (same : all ≡ codes "run" ∷ words) where
   pub asked-run : (mode : Mode) (found : Option ℕ) → Asks all mode → MatchOption found ((fuel : ℕ) → mode ≢ Run fuel) (λ fuel. mode ≡ Run fuel)
       → MatchOption found (AskForNothing words) (λ fuel. AskToServe words fuel)
   unfolding as-asked
-  asked-run mode None asks other fuel run = other fuel (one_mode all mode (Run fuel) asks (as-asked fuel run))
+  asked-run mode None asks other = λ fuel run. other fuel (one_mode all mode (Run fuel) asks (as-asked fuel run))
   asked-run mode (Some fuel) asks is = subst (λ (l : List Text). Asks l (Run fuel)) same (subst (λ m. Asks all m) is asks)
 
 -- a conversation that begins with the fuel that words ask for
