@@ -132,9 +132,60 @@ impl Memo {
         self.table.remove(order, stamp);
     }
 
-    /// The earliest read with a key after one stamp and before another. The key was worked out before, for this memo or one
-    /// of the same seed.
+    /// The earliest read with a key after one stamp and before another.
     pub fn first_read<K: Keys>(
+        &self,
+        order: &Order,
+        keys: &K,
+        key: &ReadKey<'_>,
+        after: Stamp,
+        until: Stamp,
+    ) -> Option<Stamp>
+        requires after { IsTrue (is_in after.0 order.now.stamps) }
+        requires until { IsTrue (is_in until.0 order.now.stamps) }
+        requires follows { Follows order.now.stamps self.now }
+        requires keys { Holds self.now (K.entries keys.now) }
+        ensures first { IfSome result (λ s. IsFirstWith
+            order.now.stamps (K.entries keys.now) (OfRead key.now) after.0 s.0) }
+        ensures before { IfSome result
+            (λ s. place s.0 order.now.stamps < place until.0 order.now.stamps) }
+        ensures here { IfSome result (λ s. IsTrue (is_in s.0 order.now.stamps)) }
+        ensures none { IfNone result (NoneWith
+            order.now.stamps (K.entries keys.now) (OfRead key.now) after.0 until.0) }
+    {
+        let hashed = self.of_read(key);
+        let sought = SoughtRead { keys, key };
+        self.first_of_read(order, &sought, hashed, after, until)
+    }
+
+    /// The earliest allocation with a key after one stamp and before another.
+    pub fn first_alloc<K: Keys>(
+        &self,
+        order: &Order,
+        keys: &K,
+        key: &Key,
+        after: Stamp,
+        until: Stamp,
+    ) -> Option<Stamp>
+        requires after { IsTrue (is_in after.0 order.now.stamps) }
+        requires until { IsTrue (is_in until.0 order.now.stamps) }
+        requires follows { Follows order.now.stamps self.now }
+        requires keys { Holds self.now (K.entries keys.now) }
+        ensures first { IfSome result (λ s. IsFirstWith
+            order.now.stamps (K.entries keys.now) (OfAlloc key.now) after.0 s.0) }
+        ensures before { IfSome result
+            (λ s. place s.0 order.now.stamps < place until.0 order.now.stamps) }
+        ensures here { IfSome result (λ s. IsTrue (is_in s.0 order.now.stamps)) }
+        ensures none { IfNone result (NoneWith
+            order.now.stamps (K.entries keys.now) (OfAlloc key.now) after.0 until.0) }
+    {
+        let hashed = self.of_alloc(key);
+        let sought = SoughtAlloc { keys, key };
+        self.first_of_alloc(order, &sought, hashed, after, until)
+    }
+
+    /// As `first_read`, with a key that was worked out before, for this memo or one of the same seed.
+    pub fn first_of_read<K: Keys>(
         &self,
         order: &Order,
         sought: &SoughtRead<'_, K>,
@@ -159,9 +210,8 @@ impl Memo {
             .first_between(order, hashed.hash, sought, after, until)
     }
 
-    /// The earliest allocation with a key after one stamp and before another. The key was worked out before, for this memo or
-    /// one of the same seed.
-    pub fn first_alloc<K: Keys>(
+    /// As `first_alloc`, with a key that was worked out before, for this memo or one of the same seed.
+    pub fn first_of_alloc<K: Keys>(
         &self,
         order: &Order,
         sought: &SoughtAlloc<'_, K>,

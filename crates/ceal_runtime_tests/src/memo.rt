@@ -57,28 +57,18 @@ fn adds_two_keys<R: Abort>(rt: &R, order: &mut Order, memo: &mut Memo)
         first: second,
         second: third,
     };
-    let number = SoughtAlloc {
-        keys: &keys,
-        key: &Key::ModInt,
-    };
-    let hashed = memo.of_alloc(number.key);
-    let found = memo.first_alloc(order, &number, hashed, first, last);
+    let found = memo.first_alloc(order, &keys, &Key::ModInt, first, last);
     equal(rt, found, Some(second));
+    let found = memo.first_alloc(order, &keys, &Key::ModPtr(1), first, last);
+    equal(rt, found, Some(third));
     let pointer = SoughtAlloc {
         keys: &keys,
         key: &Key::ModPtr(1),
     };
     let hashed = memo.of_alloc(pointer.key);
-    let found = memo.first_alloc(order, &pointer, hashed, first, last);
-    equal(rt, found, Some(third));
-    let found = memo.first_alloc(order, &pointer, hashed, first, third);
+    let found = memo.first_of_alloc(order, &pointer, hashed, first, third);
     equal(rt, found, None);
-    let other = SoughtAlloc {
-        keys: &keys,
-        key: &Key::ModPtr(2),
-    };
-    let hashed = memo.of_alloc(other.key);
-    let found = memo.first_alloc(order, &other, hashed, first, last);
+    let found = memo.first_alloc(order, &keys, &Key::ModPtr(2), first, last);
     equal(rt, found, None);
     memo.remove(order, second);
 }

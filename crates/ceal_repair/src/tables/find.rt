@@ -32,7 +32,7 @@ impl Tables {
         let keys = &KeysOf { trace: &self.trace };
         let sought = SoughtAlloc { keys, key };
         self.memo
-            .first_alloc(self.trace.order(), &sought, hashed, after, until)
+            .first_of_alloc(self.trace.order(), &sought, hashed, after, until)
     }
 
     /// The earliest read with a key, as the memo enters it, after one node and before another.
@@ -56,6 +56,6 @@ impl Tables {
         let keys = &KeysOf { trace: &self.trace };
         let sought = SoughtRead { keys, key };
         self.memo
-            .first_read(self.trace.order(), &sought, hashed, after, until)
+            .first_of_read(self.trace.order(), &sought, hashed, after, until)
     }
 }
