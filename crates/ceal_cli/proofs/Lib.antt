@@ -1,6 +1,8 @@
-pub mod Accepted
+-- what crates above cite
 pub mod Options
+pub mod Inputs
+-- the rest
+pub mod Accepted
 pub mod Sessions
 pub mod Outputs
-pub mod Inputs
 mod Samples

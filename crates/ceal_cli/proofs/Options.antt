@@ -1,7 +1,9 @@
 -- The words of the command line: what the parser takes each for, and what they ask for.
+-- what crates above cite
+pub mod OneMode
+-- the rest
 pub mod AskedMode
 pub mod FoundWords
-pub mod OneMode
 pub mod OptionText
 pub mod PlainWords
 pub mod ParseRows
