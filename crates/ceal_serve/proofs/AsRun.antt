@@ -8,7 +8,7 @@ use Rattle.ceal_base.specs.declared.fault.Span.{Span}
 use Rattle.ceal_base.specs.declared.typed.Typed.{Typed}
 use Rattle.ceal_compile.specs.FaultLine.{fault_line, fault_text, line_after, column_after}
 use Rattle.ceal_compile.specs.Source.{Comes}
-use Rattle.ceal_lex.specs.Parts.{IsBeforeLine, IsMarked, IsSplit, HasMark, HasFirstMark, source_of}
+use Rattle.ceal_lex.specs.Parts.{IsBeforeLine, IsMarked, IsSplit, HasMark, HasFirstMark, PartsAre, source_of}
 use Rattle.ceal_lex.specs.Tokens.{span}
 use Rattle.ceal_lex.specs.declared.parts.Split.{Split}
 use Rattle.ceal_session.specs.Replies.{IsReplied}
@@ -16,7 +16,7 @@ use Rattle.ceal_cli.specs.Lines.{script_of, script_lines}
 use Rattle.ceal_cli.specs.Output.{IsAnswer, IsRefusal, first_state}
 use Rattle.ceal_cli.specs.declared.words.Mode.TheVariants.{Run}
 use Rattle.ceal_cli.proofs.Inputs.OneReading.{SplitLaw}
-use Rattle.ceal_cli.proofs.Outputs.ResumedAsContinued.{comes-again, has-mark, source-before}
+use Rattle.ceal_cli.proofs.Inputs.OtherScript.{comes-again}
 use Rattle.ceal_serve.specs.Laws.{ServedLaw, TurnedAwayLaw}
 use Rattle.ceal_serve.specs.Turns.{IsServed, IsTurnedAway}
 use Rattle.ceal_serve.proofs.Marks.{first-of-longer}
@@ -43,7 +43,7 @@ no-length (x ∷ xs) e = absurd (omega (arith, e))
 module _ (law : SplitLaw) (head script : List ℕ) (part : Split) (split : IsSplit head part) (bare : script_of head part ≡ []) (marked : part.marked ≡ true) (complete : IsBeforeLine head)
     (small : length (head ++ script) < 2 ^ 32) where
   k : IsMarked head part
-  k = has-mark head part split marked
+  k = subst (λ b. PartsAre b head part) marked split.parts
 
   none-after : k.after ≡ []
   none-after =
@@ -77,12 +77,15 @@ module _ (law : SplitLaw) (head script : List ℕ) (part : Split) (split : IsSpl
   to-is : part.source.to ≡ length k.before
   to-is = ap (λ (s : Span). s.to) k.source
 
+  -- the source part is what is before the mark
+  source-is : source_of head part ≡ k.before
+  source-is = ap (λ n. take n head) to-is ∙ (ap (take (length k.before)) k.first.mark.whole ∙ take-append_seam k.before (k.first.mark.line ++ k.after))
+
   same-source : source_of head part ≡ source_of (head ++ script) parts
-  unfolding k
   same-source =
       let whole : head ++ script ≡ k.before ++ ((k.first.mark.line ++ k.after) ++ script) =
       ap (λ (l : List ℕ). l ++ script) k.first.mark.whole ∙ append_assoc k.before (k.first.mark.line ++ k.after) script in
-      source-before head part split marked
+      source-is
       ∙ sym (ap (λ n. take n (head ++ script)) to-is ∙ (ap (take (length k.before)) whole ∙ take-append_seam k.before ((k.first.mark.line ++ k.after) ++ script)))
 
   comes-longer : (r : Result Typed Fault) → Comes head r → Comes (head ++ script) r

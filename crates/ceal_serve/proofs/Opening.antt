@@ -65,9 +65,6 @@ module _ (fuel : ℕ) (text rest line : List ℕ) (small : length text < 2 ^ 32)
   fault-begins marked is h out p =
       inr (line, inr (away-at marked is h).1, record { rest = p.rest; same = ap (λ (l : List ℕ). (l ++ out) ++ p.rest) h.unsaid ∙ p.same })
 
-pub source-begins : (fuel : ℕ) (marked : Bool) (text rest : List ℕ) (e : Exchange) → IsHeardSource fuel marked text rest e → IsBeginning e
-source-begins fuel marked text rest e h = inl h.unsaid
-
 -- an accepted source part without more is served
 module _ (fuel : ℕ) (text rest : List ℕ) (e : Exchange) (p : Program) (reads : IsProgram text p.typed) (compiled : IsCompiled p) where
   program-at : (ended : Bool) (script : List ℕ) → IsHead ended text script → Programmed text
@@ -105,9 +102,6 @@ none-of-it r o source fault first = on-err r ((line : List ℕ) × IsFaultLineOf
 
 -- The same of what is known of a conversation whose source part was heard.
 module _ (fuel : ℕ) (marked : Bool) (text rest : List ℕ) (o : Option Exchange) (h : IfSome o (IsHeardSource fuel marked text rest)) where
-  pub source-known : IfSome o IsBeginning
-  source-known = known-same o o (IsHeardSource fuel marked text rest) IsBeginning refl (λ e k. source-begins fuel marked text rest e k) h
-
   module _ (is : SourceIs marked text) (p : Program) (reads : IsProgram text p.typed) (compiled : IsCompiled p) where
     pub done-known : marked ≡ false → IfSome o (IsOver true)
     done-known open-is =
