@@ -1,8 +1,8 @@
 -- what crates above cite
 pub mod Options
-pub mod Outputs
 pub mod Inputs
 -- what only this crate cites
+pub mod Outputs
 pub mod Accepted
 pub mod Sessions
 mod Samples

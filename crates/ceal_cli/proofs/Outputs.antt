@@ -1,7 +1,5 @@
 -- What is written for an input: there is one output, and it is written.
--- what crates above cite
 pub mod ResumedAsContinued
--- what only this crate cites
 pub mod DumpBesideSave
 pub mod DumpExists
 pub mod CutScript
