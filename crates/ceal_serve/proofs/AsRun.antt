@@ -152,7 +152,7 @@ turned-away-as-run law fuel ended text more said small h over within = (tt, inl 
     first = elim h.parts.is_head.complete [
       | inl m ↦ subst (λ (t : List ℕ). Comes t (Err h.fault)) (sym whole)
           (comes-longer law h.parts.head (h.parts.script ++ more) h.parts.is_head.part h.parts.is_head.split
-              h.parts.is_head.bare m.0 m.1 (subst (λ (t : List ℕ). length t < 2 ^ 32) whole small) _ h.first)
+          h.parts.is_head.bare m.0 m.1 (subst (λ (t : List ℕ). length t < 2 ^ 32) whole small) _ h.first)
       | inr e ↦ subst (λ (t : List ℕ). Comes t (Err h.fault)) (sym (whole ∙ (ap (λ (s : List ℕ). h.parts.head ++ s) (ap (λ (s : List ℕ). s ++ more) e.1 ∙ over e.0) ∙ append-nil h.parts.head))) h.first
     ]
 

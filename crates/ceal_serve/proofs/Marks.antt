@@ -211,8 +211,8 @@ module _ (head before : List ℕ) (m : HasMark head before []) (least : (b a : L
       })
   in-front b after q (inr is) =
       absurd (not-last b q.text q.mark (subst IsBeforeLine
-          (q.whole ∙ ap (λ (l : List ℕ). b ++ l) (ap (λ (l : List ℕ). l ++ after) is.0 ∙
-          (ap (λ (l : List ℕ). q.text ++ l) is.1 ∙ append-nil q.text))) m.starts))
+      (q.whole ∙ ap (λ (l : List ℕ). b ++ l) (ap (λ (l : List ℕ). l ++ after) is.0 ∙
+      (ap (λ (l : List ℕ). q.text ++ l) is.1 ∙ append-nil q.text))) m.starts))
 
   none-before : (b a : List ℕ) → HasMark (head ++ script) b a → length before ≤ length b
   none-before b a q = elim (placed before behind b a (subst (λ (t : List ℕ). HasMark t b a) whole-is q) m.starts) [

@@ -129,7 +129,7 @@ module _ (code : Code) (inputs : List Block) (f : ℕ) (args : List Word) (fuel 
     few-made-so : length part.blocks.blocks + length come.so_far.chosen ≤ fuel + now.spent
     few-made-so =
         let room = turns-room code inputs f args (later n since) come.called going_on.names (counted_anew r) last (turns_more n 0) (origin.sound going_on.names going_on.single going_on.apart)
-            (come.so_far.history going_on.names going_on.continues) in
+        (come.so_far.history going_on.names going_on.continues) in
         omega (arith, room, come.so_far.number, come.so_far.stands.spent, part.stands.spent, part.blocks.few)
 
     few-readable : HasFew (fuel + now.spent) now.heap

@@ -141,7 +141,7 @@ module _ (code : Code) (inputs : List Block) (f : ℕ) (args : List Word) (l : T
     few-numbers : (fuel : ℕ) → steps_of last.items ≤ fuel → numbers ≤ 2 * fuel → length (core_numbers (blocks_of l)) ≤ fuel → next run.heap ≤ 2 * fuel
     few-numbers fuel few most blocks =
         let room = turns-room code inputs f args (later n (since_begun code inputs l numbers)) done.come.called new.names (beginning code inputs l 0) last (turns_more n 0)
-            (begins-sound code inputs f args l fits replays new.names new.single new.apart) (done.come.so_far.history new.names new.continues) in
+        (begins-sound code inputs f args l fits replays new.names new.single new.apart) (done.come.so_far.history new.names new.continues) in
         elim done.come.so_far.given.few [
           | inl k ↦ omega (arith, k, most)
           | inr k ↦ omega (arith, k, room, done.come.so_far.number, few-work, few, blocks)

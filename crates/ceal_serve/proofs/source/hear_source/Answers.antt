@@ -7,8 +7,8 @@ pub returns-in_err-end-clause-long : goal.returns-in_err-end-clause-long
 returns-in_err-end-clause-long g c = λ e.
     let h = c.in_err-end.ensures.long (handed-on _ _ _ _ c.from_residual.ensures.1 refl e) in
     source-too-long _ _ _ _ _ _ _ (ap (λ n. 4194304 - n)
-        (c.len-limit.ensures ∙ c.loop-text.text.ok.0)) c.loop-text.invariant.none c.loop-text.invariant.complete h.0
-        h.1 c.loop-text.invariant.listening
+    (c.len-limit.ensures ∙ c.loop-text.text.ok.0)) c.loop-text.invariant.none c.loop-text.invariant.complete h.0
+    h.1 c.loop-text.invariant.listening
 
 pub returns-in_default-clause-heard : goal.returns-in_default-clause-heard
 returns-in_default-clause-heard g c =

@@ -25,25 +25,25 @@ returns-in-Some-line_end-clause-heard g c =
     let e = some-case _ _ _ _ c.in-Some.is c.in_ok-before.ensures.heard in
     (told-line _ _ _ _ _ (hears-more _ _ _ _ _ _ c.loop-self.invariant.so_far e.0) 0 0 0 0 (omega arith) (omega arith) _
     (later-line _ _ _ _ _ _ _ e.0 e.1 c.loop-self.invariant.one
-        (take_rest c.rest-in-loop-self.result.now c.in-Some.before ∙ ap
-        (drop c.in-Some.before) c.rest-in-loop-self.ensures.rest) c.in-Some-line_end.ensures) _
-        c.within.ensures).heard
+    (take_rest c.rest-in-loop-self.result.now c.in-Some.before ∙ ap
+    (drop c.in-Some.before) c.rest-in-loop-self.ensures.rest) c.in-Some-line_end.ensures) _
+    c.within.ensures).heard
 
 pub returns-in-Some-line_end-clause-long : goal.returns-in-Some-line_end-clause-long
 returns-in-Some-line_end-clause-long g c =
     let e = some-case _ _ _ _ c.in-Some.is c.in_ok-before.ensures.heard in
     (told-line _ _ _ _ _ (hears-more _ _ _ _ _ _ c.loop-self.invariant.so_far e.0) 0 0 0 0 (omega arith) (omega arith) _
     (later-line _ _ _ _ _ _ _ e.0 e.1 c.loop-self.invariant.one
-        (take_rest c.rest-in-loop-self.result.now c.in-Some.before ∙ ap
-        (drop c.in-Some.before) c.rest-in-loop-self.ensures.rest) c.in-Some-line_end.ensures) _ c.within.ensures).long
+    (take_rest c.rest-in-loop-self.result.now c.in-Some.before ∙ ap
+    (drop c.in-Some.before) c.rest-in-loop-self.ensures.rest) c.in-Some-line_end.ensures) _ c.within.ensures).long
 
 pub returns-in-Some-line_end-clause-lost : goal.returns-in-Some-line_end-clause-lost
 returns-in-Some-line_end-clause-lost g c =
     let e = some-case _ _ _ _ c.in-Some.is c.in_ok-before.ensures.heard in
     (told-line _ _ _ _ _ (hears-more _ _ _ _ _ _ c.loop-self.invariant.so_far e.0) 0 0 0 0 (omega arith) (omega arith) _
     (later-line _ _ _ _ _ _ _ e.0 e.1 c.loop-self.invariant.one
-        (take_rest c.rest-in-loop-self.result.now c.in-Some.before ∙ ap
-        (drop c.in-Some.before) c.rest-in-loop-self.ensures.rest) c.in-Some-line_end.ensures) _ c.within.ensures).lost
+    (take_rest c.rest-in-loop-self.result.now c.in-Some.before ∙ ap
+    (drop c.in-Some.before) c.rest-in-loop-self.ensures.rest) c.in-Some-line_end.ensures) _ c.within.ensures).lost
 
 pub loop-self-preserved : goal.loop-self-preserved
 loop-self-preserved g c =
