@@ -136,6 +136,7 @@ module _ (order : Listing) (t t' : Table) (s steps : ℕ) (value : Word)
     rows = let rows = sound.has_nodes.rows in let long = set.long in omega arith;
     count = set.count ∙ sound.has_nodes.count;
     held = λ u found. set.held u ∙ sound.has_nodes.held u found;
+    free = λ u absent. set.held u ∙ sound.has_nodes.free u absent;
     low = λ u found. let low = sound.has_nodes.low u found in let same = set.steps u in omega arith;
   }
 
@@ -193,6 +194,7 @@ module _ (order : Listing) (t t' : Table) (s n steps was_on now_on : ℕ)
     rows = let rows = sound.has_nodes.rows in let long = set.long in omega arith;
     count = set.count ∙ sound.has_nodes.count;
     held = λ u found. set.held u ∙ sound.has_nodes.held u found;
+    free = λ u absent. set.held u ∙ sound.has_nodes.free u absent;
     low = λ u found. elim (eqb_tells u s) [
       | inl p ↦ let same : steps_of t' u ≡ n = ap (λ (k : ℕ). steps_of t' k) p.1 ∙ set.changed in omega arith
       | inr p ↦ let low = sound.has_nodes.low u found in let same = set.others u p.1 in omega arith
@@ -261,6 +263,7 @@ widened order order' t t' steps sound stamps whole wider rows =
       rows = subst (λ (l : List ℕ). length l + order'.spare ≤ length t'.rows) (sym stamps) rows;
       count = wider.count ∙ (sound.has_nodes.count ∙ ap (λ (l : List ℕ). length l) (sym stamps));
       held = λ u found. let was = was_in u found in ap (λ (r : Row). r.held) (row u was) ∙ sound.has_nodes.held u was;
+      free = λ u absent. ap (λ (r : Row). r.held) (wider.rows u) ∙ sound.has_nodes.free u (ap (λ (l : List ℕ). is_in u l) (sym stamps) ∙ absent);
       low = λ u found. let was = was_in u found in subst (λ (r : Row). r.steps < 2 ^ 32) (sym (row u was)) (sound.has_nodes.low u was);
     } in
     let knows : KnowsEnds t' es = record {

@@ -165,6 +165,7 @@ module _ (order order' : Listing) (t t' : Table) (s f steps : ℕ) (node : Node)
       rows = let rows = has.rows in let long = set.long in omega arith;
       count = set.count ∙ has.count;
       held = λ u there. set.held u ∙ has.held u there;
+      free = λ u absent. set.held u ∙ has.free u absent;
       low = λ u there. let low = has.low u there in let same = set.steps u in omega arith;
     }
 

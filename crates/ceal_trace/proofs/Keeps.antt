@@ -1,5 +1,6 @@
 -- A table keeps a trace while nodes are put into it and taken out.
-use Rattle.std.proofs.Common.{◌≡◌, ◌≢◌, ℕ, suc, inl, inr, ◌+◌, ◌<◌, true, List, length, refl, sym, ap, ◌∙◌, arith, Some}
+use Rattle.std.proofs.Common.{◌≡◌, ◌≢◌, ℕ, suc, inl, inr, ◌+◌, ◌<◌, true, false, List, length, refl, sym, ap, ◌∙◌, arith, Some}
+use Rattle.std.proofs.lemmas.Bool.{cases_Bool}
 use Rattle.std.proofs.lemmas.Bool.Decides.{eqb_tells}
 use Rattle.ceal_order.specs.Stamps.{Listing, IsOrder, OneMore, is_in, with_after}
 use Rattle.ceal_trace.specs.declared.node.Node.{Node}
@@ -55,13 +56,6 @@ new_row order order' t s f has here stamps spare below =
     let rows = has.rows in
     omega arith
 
--- there are fewer nodes than rows, where a new one comes
-pub new_count : (order order' : Listing) (t : Table) → HasNodes order t → order'.spare + 1 ≡ order.spare → t.count < length t.rows
-new_count order order' t has spare =
-    let rows = has.rows in
-    let count = has.count in
-    omega arith
-
 -- ---- a node more
 
 module _ (order order' : Listing) (t t' : Table) (s f : ℕ) (node : Node)
@@ -91,6 +85,16 @@ module _ (order order' : Listing) (t t' : Table) (s f : ℕ) (node : Node)
   longer : length order'.stamps ≡ suc (length order.stamps)
   longer = ap (λ (l : List ℕ). length l) stamps ∙ length-after s f order.stamps here
 
+  -- what is not in the order now was not in it, and is not the new one
+  free_put : (u : ℕ) → is_in u order'.stamps ≡ false → held_at t' u ≡ false
+  free_put u not = elim (eqb_tells u f) [
+    | inl p ↦ absurd (let there = one.there in let none : is_in f order'.stamps ≡ false = ap (λ (k : ℕ). is_in k order'.stamps) (sym p.1) ∙ not in cc)
+    | inr p ↦ elim (cases_Bool (is_in u order.stamps)) [
+      | inl found ↦ absurd (let there = one.others u found in cc)
+      | inr absent ↦ ap (λ (r : Row). r.held) (put.rows u p.1) ∙ has.free u absent
+    ]
+  ]
+
   pub has_put : HasNodes order' t'
   has_put = record {
     rows = let long = put.long in let rows = has.rows in omega (arith, longer, spare, long, rows);
@@ -99,6 +103,7 @@ module _ (order order' : Listing) (t t' : Table) (s f : ℕ) (node : Node)
       | inl p ↦ ap (λ (k : ℕ). held_at t' k) p.1 ∙ put.held
       | inr p ↦ let old = one.only u found p.1 in ap (λ (r : Row). r.held) (row_put u old) ∙ has.held u old
     ];
+    free = free_put;
     low = λ u found. elim (eqb_tells u f) [
       | inl p ↦ let none : steps_of t' u ≡ 0 = ap (λ (k : ℕ). steps_of t' k) p.1 ∙ put.steps in omega arith
       | inr p ↦

@@ -8,7 +8,7 @@ pub mod Samples
 pub mod Listings
 pub mod Shapes
 pub mod Keeps
-pub mod Shelving
+pub mod Halving
 pub mod Tabling
 pub mod Growing
 pub mod Removing

@@ -1,11 +1,11 @@
 -- A trace with one node less.
 use Rattle.std.proofs.Common.{◌≡◌, ◌≢◌, ℕ, suc, inl, inr, ◌+◌, ◌-◌, ◌<◌, ◌≤◌, true, false, List, length, refl, sym, ap, subst, ◌∙◌, arith, Option, Some, None}
-use Rattle.std.proofs.lemmas.Bool.{cases_Bool}
+use Rattle.std.proofs.lemmas.Bool.{cases_Bool, cases_eq}
 use Rattle.ceal_order.specs.Stamps.{Listing, IsOrder, OneMore, is_in, head_of, without}
 use Rattle.ceal_trace.specs.declared.node.Node.{Node}
 use Rattle.ceal_trace.specs.Nodes.{Entry, stamps_in, held_by, steps_on, node_at, steps_at, steps_sum, ends, end_in, without_entry, IsTrace, NoLooseEnd, LooseEndOf, OneMoreNode}
 use Rattle.ceal_trace.specs.Rows.{Table}
-use Rattle.ceal_trace.specs.Keeping.{steps_of, node_of, entry_of, listed, timeline, noted, HasNodes, KnowsEnds, Sound, TakenFrom}
+use Rattle.ceal_trace.specs.Keeping.{held_at, steps_of, node_of, entry_of, listed, timeline, noted, HasNodes, KnowsEnds, Sound, TakenFrom}
 use Rattle.ceal_trace.proofs.Stamped.{apart, length-without}
 use Rattle.ceal_trace.proofs.Entries.{ends_is, stamps-without, sum-without}
 use Rattle.ceal_trace.proofs.Listings.{listed_without}
@@ -82,11 +82,22 @@ module _ (order order' : Listing) (t t' : Table) (s steps : ℕ) (node : Node)
   was_there : (u : ℕ) → is_in u order'.stamps ≡ true → (is_in u order.stamps ≡ true) × (u ≢ s)
   was_there u found = (one.others u found, apart u s order'.stamps found one.absent)
 
+  -- what is not there now was not there, but for the node that was taken out
+  still_absent : (u : ℕ) → u ≢ s → is_in u order'.stamps ≡ false → is_in u order.stamps ≡ false
+  still_absent u differs not = elim (cases_Bool (is_in u order.stamps)) [
+    | inl found ↦ absurd (let left = one.only u found differs in cc)
+    | inr absent ↦ absent
+  ]
+
   has : HasNodes order' t'
   has = record {
     rows = let rows = sound.has_nodes.rows in let long = taken.long in omega (arith, shorter, spare);
     count = let less = taken.count in let count = sound.has_nodes.count in omega (arith, shorter);
     held = λ u found. taken.held u (was_there u found).1 ∙ sound.has_nodes.held u (was_there u found).0;
+    free = λ u not. elim (cases_eq u s) [
+      | inl same ↦ ap (λ (k : ℕ). held_at t' k) same ∙ taken.gone
+      | inr differs ↦ taken.held u differs ∙ sound.has_nodes.free u (still_absent u differs not)
+    ];
     low = λ u found. let low = sound.has_nodes.low u (was_there u found).0 in let same = taken.steps u in omega arith;
   }
 

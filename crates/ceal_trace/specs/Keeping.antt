@@ -36,11 +36,12 @@ timeline order t = record { nodes = listed (entry_of t) order.stamps; spare = or
 abbrev pub noted : ℕ → Option ℕ
 noted s = if s == no_stamp then None else Some s
 
--- the table has a row for each stamp, with a node, and for each spare one
+-- the table has a row for each stamp, with a node, and for each spare one; no other row has a node
 pub record HasNodes (order : Listing) (t : Table) : Type 0 where
   pub rows : length order.stamps + order.spare ≤ length t.rows
   pub count : t.count ≡ length order.stamps
   pub held : (s : ℕ) → is_in s order.stamps ≡ true → held_at t s ≡ true
+  pub free : (s : ℕ) → is_in s order.stamps ≡ false → held_at t s ≡ false
   pub low : (s : ℕ) → is_in s order.stamps ≡ true → steps_of t s < 2 ^ 32
 
 -- the table knows the end of each read
@@ -69,6 +70,7 @@ pub record PutAt (s : ℕ) (node : Node) (old new : Table) : Type 0 where
 -- the node at a stamp was taken out, and the read that it ends is not finished any more
 pub record TakenFrom (s : ℕ) (node : Node) (old new : Table) : Type 0 where
   pub was : node_of old s ≡ node
+  pub gone : held_at new s ≡ false
   pub others : (u : ℕ) → u ≢ s → node_of new u ≡ node_of old u
   pub held : (u : ℕ) → u ≢ s → held_at new u ≡ held_at old u
   pub steps : (u : ℕ) → steps_of new u ≡ steps_of old u

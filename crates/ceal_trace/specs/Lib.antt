@@ -2,6 +2,6 @@
 pub mod Nodes
 pub mod Items
 pub mod Rows
-pub mod Shelves
+pub mod Halves
 pub mod Slots
 pub mod Keeping

@@ -2,7 +2,7 @@
 
 ghost use Rattle.std.specs.Prelude.{◌≡◌, Some, IsSome};
 ghost use Rattle.ceal_trace.specs.Nodes.{seen, ended_by};
-ghost use Rattle.ceal_trace.specs.Shelves.{whole, or_root, Joined, held_valued};
+ghost use Rattle.ceal_trace.specs.Halves.{whole, or_root, Joined, held_valued};
 
 use crate::node::{Node, Seen};
 use ceal_base::forest::{Key, UnitId};
@@ -12,8 +12,10 @@ use ceal_order::stamp::Stamp;
 use slab::Slab;
 
 /// A node but for its key or its closure, the second part, which has a key in a slab of its own.
-#[derive(Drop)]
+#[derive(Clone, Copy)]
 pub enum Held {
+    /// no node
+    Nothing,
     Root,
     Alloc { block: BlockId, apart: usize },
     Write { place: Place, value: Word },
@@ -39,6 +41,7 @@ pub fn join(apart: &mut Slab<Apart>, held: Held) -> Node
     ensures { Joined apart.old apart.new held result }
 {
     match held {
+        Held::Nothing => unreachable!(),
         Held::Root => Node::Root,
         Held::Alloc { block, apart: at } => match apart.remove(at) {
             Apart::Key(key) => Node::Alloc { block, key },
@@ -72,6 +75,7 @@ pub fn release(apart: &mut Slab<Apart>, held: Held) -> Option<Stamp>
     ensures ended { result ≡ ended_by (or_root (whole apart.old held)) }
 {
     match held {
+        Held::Nothing => unreachable!(),
         Held::Root => None,
         Held::Alloc { apart: at, .. } => {
             drop(apart.remove(at));
@@ -88,11 +92,12 @@ pub fn release(apart: &mut Slab<Apart>, held: Held) -> Option<Stamp>
 
 /// A node as it stands.
 #[inline]
-pub fn look<'a>(apart: &'a Slab<Apart>, held: &'a Held) -> Seen<'a>
+pub fn look<'a>(apart: &'a Slab<Apart>, held: &Held) -> Seen<'a>
     requires { IsSome (whole apart.now held.now) }
     ensures { whole apart.now held.now ≡ Some (seen result) }
 {
     match held {
+        Held::Nothing => unreachable!(),
         Held::Root => Seen::Root,
         Held::Alloc { block, apart: at } => match &apart[*at] {
             Apart::Key(key) => Seen::Alloc { block: *block, key },
@@ -121,11 +126,16 @@ pub fn look<'a>(apart: &'a Slab<Apart>, held: &'a Held) -> Seen<'a>
     }
 }
 
-/// Gives a read another value.
-pub fn give_value(held: &mut Held, value: Word)
-    ensures { held.new ≡ held_valued value held.old }
+/// A read with another value.
+pub fn with_value(held: Held, value: Word) -> Held
+    ensures { result ≡ held_valued value held }
 {
-    if let Held::Read { value: kept, .. } = held {
-        *kept = value;
+    match held {
+        Held::Read { apart, .. } => Held::Read { value, apart },
+        Held::Nothing => held,
+        Held::Root => held,
+        Held::Alloc { .. } => held,
+        Held::Write { .. } => held,
+        Held::End { .. } => held,
     }
 }

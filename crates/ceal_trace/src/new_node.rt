@@ -3,7 +3,7 @@
 ghost use Rattle.std.specs.Prelude.{◌≡◌};
 ghost use Rattle.ceal_trace.specs.declared.node.Node.{Node};
 ghost use Rattle.ceal_trace.specs.declared.node.Node.TheVariants as node;
-ghost use Rattle.ceal_trace.specs.Shelves.{Split};
+ghost use Rattle.ceal_trace.specs.Halves.{Split};
 ghost use Rattle.slab.specs.Slab.{HasRoomFor};
 
 use crate::held::{Apart, Held};

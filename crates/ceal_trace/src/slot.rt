@@ -1,53 +1,64 @@
-// What a table keeps of a stamp itself.
+// What a table keeps of a stamp.
 
 ghost use Rattle.std.specs.Prelude.{◌≡◌, ◌<◌, ◌≤◌, length, max, OnOk};
-ghost use Rattle.ceal_trace.specs.Slots.{slot_of, SlotSet, KeyTaken, StepsPut, EndPut, Longer};
+ghost use Rattle.ceal_trace.specs.Halves.{held_valued};
+ghost use Rattle.ceal_trace.specs.Slots.{slot_of, SlotSet, HeldTaken, ValuePut, StepsPut, EndPut, Longer};
 
-use crate::shelf::NO_KEY;
+use crate::held::{Held, with_value};
 use ceal_base::no_memory::NoMemory;
+use ceal_base::word::Word;
 use ceal_order::room::make_room;
 
 /// Stands for no stamp: no order has a stamp of this number.
 pub const NO_STAMP: u32 = u32::MAX;
 
-/// The key of a stamp's node, its steps, and the stamp of its end where it is a finished read. A number that is no stamp has
-/// no key.
+/// The small part of a stamp's node, its steps, and the stamp of its end where it is a finished read. A number that is no
+/// stamp has no node.
 #[derive(Clone, Copy)]
 pub struct Slot {
-    pub key: usize,
+    pub held: Held,
     pub steps: u32,
     pub end: u32,
 }
 
-pub fn slot_at(slots: &[Slot], at: u32) -> Slot
+pub fn slot_at(slots: &[Slot], at: u32) -> &Slot
     requires { at < length slots.now }
-    ensures { result ≡ slot_of slots.now at }
+    ensures { result.now ≡ slot_of slots.now at }
 {
-    slots[at as usize]
+    &slots[at as usize]
 }
 
-/// Gives a stamp a key, without steps.
-pub fn put_key(slots: &mut Vec<Slot>, at: u32, key: usize)
+/// Gives a stamp a node, without steps.
+pub fn put_held(slots: &mut Vec<Slot>, at: u32, held: Held)
     requires { at < length slots.old.items }
     ensures { SlotSet slots.old.items slots.new.items at
-        (record { key = key; steps = 0; end = 4294967295 }) }
+        (record { held = held; steps = 0; end = 4294967295 }) }
 {
     slots[at as usize] = Slot {
-        key,
+        held,
         steps: 0,
         end: NO_STAMP,
     };
 }
 
-/// Takes the key of a stamp, which has none then.
-pub fn take_key(slots: &mut Vec<Slot>, at: u32) -> Slot
+/// Takes the node of a stamp, which has none then.
+pub fn take_held(slots: &mut Vec<Slot>, at: u32) -> Slot
     requires { at < length slots.old.items }
-    ensures { KeyTaken slots.old.items slots.new.items at result }
+    ensures { HeldTaken slots.old.items slots.new.items at result }
 {
     let slot = &mut slots[at as usize];
     let was = *slot;
-    slot.key = NO_KEY;
+    slot.held = Held::Nothing;
     was
+}
+
+/// Gives the read of a stamp another value.
+pub fn set_value(slots: &mut Vec<Slot>, at: u32, value: Word)
+    requires { at < length slots.old.items }
+    ensures { ValuePut slots.old.items slots.new.items at value }
+{
+    let slot = &mut slots[at as usize];
+    slot.held = with_value(slot.held, value);
 }
 
 pub fn set_steps(slots: &mut Vec<Slot>, at: u32, steps: u32)
@@ -77,7 +88,7 @@ pub fn lengthen(slots: &mut Vec<Slot>, count: usize) -> Result<(), NoMemory>
     make_room(slots, more)?;
     for added in 0..more {
         slots.push_reserved(Slot {
-            key: NO_KEY,
+            held: Held::Nothing,
             steps: 0,
             end: NO_STAMP,
         });

@@ -1,27 +1,33 @@
 // The nodes of a trace by the numbers of their stamps.
 
-ghost use Rattle.std.specs.Prelude.{◌≡◌, ◌<◌, ◌≤◌, ◌+◌, ℕ, length, [], Some, None, IfSome, IfNone, OnOk, IsTrue, true};
+ghost use Rattle.std.specs.Prelude.{◌≡◌, ◌<◌, ◌≤◌, ◌+◌, ℕ, length, [], Some, None, IfSome, IfNone, OnOk, IsTrue, true, false};
+ghost use Rattle.slab.specs.Slab.{slab_len};
 ghost use Rattle.ceal_trace.specs.declared.node.Node.{Node as NodeOf};
 ghost use Rattle.ceal_trace.specs.Nodes.{ends, ended_by, seen};
 ghost use Rattle.ceal_trace.specs.Slots.{Reopened};
 ghost use Rattle.ceal_trace.specs.Keeping.{node_of, steps_of, end_of, noted, held_at, PutAt, TakenFrom, Wider, ValueSet, StepsSet, EndSet};
 
+use crate::held::{Apart, join, look, release};
 use crate::new_node::NewNode;
 use crate::node::{Gone, Node, Seen};
-use crate::shelf::Shelf;
-use crate::slot::{NO_STAMP, Slot, lengthen, put_key, set_end, set_steps, slot_at, take_key};
+use crate::slot::{
+    NO_STAMP, Slot, lengthen, put_held, set_end, set_steps, set_value, slot_at, take_held,
+};
 use ceal_base::no_memory::NoMemory;
 use ceal_base::word::Word;
+use ceal_order::room::ample;
 use ceal_order::stamp::Stamp;
+use slab::Slab;
 use std::alloc::Global;
 use std::marker::Model;
 
-/// A slot for each stamp and each spare place of the order, by its number, and a few more; and the nodes. Contracts see a
-/// row for each slot, with the node in it.
+/// A slot for each stamp and each spare place of the order, by its number, and a few more: with the small part of the node
+/// there; and the second parts in a slab. Contracts see a row for each slot, with the node in it, and how many nodes there are.
 #[derive(Drop)]
 pub struct Table {
     slots: Vec<Slot>,
-    shelf: Shelf,
+    apart: Slab<Apart>,
+    nodes: usize,
 }
 
 impl Model for Table {
@@ -30,9 +36,9 @@ impl Model for Table {
 
     ghost Value = { Table };
 
-    ghost view = { λ a. table a.slots.items a.shelf };
+    ghost view = { λ a. table a.slots.items a.apart a.nodes };
 
-    ghost invariant = { λ a. IsTable a.slots.items a.shelf };
+    ghost invariant = { λ a. IsTable a.slots.items a.apart a.nodes };
 }
 
 impl Table {
@@ -42,7 +48,8 @@ impl Table {
     {
         Table {
             slots: Vec::new(alloc),
-            shelf: Shelf::new(alloc),
+            apart: Slab::new(alloc),
+            nodes: 0,
         }
     }
 
@@ -50,7 +57,7 @@ impl Table {
     fn has_room(&self, more: u32) -> bool
         ensures { IsTrue result → self.now.count + more ≤ length self.now.rows }
     {
-        more as usize <= self.slots.len() - self.shelf.len()
+        more as usize <= self.slots.len() - self.nodes
     }
 
     /// Makes room for that many more nodes.
@@ -61,11 +68,11 @@ impl Table {
         if self.has_room(more) {
             return Ok(());
         }
-        let count = match self.shelf.len().checked_add(more as usize) {
+        let count = match self.nodes.checked_add(more as usize) {
             Some(count) => count,
             None => return Err(NoMemory),
         };
-        self.shelf.reserve(count)?;
+        make_apart(&mut self.apart, self.nodes, count)?;
         lengthen(&mut self.slots, count)
     }
 
@@ -73,11 +80,12 @@ impl Table {
     #[inline]
     pub fn put<N: NewNode>(&mut self, at: Stamp, node: N)
         requires row { at.0 < length self.old.rows }
-        requires few { self.old.count < length self.old.rows }
+        requires free { held_at self.old at.0 ≡ false }
         ensures { PutAt at.0 (N.node node) self.old self.new }
     {
-        let key = self.shelf.put(node);
-        put_key(&mut self.slots, at.0, key);
+        let held = node.split(&mut self.apart);
+        put_held(&mut self.slots, at.0, held);
+        self.nodes += 1;
     }
 
     /// Takes the node at a stamp out.
@@ -88,9 +96,10 @@ impl Table {
         ensures node { TakenFrom at.0 result.node self.old self.new }
         ensures steps { result.steps ≡ steps_of self.old at.0 }
     {
-        let slot = take_key(&mut self.slots, at.0);
-        let node = self.shelf.take(slot.key);
+        let slot = take_held(&mut self.slots, at.0);
+        let node = join(&mut self.apart, slot.held);
         reopen(&mut self.slots, ended_by(&node));
+        self.nodes -= 1;
         Gone {
             node,
             steps: slot.steps,
@@ -105,9 +114,10 @@ impl Table {
         ensures node { TakenFrom at.0 (node_of self.old at.0) self.old self.new }
         ensures steps { result ≡ steps_of self.old at.0 }
     {
-        let slot = take_key(&mut self.slots, at.0);
-        let ended = self.shelf.release(slot.key);
+        let slot = take_held(&mut self.slots, at.0);
+        let ended = release(&mut self.apart, slot.held);
         reopen(&mut self.slots, ended);
+        self.nodes -= 1;
         slot.steps
     }
 
@@ -117,7 +127,7 @@ impl Table {
         ensures { seen result ≡ node_of self.now at.0 }
     {
         let slot = slot_at(&self.slots, at.0);
-        self.shelf.node(slot.key)
+        look(&self.apart, &slot.held)
     }
 
     /// Gives a read another value.
@@ -125,8 +135,7 @@ impl Table {
         requires { IsTrue (held_at self.old read.0) }
         ensures { ValueSet read.0 value self.old self.new }
     {
-        let slot = slot_at(&self.slots, read.0);
-        self.shelf.set_value(slot.key, value);
+        set_value(&mut self.slots, read.0, value);
     }
 
     pub fn steps(&self, at: Stamp) -> u32
@@ -163,6 +172,20 @@ impl Table {
     {
         set_end(&mut self.slots, read.0, end.0);
     }
+}
+
+// Makes room for that many second parts in all, where there are that many nodes.
+fn make_apart(apart: &mut Slab<Apart>, nodes: usize, count: usize) -> Result<(), NoMemory>
+    ensures same { apart.new ≡ record apart.old { capacity = apart.new.capacity } }
+    ensures raises { apart.old.capacity ≤ apart.new.capacity }
+    ensures room { OnOk result (count ≤ apart.new.capacity) }
+{
+    if count <= apart.capacity() {
+        return Ok(());
+    }
+    let more = count.saturating_sub(apart.len());
+    apart.reserve(ample(nodes, more))?;
+    Ok(())
 }
 
 // The read that a node ends.

@@ -1,6 +1,9 @@
 use Rattle.std.proofs.Common.{refl}
-use Rattle.ceal_trace.proofs.Tabling.{end_set}
+use Rattle.ceal_trace.proofs.Tabling.{slot_table, end_set}
 use Rattle.ceal_trace.proofs.table.Table.set_end.Goals as goal
 
+pub invariant_of-self : goal.invariant_of-self
+invariant_of-self c = slot_table _ _ c.self.inside.apart c.self.inside.nodes _ _ c.self.invariant c.set_end.ensures refl
+
 pub returns : goal.returns
-returns c = rw (← c.self.view_is) (end_set _ _ c.self.inside.shelf _ _ c.self.invariant c.set_end.ensures refl refl)
+returns c = rw (← c.self.view_is) (end_set _ _ c.self.inside.apart c.self.inside.nodes _ _ c.self.invariant c.set_end.ensures refl refl)

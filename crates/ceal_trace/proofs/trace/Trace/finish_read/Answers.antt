@@ -1,6 +1,6 @@
 use Rattle.std.proofs.Common.{refl, arith, ◌<◌, length}
 use Rattle.ceal_trace.proofs.Entries.{has-read}
-use Rattle.ceal_trace.proofs.Keeps.{there_is, new_row, new_count, row_bound}
+use Rattle.ceal_trace.proofs.Keeps.{there_is, new_row, row_bound}
 use Rattle.ceal_trace.proofs.Growing.{end_grew, end_is_found, end_others_are}
 use Rattle.ceal_trace.proofs.trace.Trace.finish_read.Goals as goal
 
@@ -13,8 +13,8 @@ put-requires-clause-row c =
     let e = c.insert_after-end.ensures in
     new_row _ _ _ _ _ c.self.invariant.has_nodes here e.stamps e.spare e.below
 
-pub put-requires-clause-few : goal.put-requires-clause-few
-put-requires-clause-few c = new_count c.self.inside.order c.insert_after-end.new.self c.self.inside.table c.self.invariant.has_nodes c.insert_after-end.ensures.spare
+pub put-requires-clause-free : goal.put-requires-clause-free
+put-requires-clause-free c = c.self.invariant.has_nodes.free c.insert_after-end.result.0 c.insert_after-end.ensures.new
 
 pub set_end-requires : goal.set_end-requires
 set_end-requires c =

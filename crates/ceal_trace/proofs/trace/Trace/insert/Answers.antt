@@ -1,4 +1,4 @@
-use Rattle.ceal_trace.proofs.Keeps.{there_is, new_row, new_count}
+use Rattle.ceal_trace.proofs.Keeps.{there_is, new_row}
 use Rattle.ceal_trace.proofs.Growing.{plain_grew, plain_ends_are, plain_is_open}
 use Rattle.ceal_trace.proofs.trace.Trace.insert.Goals as goal
 
@@ -11,8 +11,8 @@ put-requires-clause-row g c =
     let e = c.insert_after-new.ensures in
     new_row _ _ _ _ _ c.self.invariant.has_nodes here e.stamps e.spare e.below
 
-pub put-requires-clause-few : goal.put-requires-clause-few
-put-requires-clause-few g c = new_count c.self.inside.order c.insert_after-new.new.self c.self.inside.table c.self.invariant.has_nodes c.insert_after-new.ensures.spare
+pub put-requires-clause-free : goal.put-requires-clause-free
+put-requires-clause-free g c = c.self.invariant.has_nodes.free c.insert_after-new.result.0 c.insert_after-new.ensures.new
 
 pub invariant_of-self : goal.invariant_of-self
 invariant_of-self g c =
