@@ -132,55 +132,57 @@ impl Memo {
         self.table.remove(order, stamp);
     }
 
-    /// The earliest read with a key after one stamp and before another.
+    /// The earliest read with a key after one stamp and before another. The key was worked out before, for this memo or one
+    /// of the same seed.
     pub fn first_read<K: Keys>(
         &self,
         order: &Order,
-        keys: &K,
-        key: &ReadKey<'_>,
+        sought: &SoughtRead<'_, K>,
+        hashed: Hashed,
         after: Stamp,
         until: Stamp,
     ) -> Option<Stamp>
         requires after { IsTrue (is_in after.0 order.now.stamps) }
         requires until { IsTrue (is_in until.0 order.now.stamps) }
         requires follows { Follows order.now.stamps self.now }
-        requires keys { Holds self.now (K.entries keys.now) }
-        ensures first { IfSome result (λ s. IsFirstWith
-            order.now.stamps (K.entries keys.now) (OfRead key.now) after.0 s.0) }
+        requires keys { Holds self.now (K.entries sought.now.keys.now) }
+        requires hashed { IsOf self.now (OfRead sought.now.key.now) hashed }
+        ensures first { IfSome result (λ s. IsFirstWith order.now.stamps
+            (K.entries sought.now.keys.now) (OfRead sought.now.key.now) after.0 s.0) }
         ensures before { IfSome result
             (λ s. place s.0 order.now.stamps < place until.0 order.now.stamps) }
         ensures here { IfSome result (λ s. IsTrue (is_in s.0 order.now.stamps)) }
-        ensures none { IfNone result (NoneWith
-            order.now.stamps (K.entries keys.now) (OfRead key.now) after.0 until.0) }
+        ensures none { IfNone result (NoneWith order.now.stamps
+            (K.entries sought.now.keys.now) (OfRead sought.now.key.now) after.0 until.0) }
     {
-        let hash = hash_of_read(self.seed.words(), key);
-        let sought = SoughtRead { keys, key };
-        self.table.first_between(order, hash, &sought, after, until)
+        self.table
+            .first_between(order, hashed.hash, sought, after, until)
     }
 
-    /// The earliest allocation with a key after one stamp and before another.
+    /// The earliest allocation with a key after one stamp and before another. The key was worked out before, for this memo or
+    /// one of the same seed.
     pub fn first_alloc<K: Keys>(
         &self,
         order: &Order,
-        keys: &K,
-        key: &Key,
+        sought: &SoughtAlloc<'_, K>,
+        hashed: Hashed,
         after: Stamp,
         until: Stamp,
     ) -> Option<Stamp>
         requires after { IsTrue (is_in after.0 order.now.stamps) }
         requires until { IsTrue (is_in until.0 order.now.stamps) }
         requires follows { Follows order.now.stamps self.now }
-        requires keys { Holds self.now (K.entries keys.now) }
-        ensures first { IfSome result (λ s. IsFirstWith
-            order.now.stamps (K.entries keys.now) (OfAlloc key.now) after.0 s.0) }
+        requires keys { Holds self.now (K.entries sought.now.keys.now) }
+        requires hashed { IsOf self.now (OfAlloc sought.now.key.now) hashed }
+        ensures first { IfSome result (λ s. IsFirstWith order.now.stamps
+            (K.entries sought.now.keys.now) (OfAlloc sought.now.key.now) after.0 s.0) }
         ensures before { IfSome result
             (λ s. place s.0 order.now.stamps < place until.0 order.now.stamps) }
         ensures here { IfSome result (λ s. IsTrue (is_in s.0 order.now.stamps)) }
-        ensures none { IfNone result (NoneWith
-            order.now.stamps (K.entries keys.now) (OfAlloc key.now) after.0 until.0) }
+        ensures none { IfNone result (NoneWith order.now.stamps
+            (K.entries sought.now.keys.now) (OfAlloc sought.now.key.now) after.0 until.0) }
     {
-        let hash = hash_of_alloc(self.seed.words(), key);
-        let sought = SoughtAlloc { keys, key };
-        self.table.first_between(order, hash, &sought, after, until)
+        self.table
+            .first_between(order, hashed.hash, sought, after, until)
     }
 }

@@ -159,6 +159,7 @@ impl<'a> Repair<'a> {
             (running_of self.old).tables.trace.nodes) }
         ensures mods { (running_of self.new).tables.mods ≡ (running_of self.old).tables.mods }
         ensures queue { (running_of self.new).tables.stale ≡ (running_of self.old).tables.stale }
+        ensures memo { (running_of self.new).tables.memo ≡ (running_of self.old).tables.memo }
         ensures kept { Kept (running_of self.new).tables }
     {
         let running = &mut *self.running;

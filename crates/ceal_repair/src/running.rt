@@ -129,6 +129,7 @@ impl Running {
         ensures kept_bases { IfOk result (λ block. (p : PlaceOf) → (p.block ≡ block → ⊥)
             → base_in self.new.tables.mods p ≡ base_in self.old.tables.mods p) }
         ensures trace { self.new.tables.trace ≡ self.old.tables.trace }
+        ensures memo { self.new.tables.memo ≡ self.old.tables.memo }
         ensures spent { self.new.spent ≡ self.old.spent }
         ensures looked { self.new.tables.mods.looked ≡ self.old.tables.mods.looked }
         ensures differed { NoneDiffers self.old.tables self.new.tables }

@@ -3,6 +3,8 @@
 ghost use Rattle.std.specs.Prelude.{◌≡◌, ◌<◌, ◌≤◌, ◌+◌, ℕ, [], ◌∷◌, Some, None, false, length, IfOk, OnOk, OnErr, IsTrue};
 ghost use Rattle.ceal_base.specs.declared.word.Place.{Place as PlaceOf};
 ghost use Rattle.ceal_code.specs.Replay.{stored};
+ghost use Rattle.ceal_memo.specs.Keys.{OfRead, OfAlloc};
+ghost use Rattle.ceal_memo.specs.Memo.{IsOf};
 ghost use Rattle.ceal_mods.specs.Mods.{cell_of, IsUntouched};
 ghost use Rattle.ceal_order.specs.Stamps.{is_in};
 ghost use Rattle.ceal_repair.specs.Covered.{contents_after};
@@ -18,7 +20,7 @@ use ceal_base::word::{BlockId, Place, Word};
 use ceal_base::words::Words;
 use ceal_memo::key::ReadKey;
 use ceal_memo::laws::follows_still as memo_follows;
-use ceal_memo::memo::Memo;
+use ceal_memo::memo::{Hashed, Memo};
 use ceal_memo::seed::Seed;
 use ceal_mods::laws::follows_still as mods_follow;
 use ceal_mods::mods::Mods;
@@ -96,10 +98,17 @@ impl Tables {
         Ok(())
     }
 
-    /// Puts an allocation directly after a node.
-    pub fn put_alloc(&mut self, after: Stamp, block: BlockId, key: Key) -> Result<Stamp, NoMemory>
+    /// Puts an allocation directly after a node. Its key comes as the memo enters it, too.
+    pub fn put_alloc(
+        &mut self,
+        after: Stamp,
+        block: BlockId,
+        key: Key,
+        hashed: Hashed,
+    ) -> Result<Stamp, NoMemory>
         requires kept { Kept self.old }
         requires here { IsTrue (has_node after.0 self.old.trace.nodes) }
+        requires hashed { IsOf self.old.memo (OfAlloc key) hashed }
         ensures nodes { IfOk result (λ s.
             self.new.trace.nodes
             ≡ with_entry_after after.0 (new_entry s.0 (Alloc block key)) self.old.trace.nodes) }
@@ -116,7 +125,6 @@ impl Tables {
         queue_follows();
         memo_follows();
         self.trace.reserve(1)?;
-        let hashed = self.memo.of_alloc(&key);
         let alloc = self.trace.insert_alloc(after, block, key);
         self.memo.add(self.trace.order(), hashed, alloc)?;
         Ok(alloc)
@@ -172,15 +180,18 @@ impl Tables {
         }
     }
 
-    /// Puts a read directly after a node up to which none is queued, with what its place holds there. It has no end yet.
+    /// Puts a read directly after a node up to which none is queued, with what its place holds there. It has no end yet. Its key
+    /// comes as the memo enters it, too.
     pub fn begin_read(
         &mut self,
         alloc: Global,
         after: Stamp,
         key: &ReadKey<'_>,
+        hashed: Hashed,
     ) -> Result<Begun, NoMemory>
         requires kept { Kept self.old }
         requires here { IsTrue (has_node after.0 self.old.trace.nodes) }
+        requires hashed { IsOf self.old.memo (OfRead key.now) hashed }
         requires late { QueuedBehind after.0 self.old }
         ensures value { IfOk result (λ b.
             b.value ≡ contents_after (base_in self.old.mods)
@@ -214,7 +225,7 @@ impl Tables {
             .trace
             .begin_read(after, place, value, key.unit, key.var, args);
         self.mods.add_read(self.trace.order(), place, read)?;
-        self.memo.add_read(self.trace.order(), key, read)?;
+        self.memo.add(self.trace.order(), hashed, read)?;
         Ok(Begun { read, value })
     }
 

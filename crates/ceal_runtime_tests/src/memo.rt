@@ -9,7 +9,7 @@ use crate::asserts::{equal, holds};
 use crate::orders::order_with_room;
 use ceal_base::forest::Key;
 use ceal_memo::key::ReadKey;
-use ceal_memo::keys::Keys;
+use ceal_memo::keys::{Keys, SoughtAlloc};
 use ceal_memo::laws::has_none;
 use ceal_memo::memo::Memo;
 use ceal_memo::seed::Seed;
@@ -57,13 +57,28 @@ fn adds_two_keys<R: Abort>(rt: &R, order: &mut Order, memo: &mut Memo)
         first: second,
         second: third,
     };
-    let found = memo.first_alloc(order, &keys, &Key::ModInt, first, last);
+    let number = SoughtAlloc {
+        keys: &keys,
+        key: &Key::ModInt,
+    };
+    let hashed = memo.of_alloc(number.key);
+    let found = memo.first_alloc(order, &number, hashed, first, last);
     equal(rt, found, Some(second));
-    let found = memo.first_alloc(order, &keys, &Key::ModPtr(1), first, last);
+    let pointer = SoughtAlloc {
+        keys: &keys,
+        key: &Key::ModPtr(1),
+    };
+    let hashed = memo.of_alloc(pointer.key);
+    let found = memo.first_alloc(order, &pointer, hashed, first, last);
     equal(rt, found, Some(third));
-    let found = memo.first_alloc(order, &keys, &Key::ModPtr(1), first, third);
+    let found = memo.first_alloc(order, &pointer, hashed, first, third);
     equal(rt, found, None);
-    let found = memo.first_alloc(order, &keys, &Key::ModPtr(2), first, last);
+    let other = SoughtAlloc {
+        keys: &keys,
+        key: &Key::ModPtr(2),
+    };
+    let hashed = memo.of_alloc(other.key);
+    let found = memo.first_alloc(order, &other, hashed, first, last);
     equal(rt, found, None);
     memo.remove(order, second);
 }

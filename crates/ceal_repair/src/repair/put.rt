@@ -3,6 +3,8 @@
 ghost use Rattle.std.specs.Prelude.{◌≡◌, ◌∷◌, [], None, OnOk};
 ghost use Rattle.ceal_code.specs.declared.step.Act.TheVariants as does;
 ghost use Rattle.ceal_repair.specs.Moment.{Start};
+ghost use Rattle.ceal_memo.specs.Keys.{OfRead, OfAlloc};
+ghost use Rattle.ceal_memo.specs.Memo.{IsOf};
 ghost use Rattle.ceal_order.specs.Stamps.{head_of};
 ghost use Rattle.ceal_repair.specs.Looks.{Pays};
 ghost use Rattle.ceal_repair.specs.Repairs.{arguments_of, Runs, Acts, ActsMaking, EndsRead, SameCall, left_nodes, running_of};
@@ -19,6 +21,7 @@ use ceal_code::stack::Continuation;
 use ceal_code::step::Reading;
 use ceal_code::waits::Waits;
 use ceal_memo::key::ReadKey;
+use ceal_memo::memo::Hashed;
 use ceal_order::stamp::Stamp;
 
 impl<'a> Repair<'a> {
@@ -57,17 +60,19 @@ impl<'a> Repair<'a> {
         ensures runs { OnOk result
             ((start : Start) → ActsMaking start key var self.old → Runs start self.new) }
     {
-        match self.find_alloc(&key) {
-            None => self.make_new(key, var)?,
+        let hashed = self.running.tables.memo.of_alloc(&key);
+        match self.find_alloc(&key, hashed) {
+            None => self.make_new(key, var, hashed)?,
             Some(found) => self.take_alloc(found, key, var)?,
         }
         Ok(())
     }
 
     /// A new block for the key, which no allocation that is left over has.
-    fn make_new(&mut self, key: Key, var: u32) -> Result<(), NoMemory>
+    fn make_new(&mut self, key: Key, var: u32, hashed: Hashed) -> Result<(), NoMemory>
         requires acts { (start : Start) × ActsMaking start key var self.old }
         requires absent { head_of (stamps_where (allocates key) (left_nodes self.old)) ≡ None }
+        requires hashed { IsOf (running_of self.old).tables.memo (OfAlloc key) hashed }
         ensures call { OnOk result (SameCall self.old self.new) }
         ensures pays { OnOk result (Pays (running_of self.old) (running_of self.new)) }
         ensures runs { OnOk result
@@ -76,18 +81,23 @@ impl<'a> Repair<'a> {
         self.step()?;
         let block = self.running.make(self.alloc, self.code, self.inputs, &key)?;
         let pointer = pointer_to(&key, block);
-        self.cursor = self.running.tables.put_alloc(self.cursor, block, key)?;
+        self.cursor = self
+            .running
+            .tables
+            .put_alloc(self.cursor, block, key, hashed)?;
         self.stack.set(var, pointer)?;
         Ok(())
     }
 
     /// A new read, which no read that is left over is: its unit runs on the content of its place, with what is left over.
-    pub fn begin(&mut self, reading: Reading<'_>) -> Result<(), NoMemory>
+    pub fn begin(&mut self, reading: Reading<'_>, hashed: Hashed) -> Result<(), NoMemory>
         requires acts { (start : Start)
             × Acts start (does.Reads (closure_in reading (arguments_of self.old))) self.old }
         requires absent { head_of (stamps_where
             (recalls (key_in (closure_in reading (arguments_of self.old))))
             (left_nodes self.old)) ≡ None }
+        requires hashed { IsOf (running_of self.old).tables.memo
+            (OfRead (key_in (closure_in reading (arguments_of self.old)))) hashed }
         ensures call { OnOk result (SameCall self.old self.new) }
         ensures pays { OnOk result (Pays (running_of self.old) (running_of self.new)) }
         ensures runs { OnOk result ((start : Start)
@@ -105,7 +115,9 @@ impl<'a> Repair<'a> {
             args,
         };
         let running = &mut *self.running;
-        let begun = running.tables.begin_read(self.alloc, self.cursor, &key)?;
+        let begun = running
+            .tables
+            .begin_read(self.alloc, self.cursor, &key, hashed)?;
         self.cursor = begun.read;
         let below = self.stack.set_aside()?;
         let next = Continuation { unit, var, args };

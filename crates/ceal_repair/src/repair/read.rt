@@ -4,6 +4,8 @@ ghost use Rattle.std.specs.Prelude.{◌≡◌, ◌++◌, ◌∷◌, [], Some, tr
 ghost use Rattle.ceal_base.specs.declared.word.Place.{Place as PlaceOf};
 ghost use Rattle.ceal_code.specs.Step.{Stack as StackOf};
 ghost use Rattle.ceal_code.specs.declared.step.Act.TheVariants as does;
+ghost use Rattle.ceal_memo.specs.Keys.{OfRead};
+ghost use Rattle.ceal_memo.specs.Memo.{IsOf};
 ghost use Rattle.ceal_order.specs.Stamps.{head_of};
 ghost use Rattle.ceal_repair.specs.Moment.{Start};
 ghost use Rattle.ceal_repair.specs.Reads.{closure_in, key_in, Entered, EndsTaken};
@@ -22,6 +24,7 @@ use ceal_code::stack::Continuation;
 use ceal_code::step::Reading;
 use ceal_code::waits::Waits;
 use ceal_memo::key::ReadKey;
+use ceal_memo::memo::Hashed;
 use ceal_order::stamp::Stamp;
 use ceal_trace::trace::Trace;
 
@@ -45,8 +48,9 @@ impl<'a> Repair<'a> {
             → Acts start (does.Reads (closure_in reading.entry (arguments_of self.old))) self.old
             → Runs start self.new) }
     {
-        match self.find_read(reading) {
-            None => self.begin(reading)?,
+        let hashed = self.hashed(reading);
+        match self.find_read(reading, hashed) {
+            None => self.begin(reading, hashed)?,
             Some(found) => {
                 if !self.take_read(found, reading)? {
                     self.pass()?;
@@ -56,9 +60,26 @@ impl<'a> Repair<'a> {
         Ok(())
     }
 
-    /// The earliest read of the closure that is left over.
-    fn find_read(&self, reading: Reading<'_>) -> Option<Stamp>
+    /// The key of a read, as the memo enters it.
+    fn hashed(&self, reading: Reading<'_>) -> Hashed
+        ensures { IsOf (running_of self.now).tables.memo
+            (OfRead (key_in (closure_in reading.entry (arguments_of self.now)))) result }
+    {
+        let args = self.args.as_slice();
+        let key = ReadKey {
+            place: reading.place,
+            unit: reading.unit,
+            var: reading.var,
+            args,
+        };
+        self.running.tables.memo.of_read(&key)
+    }
+
+    /// The earliest read of the closure, as the memo enters it, that is left over.
+    fn find_read(&self, reading: Reading<'_>, hashed: Hashed) -> Option<Stamp>
         requires runs { (start : Start) × (st : StackOf) × RunsAt start st self.now }
+        requires hashed { IsOf (running_of self.now).tables.memo
+            (OfRead (key_in (closure_in reading (arguments_of self.now)))) hashed }
         ensures { option_map (λ s. s.0) result ≡ head_of (stamps_where
             (recalls (key_in (closure_in reading.entry (arguments_of self.now))))
             (left_nodes self.now)) }
@@ -74,7 +95,7 @@ impl<'a> Repair<'a> {
                     var: reading.var,
                     args,
                 };
-                tables.find_read(&key, self.cursor, limit)
+                tables.find_read(&key, hashed, self.cursor, limit)
             }
         }
     }

@@ -2,6 +2,8 @@
 
 ghost use Rattle.std.specs.Prelude.{◌≡◌, Some, OnOk, option_map};
 ghost use Rattle.ceal_code.specs.Step.{Stack as StackOf};
+ghost use Rattle.ceal_memo.specs.Keys.{OfAlloc};
+ghost use Rattle.ceal_memo.specs.Memo.{IsOf};
 ghost use Rattle.ceal_order.specs.Stamps.{head_of};
 ghost use Rattle.ceal_repair.specs.Moment.{Start};
 ghost use Rattle.ceal_repair.specs.Looks.{Pays};
@@ -12,12 +14,14 @@ use super::Repair;
 use ceal_base::forest::Key;
 use ceal_base::no_memory::NoMemory;
 use ceal_code::initialise::pointer_to;
+use ceal_memo::memo::Hashed;
 use ceal_order::stamp::Stamp;
 
 impl<'a> Repair<'a> {
-    /// The earliest allocation with a key that is left over.
-    pub fn find_alloc(&self, key: &Key) -> Option<Stamp>
+    /// The earliest allocation with a key, as the memo enters it, that is left over.
+    pub fn find_alloc(&self, key: &Key, hashed: Hashed) -> Option<Stamp>
         requires runs { (start : Start) × (st : StackOf) × RunsAt start st self.now }
+        requires hashed { IsOf (running_of self.now).tables.memo (OfAlloc key.now) hashed }
         ensures { option_map (λ s. s.0) result
             ≡ head_of (stamps_where (allocates key.now) (left_nodes self.now)) }
     {
@@ -25,7 +29,7 @@ impl<'a> Repair<'a> {
             None => None,
             Some(limit) => {
                 let tables = &self.running.tables;
-                tables.find_alloc(key, self.cursor, limit)
+                tables.find_alloc(key, hashed, self.cursor, limit)
             },
         }
     }

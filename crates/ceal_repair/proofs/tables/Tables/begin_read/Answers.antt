@@ -1,7 +1,7 @@
 use Rattle.std.proofs.Common.{◌≡◌, ◌<◌, ℕ, true, List, refl, sym, ap, subst, ◌∙◌}
 use Rattle.ceal_base.specs.declared.word.Word.{Word}
 use Rattle.ceal_memo.specs.Keys.{ReadKey, OfRead}
-use Rattle.ceal_memo.specs.Memo.{Holds, with_key}
+use Rattle.ceal_memo.specs.Memo.{Contents, Holds, IsOf, with_key}
 use Rattle.ceal_repair.specs.Lists.{entries_in}
 use Rattle.ceal_mods.specs.Mods.{cell_of}
 use Rattle.ceal_trace.specs.Nodes.{Entry, Timeline, stamps_in, has_node, position}
@@ -19,8 +19,8 @@ use Rattle.ceal_repair.proofs.tables.Tables.begin_read.Goals as goal
 pub add_read-requires-clause-absent : goal.add_read-requires-clause-absent
 add_read-requires-clause-absent c = (is-free c.begin_read-read.result.0 c.value_behind-value.new.self c.value_behind-value.ensures.kept.step c.begin_read-read.ensures.inserted.new c.key.inside.place).1
 
-pub add_read-requires-2-clause-absent : goal.add_read-requires-2-clause-absent
-add_read-requires-2-clause-absent c = no-entry c.begin_read-read.result.0 c.value_behind-value.new.self c.value_behind-value.ensures.kept.step c.begin_read-read.ensures.inserted.new
+pub add-requires-clause-absent : goal.add-requires-clause-absent
+add-requires-clause-absent c = no-entry c.begin_read-read.result.0 c.value_behind-value.new.self c.value_behind-value.ensures.kept.step c.begin_read-read.ensures.inserted.new
 
 pub returns-clause-bases : goal.returns-clause-bases
 returns-clause-bases c = λ p.
@@ -49,10 +49,10 @@ returns-clause-kept c =
     read-kept c.value_behind-value.new.self c.value_behind-value.ensures.kept c.args.after.0 s (Read c.key.inside.place c.value_behind-value.result c.key.inside.unit c.key.inside.var c.in_ok-args.args) c.begin_read-read.new.self
     (here c.args.after.0 c.value_behind-value.new.self.trace c.reserve.new.self c.args.self.now.trace.nodes c.value_behind-value.ensures.trace c.reserve.ensures.nodes c.requires.here)
     c.begin_read-read.ensures.nodes c.begin_read-read.ensures.inserted c.begin_read-read.ensures.whole c.begin_read-read.ensures.closed key c.value_behind-value.result refl
-    c.add_read.new.self c.add_read-2.new.self (rw c.order.ensures at c.in_ok-add_read.ensures.ok) (subst (λ (k : ReadKey). Holds c.add_read-2.new.self (with_key s (OfRead k) (entries_in c.value_behind-value.new.self.trace.nodes))) (sym same) (c.in_ok-add_read-2.ensures.ok (entries_in c.value_behind-value.new.self.trace.nodes) c.value_behind-value.ensures.kept.step.keyed.entries))
+    c.add_read.new.self c.add.new.self (rw c.order.ensures at c.in_ok-add_read.ensures.ok) (subst (λ (k : ReadKey). Holds c.add.new.self (with_key s (OfRead k) (entries_in c.value_behind-value.new.self.trace.nodes))) (sym same) (c.in_ok-add.ensures.ok (OfRead c.args.key.now) (entries_in c.value_behind-value.new.self.trace.nodes) (subst (λ (m : Contents). IsOf m (OfRead c.args.key.now) c.args.hashed) (sym c.value_behind-value.ensures.memo) c.requires.hashed) c.value_behind-value.ensures.kept.step.keyed.entries))
     (c.value_behind-value.ensures.value ∙ sym (value-over c.value_behind-value.new.self (tables c.reserve.new.self c.args.self.now.mods c.args.self.now.stale c.args.self.now.memo) c.args.after.0 c.value_behind-value.ensures.trace c.value_behind-value.ensures.cells c.key.inside.place))
     (λ r i. further c.args.after.0 r c.value_behind-value.new.self.trace c.reserve.new.self c.args.self.now.trace.nodes c.value_behind-value.ensures.trace c.reserve.ensures.nodes (c.requires.late r (rw c.value_behind-value.ensures.queue at i)))
-    (rw c.order.ensures at c.add_read.ensures.follows) (rw c.order-2.ensures at c.add_read-2.ensures.follows)
+    (rw c.order.ensures at c.add_read.ensures.follows) (rw c.order-2.ensures at c.add.ensures.follows)
     (c.follows_still-2.ensures.inserted s c.value_behind-value.new.self.stale (stamps_in c.value_behind-value.new.self.trace.nodes) (stamps_in c.begin_read-read.new.self.nodes) c.value_behind-value.ensures.kept.step.stale c.begin_read-read.ensures.inserted.others.stamps)
 
 pub returns-clause-looks : goal.returns-clause-looks

@@ -23,7 +23,7 @@ returns-clause-kept c =
     alloc-kept c.args.self.now c.requires.kept c.args.after.0 s (Alloc c.args.block c.args.key) c.insert_alloc-alloc.new.self c.requires.here
     (rw c.reserve.ensures.nodes at c.insert_alloc-alloc.ensures.nodes) (rw c.reserve.ensures.nodes at c.insert_alloc-alloc.ensures.inserted)
     c.insert_alloc-alloc.ensures.whole c.insert_alloc-alloc.ensures.closed c.args.block c.args.key refl c.add.new.self
-    (c.in_ok-add.ensures.ok (OfAlloc c.args.key) (entries_in c.args.self.now.trace.nodes) c.of_alloc-hashed.ensures c.requires.kept.step.keyed.entries)
+    (c.in_ok-add.ensures.ok (OfAlloc c.args.key) (entries_in c.args.self.now.trace.nodes) c.requires.hashed c.requires.kept.step.keyed.entries)
     (c.follows_still.ensures.inserted s c.args.self.now.mods (stamps_in c.args.self.now.trace.nodes) (stamps_in c.insert_alloc-alloc.new.self.nodes) c.requires.kept.step.mods more.others.stamps)
     (rw c.order.ensures at c.add.ensures.follows)
     (c.follows_still-2.ensures.inserted s c.args.self.now.stale (stamps_in c.args.self.now.trace.nodes) (stamps_in c.insert_alloc-alloc.new.self.nodes) c.requires.kept.step.stale more.others.stamps)
