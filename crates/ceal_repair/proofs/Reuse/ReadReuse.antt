@@ -1,6 +1,5 @@
 -- A read that is left over is taken.
 use Rattle.std.proofs.Common.{◌≡◌, ◌≢◌, ◌⊎◌, ℕ, zero, suc, inl, inr, ◌+◌, ◌<◌, true, false, Some, None, List, [], ◌∷◌, ◌++◌, length, refl, sym, ap, subst, ◌∙◌, append_assoc}
-use Rattle.std.specs.Prelude.{IsSome}
 use Rattle.std.proofs.lemmas.Bool.{cases_Bool, eq-eqb}
 use Rattle.std.proofs.lemmas.Bool.Decides.{eqb_tells}
 use Rattle.ceal_base.specs.Block.{Block}
@@ -9,7 +8,6 @@ use Rattle.ceal_base.specs.declared.forest.Item.{Item}
 use Rattle.ceal_base.specs.declared.forest.Item.TheVariants as item
 use Rattle.ceal_base.specs.declared.forest.Key.{Key}
 use Rattle.ceal_base.specs.declared.forest.UnitId.{UnitId}
-use Rattle.ceal_base.specs.declared.word.BlockId.{BlockId}
 use Rattle.ceal_base.specs.declared.word.BlockId.TheVariants.{Input, Core}
 use Rattle.ceal_base.specs.declared.word.Place.{Place}
 use Rattle.ceal_base.specs.declared.word.Word.{Word}
@@ -20,7 +18,7 @@ use Rattle.ceal_code.specs.Stacks.{waits_in}
 use Rattle.ceal_code.specs.Step.{Stack, Reads, next}
 use Rattle.ceal_code.specs.Value.{Plain}
 use Rattle.ceal_code.specs.declared.waits.Waits.{Waits}
-use Rattle.ceal_heap.specs.Heap.{Contents, block_of}
+use Rattle.ceal_heap.specs.Heap.{Contents}
 use Rattle.ceal_order.specs.Stamps as order
 use Rattle.ceal_order.specs.Stamps.{is_in, head_of, place}
 use Rattle.ceal_order.specs.declared.stamp.Stamp.{Stamp}
@@ -33,7 +31,7 @@ use Rattle.ceal_repair.proofs.Reuse.ReadMatch.{MatchRead, match-read}
 use Rattle.ceal_repair.proofs.Reuse.AllocReuse.{bound-now, words-same, course-bare}
 use Rattle.ceal_repair.specs.Around.{Tails, Passes, Inside}
 use Rattle.ceal_repair.proofs.Runs.FewNumbers.{given-same}
-use Rattle.ceal_repair.specs.Blocks.{HasBlocks, Given, KeepsReadable}
+use Rattle.ceal_repair.specs.Blocks.{HasBlocks, KeepsReadable}
 use Rattle.ceal_repair.specs.Entries.{stamped, entry, closing, entries, CutTo, Lies}
 use Rattle.ceal_repair.specs.Moment.{View, Start, Placed, RunningNow, PassingNow, through, state_at}
 use Rattle.ceal_repair.specs.declared.frame.Frame.TheVariants.{Taken}

@@ -4,7 +4,6 @@ use Rattle.std.specs.Prelude.{option_map}
 use Rattle.std.proofs.lemmas.List.{reverse-append}
 use Rattle.ceal_base.specs.Block.{Block}
 use Rattle.ceal_base.specs.declared.forest.UnitId.{UnitId}
-use Rattle.ceal_base.specs.declared.word.BlockId.{BlockId}
 use Rattle.ceal_base.specs.declared.word.Place.{Place}
 use Rattle.ceal_base.specs.declared.word.Word.{Word}
 use Rattle.ceal_code.specs.Program.{Code}
