@@ -1,6 +1,6 @@
 -- How many contents the calls of an engine look at.
-use Rattle.std.proofs.Common.{◌≡◌, ◌≢◌, ◌⊎◌, inl, inr, ◌≤◌, ◌<◌, ◌+◌, ◌*◌, ℕ, true, Option, Some, None, List, length, refl, sym, ap, ◌∙◌, subst, arith}
-use Rattle.std.specs.Prelude.{◌^◌, ◌-◌, Result, Ok, Err, OnOk}
+use Rattle.std.proofs.Common.{◌≡◌, ◌≢◌, inl, inr, ◌≤◌, ◌+◌, ◌*◌, ℕ, true, Option, Some, None, List, length, refl, sym, ap, ◌∙◌, arith}
+use Rattle.std.specs.Prelude.{Result, Ok, Err, OnOk}
 use Rattle.std.specs.Option.{IsSomeAnd, option_map}
 use Rattle.ceal_base.specs.Block.{Block}
 use Rattle.ceal_base.specs.declared.call.Call.{Call}
@@ -8,11 +8,11 @@ use Rattle.ceal_base.specs.declared.kind.Shape.{Shape}
 use Rattle.ceal_base.specs.declared.typed.StructInfo.{StructInfo}
 use Rattle.ceal_base.specs.declared.word.Place.{Place}
 use Rattle.ceal_base.specs.declared.word.Word.{Word}
-use Rattle.ceal_code.proofs.Words.SameIsEqual.{some-same, none-some}
+use Rattle.ceal_code.proofs.Words.SameIsEqual.{none-some}
 use Rattle.ceal_code.specs.Program.{Code}
 use Rattle.ceal_engine.proofs.Carrying.{opened-none, same-as}
 use Rattle.ceal_engine.specs.Completed.{idle, opened, OfRuns, SetsBase, SetsInput}
-use Rattle.ceal_engine.specs.Engine.{EngineState, IsWhole, edited, has_run, trace}
+use Rattle.ceal_engine.specs.Engine.{EngineState, edited, has_run, trace}
 use Rattle.ceal_engine.specs.Keeping.{state_of}
 use Rattle.ceal_engine.specs.Looks.{due, IsCounted, LooksOfEdit, LooksAtNothing, LooksOfRepair, LooksOfRun, LooksOfEither, Updates, LooksLaw}
 use Rattle.ceal_engine.specs.Partial.{spent_in}

@@ -1,6 +1,5 @@
 -- A repair that goes on where no read is stale, and what it leaves of the nodes at the beginning.
 use Rattle.std.proofs.Common.{◌≡◌, ◌≢◌, ◌⊎◌, inl, inr, ℕ, zero, suc, ◌≤◌, Ok, Option, Some, None, List, refl, sym, ap, ◌∙◌, subst, arith}
-use Rattle.std.specs.Option.{IsSomeAnd}
 use Rattle.ceal_base.specs.Block.{Block}
 use Rattle.ceal_base.specs.Trace.{Trace, trace_of}
 use Rattle.ceal_base.specs.declared.call.Call.{Call}
@@ -13,7 +12,7 @@ use Rattle.ceal_engine.proofs.Present.{part-trace, no-run, part-run, whole-run}
 use Rattle.ceal_engine.proofs.Propagated.{kept-honest}
 use Rattle.ceal_engine.proofs.Repairs.{no-end}
 use Rattle.ceal_engine.specs.Completed.{opened, IsOpenRun, IsStillHonest}
-use Rattle.ceal_engine.specs.Engine.{EngineState, IsWhole, stands_for, trace, fresh_call}
+use Rattle.ceal_engine.specs.Engine.{EngineState, IsWhole, stands_for, fresh_call}
 use Rattle.ceal_engine.specs.Keeping.{Keeps, KeepsRun, forest_in, state_of}
 use Rattle.ceal_engine.specs.Partial.{CarriesFrom, Comes, IsRunAgain}
 use Rattle.ceal_engine.specs.Repaired.{KeepsFront}

@@ -1,5 +1,5 @@
 -- What becomes of the run that an engine keeps.
-use Rattle.std.proofs.Common.{◌≡◌, ℕ, false, Option, Some, None, List, ◌++◌, refl, sym, ap, ◌∙◌, subst}
+use Rattle.std.proofs.Common.{◌≡◌, ℕ, false, Option, Some, None, List, refl, sym, ap, ◌∙◌, subst}
 use Rattle.std.specs.Option.{IsSomeAnd, option_map}
 use Rattle.ceal_base.specs.Block.{Block}
 use Rattle.ceal_base.specs.Trace.{Trace}
@@ -7,20 +7,17 @@ use Rattle.ceal_base.specs.declared.call.Call.{Call}
 use Rattle.ceal_base.specs.declared.word.Word.{Word}
 use Rattle.ceal_code.proofs.Words.SameIsEqual.{some-same, none-some}
 use Rattle.ceal_code.specs.Program.{Code}
-use Rattle.ceal_code.specs.Replay.{IsHonest, bases}
+use Rattle.ceal_code.specs.Replay.{IsHonest}
 use Rattle.ceal_engine.proofs.Present.{trace-kept, whole-kept}
 use Rattle.ceal_engine.proofs.Repairs.{still-repaired}
 use Rattle.ceal_engine.specs.Completed.{trace_in, idle, told, IsStillHonest}
 use Rattle.ceal_engine.specs.Engine.{IsWhole, has_run, stands_for}
 use Rattle.ceal_engine.specs.Keeping.{Kept, forest_in, work_kept, state_of, KeepsRun, Keeps, Sound}
-use Rattle.ceal_engine.specs.Repaired.{IsRepaired, IsUnchanged}
+use Rattle.ceal_engine.specs.Repaired.{IsRepaired}
 use Rattle.ceal_engine.specs.declared.phase.Phase.{Phase}
 use Rattle.ceal_engine.specs.declared.phase.Phase.TheVariants.{Finished as IsFinished}
 use Rattle.ceal_repair.specs.Answers.{IsKeptRun}
 use Rattle.ceal_repair.specs.declared.running.Running.{Running}
-use Rattle.ceal_theory.specs.Walk.{AgreesAll}
-use Rattle.ceal_trace.specs.Items.{forest_of}
-use Rattle.ceal_trace.specs.Nodes.{Entry}
 
 module _ (code : Code) (fuel : ℕ) (inputs : List Block) (phase : Phase) (whole : IsWhole phase) where
   -- the trace is honest on the inputs
