@@ -8,7 +8,7 @@ use Rattle.ceal_engine.specs.Engine.{EngineState, IsPresent, fresh_of, has_run}
 use Rattle.ceal_engine.specs.declared.phase.Came.{Came}
 use Rattle.ceal_engine.specs.declared.phase.Came.TheVariants.{More, Done, Anew}
 use Rattle.ceal_engine.specs.declared.phase.Phase.{Phase}
-use Rattle.ceal_engine.specs.declared.phase.Phase.TheVariants.{Finished, Partial, Dropped}
+use Rattle.ceal_engine.specs.declared.phase.Phase.TheVariants.{New, Finished, Pending, Partial, Dropped}
 use Rattle.ceal_engine.specs.declared.run_error.RunError.{RunError}
 use Rattle.ceal_engine.specs.declared.run_error.RunError.TheVariants.{Memory, OutOfFuel}
 use Rattle.ceal_theory.specs.Computed.{first_of}
@@ -34,6 +34,14 @@ is_more (Ok Done) = false
 is_more (Ok Anew) = false
 is_more (Err e) = false
 
+-- whether the phase is that of a repair that goes on
+abbrev pub is_partial : Phase → Bool
+is_partial New = false
+is_partial Finished = false
+is_partial Pending = false
+is_partial Partial = true
+is_partial Dropped = false
+
 abbrev pub phase_behind : Outcome → Phase
 phase_behind (Ok More) = Partial
 phase_behind (Ok Done) = Finished
@@ -47,18 +55,18 @@ journal_behind steps j (Ok Done) = completed j
 journal_behind steps j (Ok Anew) = settled_at steps
 journal_behind steps j (Err e) = settled_at 0
 
--- the reply to a `run` or a whole `propagate`, and to a part of a repair
-abbrev pub reply_behind : Outcome → Result Reply NoMemory
-reply_behind (Ok c) = Ok reply.Ok
-reply_behind (Err OutOfFuel) = Ok reply.OutOfFuel
-reply_behind (Err Memory) = Err (record {})
+-- the reply to a part of a repair that did not fail
+abbrev pub part_reply : Came → Reply
+part_reply More = reply.More
+part_reply Done = reply.Done
+part_reply Anew = reply.Done
 
-abbrev pub part_behind : Outcome → Result Reply NoMemory
-part_behind (Ok More) = Ok reply.More
-part_behind (Ok Done) = Ok reply.Done
-part_behind (Ok Anew) = Ok reply.Done
-part_behind (Err OutOfFuel) = Ok reply.OutOfFuel
-part_behind (Err Memory) = Err (record {})
+-- the reply by the outcome: to a `run` or a whole `propagate`, where no number of reads is given, and to a part of a repair
+abbrev pub reply_to : Option ℕ → Outcome → Result Reply NoMemory
+reply_to reads (Err OutOfFuel) = Ok reply.OutOfFuel
+reply_to reads (Err Memory) = Err (record {})
+reply_to None (Ok came) = Ok reply.Ok
+reply_to (Some n) (Ok came) = Ok (part_reply came)
 
 -- what the definition's slice is, by how the repair came out
 abbrev pub IsSliceOf : Outcome → Code → List Block → Option Repair → Type 0
@@ -108,9 +116,10 @@ pub record Brings
       → SamePast e.code e.inputs call.function call.args p (past_of e)
       → Makes outcome e call reads p e'
 
--- so it is with the call that was accepted
-abbrev pub Brought : EngineState → Option ℕ → Outcome → EngineState → Type 0
-Brought e reads outcome e' = (call : Call) → e.call ≡ Some call → Brings e call reads outcome e'
+-- the call that is to run: the first one, or the one that was accepted before
+abbrev pub accepted : Option Call → Option Call → Option Call
+accepted None before = before
+accepted (Some call) before = Some call
 
 -- how a run came out that ended so, if it ended
 abbrev pub with_came : {A : Type 0} → Came → Result A RunError → Outcome

@@ -1,11 +1,12 @@
 // How an engine is brought forward, and what the journal and the reply are then.
 
-ghost use Rattle.std.specs.Prelude.{◌≡◌, ◌≢◌, ℕ, true, Option, Some, None, Ok as OkOf};
+ghost use Rattle.std.specs.Prelude.{◌≡◌, ◌≢◌, ℕ, true, Option, Some, None, is_some, option_copied, Ok as OkOf, IfSome, IfNone};
+ghost use Rattle.ceal_base.specs.declared.call.Call.{Call as CallOf};
 ghost use Rattle.ceal_code.specs.Fitting.{Fits};
-ghost use Rattle.ceal_engine.specs.Engine.{has_run};
+ghost use Rattle.ceal_engine.specs.Engine.{IsEngine};
 ghost use Rattle.ceal_engine.specs.declared.phase.Came.TheVariants.{Anew};
-ghost use Rattle.ceal_engine.specs.declared.phase.Phase.TheVariants.{New, Finished, Dropped};
-ghost use Rattle.ceal_session.specs.Advancing.{Brings, Brought, is_more, journal_behind, reply_behind, part_behind, with_came};
+ghost use Rattle.ceal_engine.specs.declared.phase.Phase.TheVariants.{Finished};
+ghost use Rattle.ceal_session.specs.Advancing.{Brings, accepted, is_partial, journal_behind, part_reply, reply_to, with_came};
 
 use crate::journal::Journal;
 use crate::reply::Reply;
@@ -15,7 +16,7 @@ use ceal_engine::engine::Engine;
 use ceal_engine::phase::{Came, Phase};
 use ceal_engine::run_error::RunError;
 
-/// A run that ended was a first one.
+/// A run that ended was one from nothing.
 fn came_anew(outcome: Result<(), RunError>) -> Result<Came, RunError>
     ensures { result ≡ with_came Anew outcome }
 {
@@ -23,67 +24,46 @@ fn came_anew(outcome: Result<(), RunError>) -> Result<Came, RunError>
     Ok(Came::Anew)
 }
 
-/// The first run.
-pub fn first_advanced(engine: &mut Engine, call: &Call) -> Result<Came, RunError>
-    requires new { engine.old.phase ≡ New }
-    requires fits { Fits engine.old.code engine.old.inputs call.now.function call.now.args }
-    ensures brings { Brings engine.old call.now None result engine.new }
-{
-    // for the proof: it is an engine before and after, by the clause `whole`
-    let _before = engine.phase();
-    let outcome = engine.run(call.function, call.args.items());
-    let _after = engine.phase();
-    came_anew(outcome)
-}
-
-/// A run that is dropped is run again.
-fn run_anew(engine: &mut Engine) -> Result<Came, RunError>
-    requires dropped { engine.old.phase ≡ Dropped }
-    ensures brings { (reads : Option ℕ) → Brought engine.old reads result engine.new }
-{
-    // for the proof: it is an engine before and after, by the clause `whole`
-    let _before = engine.phase();
-    let outcome = engine.propagate();
-    let _after = engine.phase();
-    came_anew(outcome)
-}
-
-/// What is left of a repair, or that many stale reads of it.
-fn continued(engine: &mut Engine, reads: Option<u32>) -> Result<Came, RunError>
-    requires run { has_run engine.old.phase ≡ true }
+/// Brings an engine of this phase forward: the first call is run from nothing, and so is a call whose run was dropped; a run that
+/// is there is repaired, at most that many stale reads of it, or all of them.
+pub fn bring(
+    engine: &mut Engine,
+    phase: Phase,
+    first: Option<&Call>,
+    reads: Option<u32>,
+) -> Result<Came, RunError>
+    requires whole { IsEngine engine.old }
+    requires phase { phase ≡ engine.old.phase }
+    requires first { IfSome (option_copied first) (λ call. engine.old.call ≡ None) }
+    requires fits { IfSome (option_copied first)
+        (λ call. Fits engine.old.code engine.old.inputs call.function call.args) }
+    requires called { IfNone (option_copied first) (is_some engine.old.call ≡ true) }
     requires some { reads ≢ Some 0 }
-    ensures brings { Brought engine.old reads result engine.new }
+    ensures brings { (call : CallOf) → accepted (option_copied first.entry) engine.old.call ≡ Some call
+        → Brings engine.old call reads result engine.new }
 {
-    // for the proof: it is an engine before and after, by the clause `whole`
-    let _before = engine.phase();
-    let came = engine.advance(reads);
-    let _after = engine.phase();
-    came
-}
-
-/// The accepted call on the present inputs: a repair re-executes that many stale reads, or all of them.
-pub fn advanced(engine: &mut Engine, reads: Option<u32>) -> Result<Came, RunError>
-    requires called { engine.old.phase ≡ New → ⊥ }
-    requires some { reads ≢ Some 0 }
-    ensures brings { Brought engine.old reads result engine.new }
-{
-    match engine.phase() {
-        Phase::New => unreachable!(),
-        Phase::Finished => continued(engine, reads),
-        Phase::Pending => continued(engine, reads),
-        Phase::Partial => continued(engine, reads),
-        Phase::Dropped => run_anew(engine),
+    match phase {
+        Phase::New => match first {
+            None => unreachable!(),
+            Some(call) => came_anew(engine.run(call.function, call.args.items())),
+        },
+        Phase::Dropped => came_anew(engine.propagate()),
+        Phase::Finished => engine.advance(reads),
+        Phase::Pending => engine.advance(reads),
+        Phase::Partial => engine.advance(reads),
     }
 }
 
-pub fn goes_on(came: &Result<Came, RunError>) -> bool
-    ensures { result ≡ is_more came.now }
+/// Whether a repair goes on.
+pub fn is_partial(phase: Phase) -> bool
+    ensures { result ≡ is_partial phase }
 {
-    match came {
-        Ok(Came::More) => true,
-        Ok(Came::Done) => false,
-        Ok(Came::Anew) => false,
-        Err(_) => false,
+    match phase {
+        Phase::New => false,
+        Phase::Finished => false,
+        Phase::Pending => false,
+        Phase::Partial => true,
+        Phase::Dropped => false,
     }
 }
 
@@ -100,26 +80,27 @@ pub fn settle(journal: &mut Journal, engine: &Engine, came: &Result<Came, RunErr
     }
 }
 
-/// The reply to a `run` or a whole `propagate` that came out so.
-pub fn whole_reply(came: &Result<Came, RunError>) -> Result<Reply, NoMemory>
-    ensures { result ≡ reply_behind came.now }
+/// The reply to a part of a repair that did not fail.
+fn part_reply(came: Came) -> Reply
+    ensures { result ≡ part_reply came }
 {
     match came {
-        Ok(_) => Ok(Reply::Ok),
-        Err(RunError::OutOfFuel) => Ok(Reply::OutOfFuel),
-        Err(RunError::Memory) => Err(NoMemory),
+        Came::More => Reply::More,
+        Came::Done => Reply::Done,
+        Came::Anew => Reply::Done,
     }
 }
 
-/// The reply to a part of a repair that came out so.
-pub fn part_reply(came: &Result<Came, RunError>) -> Result<Reply, NoMemory>
-    ensures { result ≡ part_behind came.now }
+/// The reply to a run, to a whole repair, or to a part of one, which came out so.
+pub fn reply_to(reads: Option<u32>, came: Result<Came, RunError>) -> Result<Reply, NoMemory>
+    ensures { result ≡ reply_to reads came }
 {
     match came {
-        Ok(Came::More) => Ok(Reply::More),
-        Ok(Came::Done) => Ok(Reply::Done),
-        Ok(Came::Anew) => Ok(Reply::Done),
         Err(RunError::OutOfFuel) => Ok(Reply::OutOfFuel),
         Err(RunError::Memory) => Err(NoMemory),
+        Ok(came) => match reads {
+            None => Ok(Reply::Ok),
+            Some(_) => Ok(part_reply(came)),
+        },
     }
 }

@@ -1,13 +1,13 @@
 // The state between two lines.
 
-ghost use Rattle.std.specs.Prelude.{◌≡◌, ◌≢◌, ◌≤◌, ◌<◌, true, false, Some, None, Ok as OkOf, length, is_some, bytes_eq, IfOk, IfSome, OnOk, OnErr};
+ghost use Rattle.std.specs.Prelude.{◌≡◌, ◌≢◌, ◌≤◌, ◌<◌, true, false, Some, None, Ok as OkOf, length, is_some, option_copied, bytes_eq, IfOk, IfSome, IfNone, OnOk, OnErr};
 ghost use Rattle.std.specs.List.{list_any};
 ghost use Rattle.ceal_base.specs.Fitting.{block_fits, kind_at};
 ghost use Rattle.ceal_compile.specs.Compiled.{IsCompiled};
 ghost use Rattle.ceal_script.specs.Spelling.{IsName};
 ghost use Rattle.ceal_session.specs.Asking.{IsCellOf};
 ghost use Rattle.ceal_base.specs.declared.call.Call.{Call as CallOf};
-ghost use Rattle.ceal_session.specs.Advancing.{IsAdvanced};
+ghost use Rattle.ceal_session.specs.Advancing.{IsAdvanced, accepted};
 ghost use Rattle.ceal_session.specs.Following.{IsAllowed, opened, Keeps, Goes, IsLeftBy};
 ghost use Rattle.ceal_session.specs.Keeping.{situation, held_of, Holds};
 ghost use Rattle.ceal_session.specs.Naming.{AreSpelled};
@@ -17,7 +17,7 @@ ghost use Rattle.ceal_session.specs.Steps.{IsFirst, with_input, with_base, block
 ghost use Rattle.ceal_session.specs.Standing.{HasTrace};
 ghost use Rattle.ceal_theory.specs.Pasts.{goes};
 
-use crate::advance::{advanced, first_advanced, goes_on, part_reply, settle, whole_reply};
+use crate::advance::{bring, is_partial, reply_to, settle};
 use crate::journal::{Journal, base_of};
 use crate::reply::Reply;
 use ceal_base::call::Call;
@@ -260,34 +260,21 @@ impl State {
         }
     }
 
-    /// The first run, and how it came out.
-    fn start(&mut self, call: &Call) -> Result<Came, RunError>
-        requires { IsFirst self.old.state call.now }
-        ensures { IsAdvanced (situation self.old) call.now None result (situation self.new) }
-    {
-        // for the proof: it is an engine before and after, by the clause `whole`
-        let _before = self.engine.phase();
-        let came = first_advanced(&mut self.engine, call);
-        let _after = self.engine.phase();
-        settle(&mut self.journal, &self.engine, &came);
-        self.pending = goes_on(&came);
-        came
-    }
-
-    /// The accepted call on the present inputs, whose repair re-executes that many stale reads, or all of them; and how it
-    /// came out.
-    fn advance(&mut self, reads: Option<u32>) -> Result<Came, RunError>
-        requires called { is_some self.old.state.call ≡ true }
+    /// The first call, or the accepted one, on the present inputs, whose repair re-executes at most that many stale reads, or all
+    /// of them; and how it came out.
+    fn advance(&mut self, first: Option<&Call>, reads: Option<u32>) -> Result<Came, RunError>
+        requires first { IfSome (option_copied first) (IsFirst self.old.state) }
+        requires called { IfNone (option_copied first)
+            (is_some self.old.state.call ≡ true) }
         requires some { reads ≢ Some 0 }
-        ensures { (call : CallOf) → self.old.state.call ≡ Some call
+        ensures { (call : CallOf) → accepted (option_copied first.entry) self.old.state.call ≡ Some call
             → IsAdvanced (situation self.old) call reads result (situation self.new) }
     {
-        // for the proof: it is an engine before and after, by the clause `whole`
-        let _before = self.engine.phase();
-        let came = advanced(&mut self.engine, reads);
-        let _after = self.engine.phase();
+        let before = self.engine.phase();
+        let came = bring(&mut self.engine, before, first, reads);
+        let after = self.engine.phase();
         settle(&mut self.journal, &self.engine, &came);
-        self.pending = goes_on(&came);
+        self.pending = is_partial(after);
         came
     }
 
@@ -302,8 +289,8 @@ impl State {
         ensures err { OnErr result
             (IsLeftBy (situation self.old) (OkOf call.now) (situation self.new)) }
     {
-        let came = self.start(call);
-        whole_reply(&came)
+        let came = self.advance(Some(call), None);
+        reply_to(None, came)
     }
 
     /// The run of the accepted call on the present inputs.
@@ -319,8 +306,8 @@ impl State {
             (IsLeftBy (situation self.old) (called_again self.old.state.call)
             (situation self.new)) }
     {
-        let came = self.advance(None);
-        whole_reply(&came)
+        let came = self.advance(None, None);
+        reply_to(None, came)
     }
 
     /// A part of it: at most that many stale reads are re-executed, each with all that is inside it.
@@ -338,7 +325,7 @@ impl State {
             (IsLeftBy (situation self.old) (called_again self.old.state.call)
             (situation self.new)) }
     {
-        let came = self.advance(Some(reads));
-        part_reply(&came)
+        let came = self.advance(None, Some(reads));
+        reply_to(Some(reads), came)
     }
 }

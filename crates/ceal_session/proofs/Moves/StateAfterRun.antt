@@ -1,6 +1,6 @@
 -- What a session is after its engine was brought forward.
 use Rattle.std.proofs.Common.{◌≡◌, ◌⊎◌, inl, inr, ℕ, Bool, true, false, Option, Some, None, Ok, Err, List, [], length, is_some, refl, sym, ap, ◌∙◌, subst, arith}
-use Rattle.std.specs.Prelude.{IfSome}
+use Rattle.std.specs.Prelude.{IfSome, IfNone}
 use Rattle.ceal_base.specs.Block.{Block}
 use Rattle.ceal_base.specs.Finished.{Finished}
 use Rattle.ceal_base.specs.Trace.{Trace, steps_of}
@@ -17,7 +17,7 @@ use Rattle.ceal_session.proofs.Engine.EngineKeepsPast.{past-none, past-going, pa
 use Rattle.ceal_session.proofs.Inputs.ExtendedInputs.{extended-same}
 use Rattle.ceal_session.proofs.Engine.RunLeavesPast.{few-steps, has-first, no-first}
 use Rattle.ceal_session.proofs.Engine.EngineRunIsSource.{code-run}
-use Rattle.ceal_session.specs.Advancing.{Outcome, is_more, journal_behind, IsSliceOf, Brings, IsAdvanced}
+use Rattle.ceal_session.specs.Advancing.{Outcome, accepted, is_more, is_partial, journal_behind, phase_behind, IsSliceOf, Brings, IsAdvanced}
 use Rattle.ceal_session.specs.Journal.{Measure, Number, Between, JournalState}
 use Rattle.ceal_session.specs.Keeping.{past_of, call_cost, bound_from, settled_of, situation_of, IsRunOn, IsMeasured, IsSettledOn, WasHonest, Holds}
 use Rattle.ceal_session.specs.Runs.{run_of}
@@ -42,6 +42,37 @@ not-new e k h ph = let none = k.uncalled ph in absurd (grind (arith, h, none))
 
 pub fits-of : (e : EngineState) → IsEngine e → (call : Call) → e.call ≡ Some call → Fits e.code e.inputs call.function call.args
 fits-of e k call i = subst (λ o. IfSome o (λ c. Fits e.code e.inputs c.function c.args)) i k.call
+
+-- the call that is to run, if there is one
+pub accepted-is : (first before : Option Call) → IfNone first (is_some before ≡ true) → (call : Call) × (accepted first before ≡ Some call)
+accepted-is (Some call) before h = (call, refl)
+accepted-is None None h = absurd (grind (arith, h))
+accepted-is None (Some call) h = (call, refl)
+
+-- it is the one that was accepted before, where the engine is not new
+pub accepted-again : (e : EngineState) → IsEngine e → (e.phase ≡ New → ⊥) → (first : Option Call) → IfSome first (λ c. e.call ≡ None) → (call : Call) → accepted first e.call ≡ Some call → e.call ≡ Some call
+accepted-again e k old None none call is = is
+accepted-again e k old (Some c) none call is = absurd (old (k.new none))
+
+pub accepted-first : (e : EngineState) (c call : Call) → accepted (Some c) e.call ≡ Some call → c ≡ call
+accepted-first e c call is = cc
+
+-- and it fits
+pub accepted-fits : (e : EngineState) → IsEngine e → (first : Option Call) → IfSome first (λ c. Fits e.code e.inputs c.function c.args) → (call : Call) → accepted first e.call ≡ Some call → Fits e.code e.inputs call.function call.args
+accepted-fits e k None fits call is = fits-of e k call is
+accepted-fits e k (Some c) fits call is = subst (λ (d : Call). Fits e.code e.inputs d.function d.args) (accepted-first e c call is) fits
+
+-- what is true of a call that is there
+pub some-on : {P Q : Call → Type 0} (o : Option Call) → ((call : Call) → P call → Q call) → IfSome o P → IfSome o Q
+some-on None f p = tt
+some-on (Some call) f p = f call p
+
+-- a repair goes on exactly where the phase says so
+pub partial-more : (outcome : Outcome) → is_partial (phase_behind outcome) ≡ is_more outcome
+partial-more (Ok More) = refl
+partial-more (Ok Done) = refl
+partial-more (Ok Anew) = refl
+partial-more (Err e) = refl
 
 abbrev At : State → Code → Past → Situation
 At s c q = record { state = s; code = c; past = q; bound = 0 }

@@ -6,7 +6,7 @@ use Rattle.ceal_base.specs.declared.call.Call.{Call}
 use Rattle.ceal_base.specs.declared.no_memory.NoMemory.{NoMemory}
 use Rattle.ceal_engine.specs.declared.phase.Came.TheVariants.{More, Done, Anew}
 use Rattle.ceal_engine.specs.declared.run_error.RunError.TheVariants.{Memory, OutOfFuel}
-use Rattle.ceal_session.specs.Advancing.{Outcome, reply_behind, part_behind, IsAdvanced}
+use Rattle.ceal_session.specs.Advancing.{Outcome, reply_to, IsAdvanced}
 use Rattle.ceal_session.specs.Following.{Goes, Retraces, IsLeftBy}
 use Rattle.ceal_session.specs.Runs.{run_of, with_run}
 use Rattle.ceal_session.specs.State.{State, Situation}
@@ -34,21 +34,21 @@ module _ (m n : Situation) (call : Call) where
   part-out : run_of m.state call ≡ None → n.state ≡ with_run m.state call true → At reply.OutOfFuel n ≡ runs_part m.state false (Ok call)
   part-out i e = rw (i, e) refl
 
-  pub whole-ok : (o : Outcome) → IsAdvanced m call None o n → (r : Result Reply NoMemory) → r ≡ reply_behind o → IfOk r (λ reply. At reply n ≡ runs m.state (Ok call))
+  pub whole-ok : (o : Outcome) → IsAdvanced m call None o n → (r : Result Reply NoMemory) → r ≡ reply_to None o → IfOk r (λ reply. At reply n ≡ runs m.state (Ok call))
   whole-ok (Ok More) h r e = absurd (let some = h.0 in grind (arith, some))
   whole-ok (Ok Done) h r e = rw e (of-run (run_of m.state call) refl h.0 h.1.state)
   whole-ok (Ok Anew) h r e = rw e (of-run (run_of m.state call) refl h.0 h.1.state)
   whole-ok (Err OutOfFuel) h r e = rw e (of-out h.0 h.1.state)
   whole-ok (Err Memory) h r e = rw e tt
 
-  pub whole-goes : (o : Outcome) → IsAdvanced m call None o n → (r : Result Reply NoMemory) → r ≡ reply_behind o → OnOk r (Retraces m call None n)
+  pub whole-goes : (o : Outcome) → IsAdvanced m call None o n → (r : Result Reply NoMemory) → r ≡ reply_to None o → OnOk r (Retraces m call None n)
   whole-goes (Ok More) h r e = rw e h.1.retraces
   whole-goes (Ok Done) h r e = rw e h.1.retraces
   whole-goes (Ok Anew) h r e = rw e h.1.retraces
   whole-goes (Err OutOfFuel) h r e = rw e h.1.retraces
   whole-goes (Err Memory) h r e = rw e tt
 
-  pub whole-left : (o : Outcome) → IsAdvanced m call None o n → (r : Result Reply NoMemory) → r ≡ reply_behind o → OnErr r (IsLeftBy m (Ok call) n)
+  pub whole-left : (o : Outcome) → IsAdvanced m call None o n → (r : Result Reply NoMemory) → r ≡ reply_to None o → OnErr r (IsLeftBy m (Ok call) n)
   whole-left (Ok More) h r e = rw e tt
   whole-left (Ok Done) h r e = rw e tt
   whole-left (Ok Anew) h r e = rw e tt
@@ -56,21 +56,21 @@ module _ (m n : Situation) (call : Call) where
   whole-left (Err Memory) h r e = rw e (inr (call, refl, h))
 
   module _ (reads : ℕ) where
-    part-ok : (o : Outcome) → IsAdvanced m call (Some reads) o n → (r : Result Reply NoMemory) → r ≡ part_behind o → IfOk r (λ reply. At reply n ≡ runs_part m.state (goes n.past) (Ok call))
+    part-ok : (o : Outcome) → IsAdvanced m call (Some reads) o n → (r : Result Reply NoMemory) → r ≡ reply_to (Some reads) o → IfOk r (λ reply. At reply n ≡ runs_part m.state (goes n.past) (Ok call))
     part-ok (Ok More) h r e = rw (e, h.1.going, h.1.state) refl
     part-ok (Ok Done) h r e = rw (e, h.1.going) (part-run (run_of m.state call) refl h.0 h.1.state)
     part-ok (Ok Anew) h r e = rw (e, h.1.going) (part-run (run_of m.state call) refl h.0 h.1.state)
     part-ok (Err OutOfFuel) h r e = rw (e, h.1.going) (part-out h.0 h.1.state)
     part-ok (Err Memory) h r e = rw e tt
 
-    part-goes : (o : Outcome) → IsAdvanced m call (Some reads) o n → (r : Result Reply NoMemory) → r ≡ part_behind o → OnOk r (Retraces m call (Some reads) n)
+    part-goes : (o : Outcome) → IsAdvanced m call (Some reads) o n → (r : Result Reply NoMemory) → r ≡ reply_to (Some reads) o → OnOk r (Retraces m call (Some reads) n)
     part-goes (Ok More) h r e = rw e h.1.retraces
     part-goes (Ok Done) h r e = rw e h.1.retraces
     part-goes (Ok Anew) h r e = rw e h.1.retraces
     part-goes (Err OutOfFuel) h r e = rw e h.1.retraces
     part-goes (Err Memory) h r e = rw e tt
 
-    part-left : (o : Outcome) → IsAdvanced m call (Some reads) o n → (r : Result Reply NoMemory) → r ≡ part_behind o → OnErr r (IsLeftBy m (Ok call) n)
+    part-left : (o : Outcome) → IsAdvanced m call (Some reads) o n → (r : Result Reply NoMemory) → r ≡ reply_to (Some reads) o → OnErr r (IsLeftBy m (Ok call) n)
     part-left (Ok More) h r e = rw e tt
     part-left (Ok Done) h r e = rw e tt
     part-left (Ok Anew) h r e = rw e tt
@@ -79,7 +79,7 @@ module _ (m n : Situation) (call : Call) where
 
 -- so it is with the call that was accepted
 module _ (m n : Situation) (outcome : Outcome) (some : is_some m.state.call ≡ true) (r : Result Reply NoMemory) where
-  module _ (h : (call : Call) → m.state.call ≡ Some call → IsAdvanced m call None outcome n) (e : r ≡ reply_behind outcome) where
+  module _ (h : (call : Call) → m.state.call ≡ Some call → IsAdvanced m call None outcome n) (e : r ≡ reply_to None outcome) where
     pub again-ok : IfOk r (λ reply. At reply n ≡ runs m.state (called_again m.state.call))
     again-ok = go m.state.call refl some
       where
@@ -101,7 +101,7 @@ module _ (m n : Situation) (outcome : Outcome) (some : is_some m.state.call ≡ 
         go None i s = absurd (grind (arith, s))
         go (Some call) i s = whole-left m n call outcome (h call i) r e
 
-  module _ (reads : ℕ) (h : (call : Call) → m.state.call ≡ Some call → IsAdvanced m call (Some reads) outcome n) (e : r ≡ part_behind outcome) where
+  module _ (reads : ℕ) (h : (call : Call) → m.state.call ≡ Some call → IsAdvanced m call (Some reads) outcome n) (e : r ≡ reply_to (Some reads) outcome) where
     pub part-again-ok : IfOk r (λ reply. At reply n ≡ runs_part m.state (goes n.past) (called_again m.state.call))
     part-again-ok = go m.state.call refl some
       where
