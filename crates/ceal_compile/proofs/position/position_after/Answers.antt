@@ -7,6 +7,7 @@ pub loop-byte-init : goal.loop-byte-init
 unfolding line_feeds first_line
 loop-byte-init c = record { line = refl; column = refl; few_lines = omega arith; few_columns = omega arith }
 
+-- a line feed begins a line, another byte a column
 pub loop-byte-preserved : goal.loop-byte-preserved
 loop-byte-preserved c =
     let bs = c.args.before.now in

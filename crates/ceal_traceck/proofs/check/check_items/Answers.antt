@@ -3,6 +3,7 @@ use Rattle.std.proofs.lemmas.Bool.{false≢true}
 use Rattle.ceal_traceck.proofs.Stages.{Begun, Learns, Stores, unnamed, unaccepted, found, dishonest, is-honest, asked-there}
 use Rattle.ceal_traceck.proofs.check.check_items.Goals as goal
 
+-- an item names a block that is not there, so the record is no replay
 pub returns-then-not-branch : goal.returns-then-not-branch
 returns-then-not-branch c =
     let code = c.args.code.now in
@@ -19,6 +20,7 @@ returns-then-not-branch c =
     } in
     (c.requires, unnamed code r c.new-memory.result is r.args c.requires begun (sym c.in_ok-learn_named.ensures.answer ∙ c.if-not-branch.true))
 
+-- the walk over the items stopped, and a replay would have been walked to its end
 pub returns-then-not-branch-2 : goal.returns-then-not-branch-2
 returns-then-not-branch-2 c =
     let code = c.args.code.now in
@@ -40,6 +42,7 @@ returns-then-not-branch-2 c =
           (λ k. false≢true (sym c.if-not-branch-2.true ∙ c.in_ok-are_replayed.ensures.answer.1 k)),
     )
 
+-- the items replay, but a read among them differs from the content of its place
 pub returns-then-not-branch-3 : goal.returns-then-not-branch-3
 returns-then-not-branch-3 c =
     let code = c.args.code.now in
@@ -68,6 +71,7 @@ returns-then-not-branch-3 c =
       ),
     )
 
+-- the items replay and are honest, and the blocks are those that the call leaves
 pub returns-then-branch : goal.returns-then-branch
 returns-then-branch c =
     let code = c.args.code.now in
@@ -105,6 +109,7 @@ returns-then-branch c =
       ),
     )
 
+-- the items replay and are honest, but the blocks are not those that the call leaves
 pub returns : goal.returns
 returns c =
     let code = c.args.code.now in
