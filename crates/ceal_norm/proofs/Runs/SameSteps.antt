@@ -60,7 +60,7 @@ use Rattle.ceal_norm.proofs.Runs.SameValues.{expr-same, exprs-same, arg-same}
 use Rattle.ceal_norm.proofs.Runs.WordsOfVariables.{instead, woven-map, values-map, values-own, set-word, set-long}
 use Rattle.ceal_norm.proofs.Validity.StatementsAtEntries.{Function, StandsIn, ViewIn, view-in, Spot, context, function-of, init-usage, init-function}
 use Rattle.ceal_norm.proofs.Validity.StatementsAtBlocks.{over as is_end, tests, acts}
-use Rattle.ceal_norm.proofs.Validity.UnitsOfEntries.{behind-entry}
+use Rattle.ceal_norm.proofs.Validity.UnitsOfEntries.{continuation-entry}
 
 -- the function of which it holds
 pub record Found (o : Option TypedFunction) (P : TypedFunction → Type 0) : Type 0 where
@@ -334,7 +334,7 @@ module _ (p : Typed) (sets : List (List ℕ)) (typed : WellTyped p) (kept : Keep
             })
         value-step (ReadValue at e) mention closes is t usage =
             let same = expr-same (context p along.spot.function.f) inner m env q.env e t.0 (λ v h. used (Act st next) look v (rw mention h)) in
-            let entry = behind-entry graph q.block next st look closes in
+            let entry = continuation-entry graph q.block next st look closes in
             let w = expr_value p.structs (block_at m) env (expr_code e) in
             let args = values p.structs (block_at m) env (closure_args source n next) in
             step-by _ (Read (variable n) (expr_code e) (unit_of source next) (closure_args source n next)) [] _ part-there is (record {
@@ -410,7 +410,7 @@ module _ (p : Typed) (sets : List (List ℕ)) (typed : WellTyped p) (kept : Keep
           let fn = core-function f core in
           let first = first_of fn.f.body fn.home.start in
           let ws = values_of q.env m args in
-          let entry = behind-entry graph q.block next st look closes in
+          let entry = continuation-entry graph q.block next st look closes in
           let words = values p.structs (block_at m) env (call_args args (entry_set source (slice_get graph.functions f))) in
           let words_are : words ≡ map (λ v. variable_of ws v) (live_at first) =
           ap (λ o. values p.structs (block_at m) env (call_args args (entry_set source o))) fn.home.function

@@ -39,7 +39,7 @@ use Rattle.ceal_norm.proofs.Validity.RightCommands.{Covers, kinds-are, seen-live
 use Rattle.ceal_norm.proofs.Validity.LiveVariablesInScope.{match, used-live, jump-live}
 use Rattle.ceal_norm.proofs.Validity.StatementsAtEntries.{Function, StandsIn, ViewIn, view-in, context}
 use Rattle.ceal_norm.proofs.Validity.StatementsAtBlocks.{over, tests, acts}
-use Rattle.ceal_norm.proofs.Validity.UnitsOfEntries.{behind-entry}
+use Rattle.ceal_norm.proofs.Validity.UnitsOfEntries.{continuation-entry}
 
 -- a test that is not met
 pub not-same : (n v : ℕ) → (n ≡ v → ⊥) → not (n == v) ≡ true
@@ -193,7 +193,7 @@ module _ (p : Typed) (typed : WellTyped p) (kept : KeepsUsage p) (sets : List (L
           (jump-good x (i + 1) inner known one (λ v h. carried x v block look refl to-x (there-is p typed kept sets live k fn _ x one) h) long (fewer x block look to-x))
           (jump-good y (i + 1 + length first) inner known two (λ v h. carried y v block look refl to-y (there-is p typed kept sets live k fn _ y two) h) long (fewer y block look to-y)))
       block-good (acts s next nx inner look within t usage simple st) =
-          rw look (stmt-good next s inner nx look t usage simple st (λ h. behind-entry (graph_of p) b next s look h))
+          rw look (stmt-good next s inner nx look t usage simple st (λ h. continuation-entry (graph_of p) b next s look h))
 
   grows-all : (d : ℕ) → Grows d
   unfolding tree
