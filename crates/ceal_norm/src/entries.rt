@@ -5,7 +5,8 @@ ghost use Rattle.std.specs.Prelude.{replicate, if◌then◌else◌, IfOk, OnOk};
 ghost use Rattle.ceal_flow.specs.Laws.{firsts};
 ghost use Rattle.ceal_flow.specs.Paths.{jumps};
 ghost use Rattle.ceal_flow.specs.Sets.{is_in};
-ghost use Rattle.ceal_norm.specs.Entries.{is_read, has_closure, continuations, all_continuations, all_jumps, count, is_entry};
+ghost use Rattle.ceal_norm.specs.Entries.{is_read, has_closure, continuations, all_continuations};
+ghost use Rattle.ceal_norm.specs.Entries.{all_jumps, count, is_entry};
 ghost use Rattle.ceal_norm.specs.Table.{is_marked, table};
 
 use crate::number::one_more;

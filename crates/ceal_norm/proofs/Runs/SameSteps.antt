@@ -302,7 +302,8 @@ module _ (p : Typed) (sets : List (List ℕ)) (typed : WellTyped p) (kept : Keep
         read-along : (w w' : Word) (held : Option Kind) → is_entry graph next ≡ true → w ≡ w' → kind_held held ≡ Some kind
             → AllAlong p sets (record { block = next; env = slice_set q.env n (content_of m w' (content_default held)) } ∷ points)
             (code_entered the_code (entry_unit p sets next)
-            (words_after_read the_code (entry_unit p sets next) n (values p.structs (block_at m) env (closure_args source n next)) (content_of m w (variable_default the_code (entry_unit p sets next) n))) below)
+            (words_after_read the_code (entry_unit p sets next) n (values p.structs (block_at m) env (closure_args source n next))
+            (content_of m w (variable_default the_code (entry_unit p sets next) n))) below)
         read-along w w' held e same h =
             let x = entry_unit p sets next in
             let spot = spot-at next after stands in
@@ -316,7 +317,8 @@ module _ (p : Typed) (sets : List (List ℕ)) (typed : WellTyped p) (kept : Keep
             ∙ woven-map (live_at next) n value env in
             let wide = along.wide in
             let long = set-long q.env n value' in (
-              inl (enter-along p sets (record { block = next; env = slice_set q.env n value' }) spot (omega (arith, wide, long)) e (words_after_read the_code x n args value) (instead n value env) words
+              inl (enter-along p sets (record { block = next; env = slice_set q.env n value' }) spot (omega (arith, wide, long)) e
+                  (words_after_read the_code x n args value) (instead n value env) words
                   (after-set (Act st next) look next n value value' leads next-there assigned has-room value_same)),
               others,
             )
@@ -338,7 +340,8 @@ module _ (p : Typed) (sets : List (List ℕ)) (typed : WellTyped p) (kept : Keep
             let w = expr_value p.structs (block_at m) env (expr_code e) in
             let args = values p.structs (block_at m) env (closure_args source n next) in
             step-by _ (Read (variable n) (expr_code e) (unit_of source next) (closure_args source n next)) [] _ part-there is (record {
-              after = code_entered the_code (entry_unit p sets next) (words_after_read the_code (entry_unit p sets next) n args (content_of m w (variable_default the_code (entry_unit p sets next) n))) below;
+              after = code_entered the_code (entry_unit p sets next)
+                  (words_after_read the_code (entry_unit p sets next) n args (content_of m w (variable_default the_code (entry_unit p sets next) n))) below;
               goes_on = λ again k. read-ran the_code again k m w (unit_of source next) n args below;
               steps = λ k. read-steps the_code k m w (unit_of source next) n args below;
               along = read-along w (value_of q.env m e) e.kind entry same t.1;
