@@ -16,7 +16,7 @@ pub fn is_blank(line: &[u8]) -> bool
 
 /// What follows the first space or tab, if there is one.
 fn after_word(text: &[u8]) -> &[u8]
-    ensures { result.now ≡ lines.behind_word text.now }
+    ensures { result.now ≡ lines.text_after_word text.now }
 {
     let length = word_length(text);
     if length < text.len() {

@@ -53,8 +53,8 @@ module _ (structs : List StructInfo) (rename : BlockId → BlockId) (from to : S
   shape-renamed : (b : BlockId) → IsSome (from b) → shape_at to (rename b) ≡ shape_at from b
   shape-renamed b h = let o = both b h in ap shape_in o.there ∙ sym (ap shape_in o.here)
 
-  target-renamed : (b : BlockId) (field : ℕ) → IsSome (from b) → target_at to (rename b) field ≡ option_map rename (target_at from b field)
-  target-renamed b field h =
+  target_at-renamed : (b : BlockId) (field : ℕ) → IsSome (from b) → target_at to (rename b) field ≡ option_map rename (target_at from b field)
+  target_at-renamed b field h =
       ap (λ (ws : List Word). target_of (slice_get ws field)) (words-renamed b h) ∙ ap target_of (slice_get-map (renamed_word rename) (words_at from b) field)
       ∙ target_of-renamed (word_at from b field)
 
@@ -69,7 +69,7 @@ module _ (structs : List StructInfo) (rename : BlockId → BlockId) (from to : S
   forth : (path : List ℕ) (a b : BlockId) → IsSome (from a) → IsPath from a path b → IsPath to (rename a) path (rename b)
   unfolding IsPath
   forth [] a b h e = ap rename e
-  forth (field ∷ path) a b h (c, e, k) = (rename c, target-renamed a field h ∙ ap (option_map rename) e, forth path c b (target_there a field c e) k)
+  forth (field ∷ path) a b h (c, e, k) = (rename c, target_at-renamed a field h ∙ ap (option_map rename) e, forth path c b (target_there a field c e) k)
 
   -- a path in the other memory is one in this
   record Back (a : BlockId) (path : List ℕ) (c : BlockId) : Type 0 where
@@ -79,7 +79,7 @@ module _ (structs : List StructInfo) (rename : BlockId → BlockId) (from to : S
     there : IsSome (from block)
 
   one_back : (field : ℕ) (a d : BlockId) → IsSome (from a) → target_at to (rename a) field ≡ Some d → (b : BlockId) × (target_at from a field ≡ Some b) × (rename b ≡ d)
-  one_back field a d h e = by_target (target_at from a field) refl (sym (target-renamed a field h) ∙ e)
+  one_back field a d h e = by_target (target_at from a field) refl (sym (target_at-renamed a field h) ∙ e)
     where
       by_target : (o : Option BlockId) → target_at from a field ≡ o → option_map rename o ≡ Some d → (b : BlockId) × (target_at from a field ≡ Some b) × (rename b ≡ d)
       by_target None f g = absurd cc
