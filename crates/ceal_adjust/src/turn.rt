@@ -91,7 +91,7 @@ fn spliced(
 }
 
 /// The items after the End that closes the read before these.
-fn behind_end(items: &[Item]) -> Result<&[Item], NoMemory>
+fn after_end(items: &[Item]) -> Result<&[Item], NoMemory>
     ensures { IfOk result (λ back. back.now ≡ skipped 1 items.now) }
 {
     let mut levels = 1;
@@ -170,7 +170,7 @@ fn put_back(alloc: Global, stale: Stale<'_>, ran: Ran) -> Result<Repair, NoMemor
         next,
         spent,
     } = ran;
-    let back = behind_end(after)?;
+    let back = after_end(after)?;
     let forest = spliced(
         alloc,
         front,

@@ -11,7 +11,7 @@ pub struct Position {
 }
 
 /// The position after one byte more.
-fn behind(position: Position, byte: u8) -> Position
+fn after_byte(position: Position, byte: u8) -> Position
     requires line { position.line + 1 < 2 ^ 64 }
     requires column { position.column + 1 < 2 ^ 64 }
     ensures line { result.line ≡ (if byte == 10 then 1 + position.line else position.line) }
@@ -39,7 +39,7 @@ pub fn position_after(before: &[u8]) -> Position
 {
     let mut position = Position { line: 1, column: 1 };
     for byte in before {
-        position = behind(position, *byte);
+        position = after_byte(position, *byte);
     }
     position
 }

@@ -76,7 +76,7 @@ fn negative_number(n: u64) -> i64
     if m < 1 << 63 { -1 - m as i64 } else { 0 }
 }
 
-fn behind(bytes: &[u8], count: usize) -> &[u8]
+fn bytes_after(bytes: &[u8], count: usize) -> &[u8]
     ensures { result.now ≡ drop count bytes.now }
 {
     if count < bytes.len() {
@@ -120,7 +120,7 @@ impl<'a> Reader<'a> {
     pub fn skip(&mut self, count: usize)
         ensures rest { self.new ≡ drop count self.old }
     {
-        self.rest = behind(self.rest, count);
+        self.rest = bytes_after(self.rest, count);
     }
 
     #[tactic(auto, unfolding(crate::specs::Reading::number_at))]

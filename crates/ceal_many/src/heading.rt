@@ -15,8 +15,8 @@ pub fn is_blank(line: &[u8]) -> bool
 }
 
 /// What follows the first space or tab, if there is one.
-fn behind_word(text: &[u8]) -> &[u8]
-    ensures { result.now ≡ lines.behind_word text.now }
+fn after_word(text: &[u8]) -> &[u8]
+    ensures { result.now ≡ lines.text_after_word text.now }
 {
     let length = word_length(text);
     if length < text.len() {
@@ -33,7 +33,7 @@ fn named(text: &[u8]) -> Option<(&[u8], &[u8])>
 {
     let name = &text[..word_length(text)];
     if is_name(name) {
-        Some((name, behind_word(text)))
+        Some((name, after_word(text)))
     } else {
         None
     }

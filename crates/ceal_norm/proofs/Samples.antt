@@ -16,7 +16,7 @@ use Rattle.ceal_code.specs.declared.expr.CodeExpr.TheViews.{Binary as BinaryCode
 use Rattle.ceal_code.specs.declared.expr.VarId.{VarId}
 use Rattle.ceal_flow.specs.declared.block.GraphBlock.TheVariants.{Done, Act}
 use Rattle.ceal_flow.specs.declared.function.GraphFunction.TheVariants.{Core}
-use Rattle.ceal_norm.specs.Entries.{all_behind, all_jumps, count, entries_before}
+use Rattle.ceal_norm.specs.Entries.{all_continuations, all_jumps, count, entries_before}
 use Rattle.ceal_norm.specs.Expressions.{form_code}
 use Rattle.ceal_norm.specs.Units.{Source, without, tree, ends_before, core_numbers, units_before, code_of}
 
@@ -50,5 +50,5 @@ inc_units : (code_of inc).units
     ≡ record { function = 0; params = var 0 ∷ var 1 ∷ []; body = ReadCmd (var 2) (VarCode (var 0)) (record { 0 = 1 }) (VarCode (var 1) ∷ []) ∷ [] }
     ∷ record { function = 0; params = var 1 ∷ var 2 ∷ []; body = WriteCmd (VarCode (var 1)) (BinaryCode Add (VarCode (var 2)) (NumCode (pos 1))) ∷ DoneCmd ∷ [] }
     ∷ []
-unfolding all_behind all_jumps count entries_before form_code without tree ends_before core_numbers units_before hidden-the_row-TypedExpr-0 shape-the_row-TypedExpr-0 denote.Hole.Carrier.hidden
+unfolding all_continuations all_jumps count entries_before form_code without tree ends_before core_numbers units_before hidden-the_row-TypedExpr-0 shape-the_row-TypedExpr-0 denote.Hole.Carrier.hidden
 inc_units = refl

@@ -24,14 +24,14 @@ has_closure (Call at f args) = true
 has_closure _ = false
 
 -- the block after a read or a call
-abbrev pub behind : GraphBlock → List ℕ
-behind (Act s next) = if has_closure s then next ∷ [] else []
-behind _ = []
+abbrev pub continuations : GraphBlock → List ℕ
+continuations (Act s next) = if has_closure s then next ∷ [] else []
+continuations _ = []
 
 -- the blocks that follow a read or a call, over all blocks
-unfoldable pub all_behind : List GraphBlock → List ℕ
-all_behind [] = []
-all_behind (block ∷ blocks) = behind block ++ all_behind blocks
+unfoldable pub all_continuations : List GraphBlock → List ℕ
+all_continuations [] = []
+all_continuations (block ∷ blocks) = continuations block ++ all_continuations blocks
 
 -- the targets of all jumps; two jumps from one condition to a block count as two
 unfoldable pub all_jumps : List GraphBlock → List ℕ
@@ -45,7 +45,8 @@ count b (c ∷ cs) = if c == b then count b cs + 1 else count b cs
 
 -- a function's first block, what follows a read or a call, and the target of two or more jumps
 abbrev pub is_entry : Graph → ℕ → Bool
-is_entry g b = is_in b (firsts g.functions) || is_in b (all_behind g.blocks) || nat_le 2 (count b (all_jumps g.blocks))
+is_entry g b =
+    is_in b (firsts g.functions) || is_in b (all_continuations g.blocks) || nat_le 2 (count b (all_jumps g.blocks))
 
 -- the number of entries before the block
 unfoldable pub entries_before : Graph → ℕ → ℕ

@@ -5,7 +5,8 @@ ghost use Rattle.std.specs.Prelude.{replicate, if◌then◌else◌, IfOk, OnOk};
 ghost use Rattle.ceal_flow.specs.Laws.{firsts};
 ghost use Rattle.ceal_flow.specs.Paths.{jumps};
 ghost use Rattle.ceal_flow.specs.Sets.{is_in};
-ghost use Rattle.ceal_norm.specs.Entries.{is_read, has_closure, behind, all_behind, all_jumps, count, is_entry};
+ghost use Rattle.ceal_norm.specs.Entries.{is_read, has_closure, continuations, all_continuations};
+ghost use Rattle.ceal_norm.specs.Entries.{all_jumps, count, is_entry};
 ghost use Rattle.ceal_norm.specs.Table.{is_marked, table};
 
 use crate::number::one_more;
@@ -67,8 +68,8 @@ fn first_blocks(alloc: Global, functions: &[GraphFunction]) -> Result<Vec<u32>, 
     Ok(out)
 }
 
-fn put_behind(out: &mut Vec<u32>, block: &GraphBlock) -> Result<(), NoMemory>
-    ensures { OnOk result (out.new.items ≡ out.old.items ++ behind block.now) }
+fn put_continuations(out: &mut Vec<u32>, block: &GraphBlock) -> Result<(), NoMemory>
+    ensures { OnOk result (out.new.items ≡ out.old.items ++ continuations block.now) }
 {
     if let GraphBlock::Act { stmt, next } = block {
         if ends_unit(stmt) {
@@ -78,14 +79,14 @@ fn put_behind(out: &mut Vec<u32>, block: &GraphBlock) -> Result<(), NoMemory>
     Ok(())
 }
 
-#[tactic(auto, using(crate::proofs::Equations::EntrySteps::behind_steps))]
-fn blocks_behind(alloc: Global, blocks: &[GraphBlock]) -> Result<Vec<u32>, NoMemory>
-    ensures { IfOk result (λ bs. bs.items ≡ all_behind blocks.now) }
+#[tactic(auto, using(crate::proofs::Equations::EntrySteps::continuation_steps))]
+fn continuations_of(alloc: Global, blocks: &[GraphBlock]) -> Result<Vec<u32>, NoMemory>
+    ensures { IfOk result (λ bs. bs.items ≡ all_continuations blocks.now) }
 {
     let mut out = Vec::new(alloc);
     let mut blocks = blocks;
     while let Some((block, more)) = blocks.split_first() {
-        put_behind(&mut out, block)?;
+        put_continuations(&mut out, block)?;
         blocks = more;
     }
     Ok(out)
@@ -200,8 +201,8 @@ fn marked_entries(alloc: Global, graph: &Graph) -> Result<Vec<bool>, NoMemory>
     let mut marks = no_marks(alloc, blocks.len())?;
     let firsts = first_blocks(alloc, graph.functions())?;
     mark_all(&mut marks, firsts.as_slice());
-    let behind = blocks_behind(alloc, blocks)?;
-    mark_all(&mut marks, behind.as_slice());
+    let continuations = continuations_of(alloc, blocks)?;
+    mark_all(&mut marks, continuations.as_slice());
     let targets = targets(alloc, blocks)?;
     mark_repeated(&mut once, &mut marks, targets.as_slice());
     Ok(marks)

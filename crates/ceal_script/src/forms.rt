@@ -144,8 +144,8 @@ fn read_bound(rest: &[&[u8]]) -> Result<Command, LineError>
     }
 }
 
-/// What follows a keyword.
-fn behind(alloc: Global, word: Keyword, rest: &[&[u8]]) -> Result<Command, LineError>
+/// The command of a keyword with the words that follow it.
+fn read_arguments(alloc: Global, word: Keyword, rest: &[&[u8]]) -> Result<Command, LineError>
     ensures { Reads result (Says (keyword_text word ∷ texts rest.now)) }
 {
     match word {
@@ -169,7 +169,7 @@ fn named(alloc: Global, first: &[u8], rest: &[&[u8]]) -> Result<Command, LineErr
     ensures { Reads result (Says (first.now ∷ texts rest.now)) }
 {
     match read_keyword(first) {
-        Some(word) => behind(alloc, word, rest),
+        Some(word) => read_arguments(alloc, word, rest),
         None => Err(LineError::Unreadable),
     }
 }

@@ -63,9 +63,9 @@ pub fn split_words<'a>(alloc: Global, line: &'a [u8]) -> Result<LineWords<'a>, N
     let mut rest = line;
     loop {
         match first_word(rest) {
-            Some((word, behind)) => {
+            Some((word, after)) => {
                 words.push(word)?;
-                rest = behind;
+                rest = after;
             }
             None => return Ok(words),
         }

@@ -12,7 +12,7 @@ use Rattle.ceal_base.specs.declared.kind.Shape.{Shape}
 use Rattle.ceal_base.specs.declared.typed.StructInfo.{StructInfo}
 use Rattle.ceal_base.specs.declared.word.BlockId.{BlockId}
 use Rattle.ceal_base.specs.declared.word.Word.{Word}
-use Rattle.ceal_show.specs.Paths.{same_block, is_in, target_of, behind, IsPath, IsLess, IsPathOf, AreReached}
+use Rattle.ceal_show.specs.Paths.{same_block, is_in, target_of, target_at, IsPath, IsLess, IsPathOf, AreReached}
 use Rattle.ceal_show.specs.Search.{with_target, with_targets, AreClosed}
 use Rattle.ceal_show.specs.Shown.{Shown, shape_in, shape_at, words_in, words_at, word_at, target, IsThere, IsWhole}
 use Rattle.ceal_show.proofs.PathOrder.{IsAtMost, at_most_append, at_most_trans, at_most_not_less}
@@ -227,7 +227,7 @@ module _ (memory : Shown) (root : BlockId) (done : List Visit) (s : Searched mem
   nothing_waits : done ++ [] ≡ done
   nothing_waits = append-nil done
 
-  closed : (v : Visit) → Among v done → (field : ℕ) (b : BlockId) → behind memory v.block field ≡ Some b → Meets done b (v.path ++ field ∷ [])
+  closed : (v : Visit) → Among v done → (field : ℕ) (b : BlockId) → target_at memory v.block field ≡ Some b → Meets done b (v.path ++ field ∷ [])
   closed v h field b e = subst (λ (l : List Visit). Meets l b (v.path ++ field ∷ [])) nothing_waits (s.closed v h field b e)
 
   sound : Sound memory root done
@@ -278,7 +278,7 @@ module _ (memory : Shown) (root : BlockId) (done : List Visit) (s : Searched mem
     there = λ b h. let v = visited done b h in subst (λ (x : BlockId). IsSome (memory x)) v.2 (sound.there v.0 v.1);
     closed = λ b field c h e.
         let v = visited done b h in
-        let m = closed v.0 v.1 field c (subst (λ (x : BlockId). behind memory x field ≡ Some c) (sym v.2) e) in
+        let m = closed v.0 v.1 field c (subst (λ (x : BlockId). target_at memory x field ≡ Some c) (sym v.2) e) in
         subst (λ (x : BlockId). is_in x (blocks_of done) ≡ true) m.same (is_in-visit done m.by m.among);
   }
 

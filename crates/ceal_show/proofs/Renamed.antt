@@ -13,7 +13,7 @@ use Rattle.ceal_base.specs.declared.word.BlockId.TheVariants.{Input, Core}
 use Rattle.ceal_base.specs.declared.word.Word.{Word}
 use Rattle.ceal_base.specs.declared.word.Word.TheVariants.{Num, Null, Block as BlockWord, At}
 use Rattle.ceal_show.specs.Graph.{core_count, cores_before, label_text, Scene, word_text, fields_text, block_text, lines_text, IsGraphText}
-use Rattle.ceal_show.specs.Paths.{same_block, is_in, target_of, behind, IsPath, IsPathOf, AreReached}
+use Rattle.ceal_show.specs.Paths.{same_block, is_in, target_of, target_at, IsPath, IsPathOf, AreReached}
 use Rattle.ceal_show.specs.Renaming.{renamed_word, renamed_block, IsRenaming}
 use Rattle.ceal_show.specs.Shown.{Shown, shape_in, shape_at, words_in, words_at, word_at, target, IsThere, IsWhole}
 use Rattle.ceal_show.proofs.Same.{same_tells, same_self}
@@ -53,14 +53,14 @@ module _ (structs : List StructInfo) (rename : BlockId → BlockId) (from to : S
   shape-renamed : (b : BlockId) → IsSome (from b) → shape_at to (rename b) ≡ shape_at from b
   shape-renamed b h = let o = both b h in ap shape_in o.there ∙ sym (ap shape_in o.here)
 
-  behind-renamed : (b : BlockId) (field : ℕ) → IsSome (from b) → behind to (rename b) field ≡ option_map rename (behind from b field)
-  behind-renamed b field h =
+  target_at-renamed : (b : BlockId) (field : ℕ) → IsSome (from b) → target_at to (rename b) field ≡ option_map rename (target_at from b field)
+  target_at-renamed b field h =
       ap (λ (ws : List Word). target_of (slice_get ws field)) (words-renamed b h) ∙ ap target_of (slice_get-map (renamed_word rename) (words_at from b) field)
       ∙ target_of-renamed (word_at from b field)
 
   -- what a block leads to is there
-  behind_there : (b : BlockId) (field : ℕ) (c : BlockId) → behind from b field ≡ Some c → IsSome (from c)
-  behind_there b field c e = by_word (word_at from b field) refl e
+  target_there : (b : BlockId) (field : ℕ) (c : BlockId) → target_at from b field ≡ Some c → IsSome (from c)
+  target_there b field c e = by_word (word_at from b field) refl e
     where
       by_word : (o : Option Word) → word_at from b field ≡ o → target_of o ≡ Some c → IsSome (from c)
       by_word None f g = absurd cc
@@ -69,7 +69,7 @@ module _ (structs : List StructInfo) (rename : BlockId → BlockId) (from to : S
   forth : (path : List ℕ) (a b : BlockId) → IsSome (from a) → IsPath from a path b → IsPath to (rename a) path (rename b)
   unfolding IsPath
   forth [] a b h e = ap rename e
-  forth (field ∷ path) a b h (c, e, k) = (rename c, behind-renamed a field h ∙ ap (option_map rename) e, forth path c b (behind_there a field c e) k)
+  forth (field ∷ path) a b h (c, e, k) = (rename c, target_at-renamed a field h ∙ ap (option_map rename) e, forth path c b (target_there a field c e) k)
 
   -- a path in the other memory is one in this
   record Back (a : BlockId) (path : List ℕ) (c : BlockId) : Type 0 where
@@ -78,10 +78,10 @@ module _ (structs : List StructInfo) (rename : BlockId → BlockId) (from to : S
     leads : IsPath from a path block
     there : IsSome (from block)
 
-  one_back : (field : ℕ) (a d : BlockId) → IsSome (from a) → behind to (rename a) field ≡ Some d → (b : BlockId) × (behind from a field ≡ Some b) × (rename b ≡ d)
-  one_back field a d h e = by_target (behind from a field) refl (sym (behind-renamed a field h) ∙ e)
+  one_back : (field : ℕ) (a d : BlockId) → IsSome (from a) → target_at to (rename a) field ≡ Some d → (b : BlockId) × (target_at from a field ≡ Some b) × (rename b ≡ d)
+  one_back field a d h e = by_target (target_at from a field) refl (sym (target_at-renamed a field h) ∙ e)
     where
-      by_target : (o : Option BlockId) → behind from a field ≡ o → option_map rename o ≡ Some d → (b : BlockId) × (behind from a field ≡ Some b) × (rename b ≡ d)
+      by_target : (o : Option BlockId) → target_at from a field ≡ o → option_map rename o ≡ Some d → (b : BlockId) × (target_at from a field ≡ Some b) × (rename b ≡ d)
       by_target None f g = absurd cc
       by_target (Some b) f g = (b, f, cc)
 
@@ -90,13 +90,13 @@ module _ (structs : List StructInfo) (rename : BlockId → BlockId) (from to : S
   back [] a c h e = record { block = a; same = e; leads = refl; there = h }
   back (field ∷ path) a c h (d, e, k) =
       let s = one_back field a d h e in
-      let t = back path s.0 c (behind_there a field s.0 s.1) (subst (λ (x : BlockId). IsPath to x path c) (sym s.2) k) in
+      let t = back path s.0 c (target_there a field s.0 s.1) (subst (λ (x : BlockId). IsPath to x path c) (sym s.2) k) in
       record { block = t.block; same = t.same; leads = (s.0, s.1, t.leads); there = t.there }
 
   leads_there : (path : List ℕ) (a b : BlockId) → IsSome (from a) → IsPath from a path b → IsSome (from b)
   unfolding IsPath
   leads_there [] a b h e = subst (λ (x : BlockId). IsSome (from x)) e h
-  leads_there (field ∷ path) a b h (c, e, k) = leads_there path c b (behind_there a field c e) k
+  leads_there (field ∷ path) a b h (c, e, k) = leads_there path c b (target_there a field c e) k
 
   abbrev AreThere : List BlockId → Type 0
   AreThere blocks = AllByRecursion (λ b. IsSome (from b)) blocks

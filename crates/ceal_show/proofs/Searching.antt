@@ -3,7 +3,7 @@ use Rattle.std.proofs.Common.{◌≡◌, ℕ, ◌+◌, ◌<◌, ◌≤◌, Bool,
 use Rattle.std.specs.Prelude.{◌⊎◌, IsSome}
 use Rattle.std.proofs.lemmas.Bool.{false≢true, cases_lt}
 use Rattle.ceal_base.specs.declared.word.BlockId.{BlockId}
-use Rattle.ceal_show.specs.Paths.{same_block, is_in, behind, IsPath, IsLess, IsBelow, AreRising}
+use Rattle.ceal_show.specs.Paths.{same_block, is_in, target_at, IsPath, IsLess, IsBelow, AreRising}
 use Rattle.ceal_show.specs.Shown.{Shown}
 use Rattle.ceal_show.proofs.PathOrder.{IsAtMost, less_trans, less_append, less_last, less_more}
 use Rattle.ceal_show.proofs.Same.{same_tells}
@@ -46,14 +46,14 @@ pub record Sound (memory : Shown) (root : BlockId) (all : List Visit) : Type 0 w
 -- The fields of the visits that are done lead to blocks that were met; what waits is not looked at.
 pub record Searched (memory : Shown) (root : BlockId) (done waiting : List Visit) : Type 0 where
   pub sound : Sound memory root (done ++ waiting)
-  pub closed : (v : Visit) → Among v done → (field : ℕ) (b : BlockId) → behind memory v.block field ≡ Some b → Meets (done ++ waiting) b (v.path ++ field ∷ [])
+  pub closed : (v : Visit) → Among v done → (field : ℕ) (b : BlockId) → target_at memory v.block field ≡ Some b → Meets (done ++ waiting) b (v.path ++ field ∷ [])
   pub ahead : (v : Visit) → Among v waiting → (w : Visit) → Among w (done ++ waiting) → (field : ℕ) → IsLess w.path (v.path ++ field ∷ [])
 
 -- The same, where the fields below `at` of the visit `here` are looked at too.
 pub record Visiting (memory : Shown) (root : BlockId) (done : List Visit) (here : Visit) (at : ℕ) (waiting : List Visit) : Type 0 where
   pub sound : Sound memory root (done ++ here ∷ waiting)
-  pub closed : (v : Visit) → Among v done → (field : ℕ) (b : BlockId) → behind memory v.block field ≡ Some b → Meets (done ++ here ∷ waiting) b (v.path ++ field ∷ [])
-  pub closed_here : (field : ℕ) (b : BlockId) → field < at → behind memory here.block field ≡ Some b → Meets (done ++ here ∷ waiting) b (here.path ++ field ∷ [])
+  pub closed : (v : Visit) → Among v done → (field : ℕ) (b : BlockId) → target_at memory v.block field ≡ Some b → Meets (done ++ here ∷ waiting) b (v.path ++ field ∷ [])
+  pub closed_here : (field : ℕ) (b : BlockId) → field < at → target_at memory here.block field ≡ Some b → Meets (done ++ here ∷ waiting) b (here.path ++ field ∷ [])
   pub ahead : (v : Visit) → Among v waiting → (w : Visit) → Among w (done ++ here ∷ waiting) → (field : ℕ) → IsLess w.path (v.path ++ field ∷ [])
   pub ahead_here : (w : Visit) → Among w (done ++ here ∷ waiting) → (field : ℕ) → at ≤ field → IsLess w.path (here.path ++ field ∷ [])
 
@@ -118,9 +118,9 @@ rising_push (w ∷ []) v r h = (h w (inl refl), (tt, tt))
 rising_push (w ∷ x ∷ all) v r h = (r.0, rising_push (x ∷ all) v r.1 (λ y k. h y (inr k)))
 
 -- Leading.
-pub leads_more : (memory : Shown) (path : List ℕ) (a b c : BlockId) (field : ℕ) → IsPath memory a path b → behind memory b field ≡ Some c → IsPath memory a (path ++ field ∷ []) c
+pub leads_more : (memory : Shown) (path : List ℕ) (a b c : BlockId) (field : ℕ) → IsPath memory a path b → target_at memory b field ≡ Some c → IsPath memory a (path ++ field ∷ []) c
 unfolding IsPath
-leads_more memory [] a b c field h e = (c, subst (λ (x : BlockId). behind memory x field ≡ Some c) (sym h) e, refl)
+leads_more memory [] a b c field h e = (c, subst (λ (x : BlockId). target_at memory x field ≡ Some c) (sym h) e, refl)
 leads_more memory (f ∷ path) a b c field h e = (h.0, h.1, leads_more memory path h.0 b c field h.2 e)
 
 module _ (memory : Shown) (root : BlockId) where
@@ -175,27 +175,27 @@ module _ (memory : Shown) (root : BlockId) where
 
   module _ (done : List Visit) (here : Visit) (at : ℕ) (waiting : List Visit) (s : Visiting memory root done here at waiting) where
     -- the field leads nowhere
-    pub skip : behind memory here.block at ≡ None → Visiting memory root done here (at + 1) waiting
+    pub skip : target_at memory here.block at ≡ None → Visiting memory root done here (at + 1) waiting
     skip e = record {
       sound = s.sound;
       closed = s.closed;
       closed_here = λ field b h f. elim (below_or_at field at h) [
         | inl k ↦ s.closed_here field b k f
-        | inr k ↦ absurd (let g : Some b ≡ None = sym f ∙ ap (behind memory here.block) k ∙ e in cc)
+        | inr k ↦ absurd (let g : Some b ≡ None = sym f ∙ ap (target_at memory here.block) k ∙ e in cc)
       ];
       ahead = s.ahead;
       ahead_here = λ w k field h. s.ahead_here w k field (omega (arith, h));
     }
 
     -- it leads to a block that was met
-    pub pass : (b : BlockId) → behind memory here.block at ≡ Some b → is_in b (blocks_of (done ++ here ∷ waiting)) ≡ true → Visiting memory root done here (at + 1) waiting
+    pub pass : (b : BlockId) → target_at memory here.block at ≡ Some b → is_in b (blocks_of (done ++ here ∷ waiting)) ≡ true → Visiting memory root done here (at + 1) waiting
     pass b e known = record {
       sound = s.sound;
       closed = s.closed;
       closed_here = λ field c h f. elim (below_or_at field at h) [
         | inl k ↦ s.closed_here field c k f
         | inr k ↦
-            let g : Some b ≡ Some c = sym e ∙ ap (behind memory here.block) (sym k) ∙ f in
+            let g : Some b ≡ Some c = sym e ∙ ap (target_at memory here.block) (sym k) ∙ f in
             let same : b ≡ c = cc in
             let v = visited (done ++ here ∷ waiting) b known in
             record { by = v.0; among = v.1; same = v.2 ∙ same; least = inr (s.ahead_here v.0 v.1 field (omega (arith, k))) }
@@ -205,7 +205,7 @@ module _ (memory : Shown) (root : BlockId) where
     }
 
     -- it leads to a block that is met now
-    pub meet : (b : BlockId) → behind memory here.block at ≡ Some b → is_in b (blocks_of (done ++ here ∷ waiting)) ≡ false → IsSome (memory b)
+    pub meet : (b : BlockId) → target_at memory here.block at ≡ Some b → is_in b (blocks_of (done ++ here ∷ waiting)) ≡ false → IsSome (memory b)
         → Visiting memory root done here (at + 1) (waiting ++ visit b (here.path ++ at ∷ []) ∷ [])
     meet b e out there = record {
       sound = at_end (Sound memory root) (sound_more all new s.sound out there
@@ -232,11 +232,11 @@ module _ (memory : Shown) (root : BlockId) where
         at_end : (P : List Visit → Type 0) → P (all ++ new ∷ []) → P (done ++ here ∷ (waiting ++ new ∷ []))
         at_end P h = subst P same_end h
 
-        by_field : (field : ℕ) (c : BlockId) → field < at + 1 → behind memory here.block field ≡ Some c → Meets (all ++ new ∷ []) c (here.path ++ field ∷ [])
+        by_field : (field : ℕ) (c : BlockId) → field < at + 1 → target_at memory here.block field ≡ Some c → Meets (all ++ new ∷ []) c (here.path ++ field ∷ [])
         by_field field c h f = elim (below_or_at field at h) [
           | inl k ↦ meets_more all (new ∷ []) c (here.path ++ field ∷ []) (s.closed_here field c k f)
           | inr k ↦
-              let g : Some b ≡ Some c = sym e ∙ ap (behind memory here.block) (sym k) ∙ f in
+              let g : Some b ≡ Some c = sym e ∙ ap (target_at memory here.block) (sym k) ∙ f in
               let same : b ≡ c = cc in
               record { by = new; among = among_right new all (new ∷ []) (inl refl); same = same; least = inl (ap (λ (n : ℕ). here.path ++ n ∷ []) (sym k)) }
         ]
@@ -260,7 +260,7 @@ module _ (memory : Shown) (root : BlockId) where
         before_here w (inr (inr k)) field h = absurd k
 
     -- all fields are looked at
-    pub finish : ((field : ℕ) → at ≤ field → behind memory here.block field ≡ None) → Searched memory root (done ++ here ∷ []) waiting
+    pub finish : ((field : ℕ) → at ≤ field → target_at memory here.block field ≡ None) → Searched memory root (done ++ here ∷ []) waiting
     finish none = record {
       sound = at_end (Sound memory root) s.sound;
       closed = λ v h field b e. at_end (λ (l : List Visit). Meets l b (v.path ++ field ∷ [])) (by_visit v (among_parts v done (here ∷ []) h) field b e);
@@ -273,15 +273,15 @@ module _ (memory : Shown) (root : BlockId) where
         at_end : (P : List Visit → Type 0) → P (done ++ here ∷ waiting) → P ((done ++ here ∷ []) ++ waiting)
         at_end P h = subst P same_end h
 
-        by_field : (field : ℕ) (b : BlockId) → behind memory here.block field ≡ Some b → Meets (done ++ here ∷ waiting) b (here.path ++ field ∷ [])
+        by_field : (field : ℕ) (b : BlockId) → target_at memory here.block field ≡ Some b → Meets (done ++ here ∷ waiting) b (here.path ++ field ∷ [])
         by_field field b e = elim (cases_lt field at) [
           | inl k ↦ s.closed_here field b k e
           | inr k ↦ absurd (let g : Some b ≡ None = sym e ∙ none field k in cc)
         ]
 
-        by_visit : (v : Visit) → Among v done ⊎ Among v (here ∷ []) → (field : ℕ) (b : BlockId) → behind memory v.block field ≡ Some b → Meets (done ++ here ∷ waiting) b (v.path ++ field ∷ [])
+        by_visit : (v : Visit) → Among v done ⊎ Among v (here ∷ []) → (field : ℕ) (b : BlockId) → target_at memory v.block field ≡ Some b → Meets (done ++ here ∷ waiting) b (v.path ++ field ∷ [])
         by_visit v (inl h) field b e = s.closed v h field b e
         by_visit v (inr (inl h)) field b e = subst
             (λ (x : Visit). Meets (done ++ here ∷ waiting) b (x.path ++ field ∷ [])) (sym h)
-            (by_field field b (subst (λ (x : Visit). behind memory x.block field ≡ Some b) h e))
+            (by_field field b (subst (λ (x : Visit). target_at memory x.block field ≡ Some b) h e))
         by_visit v (inr (inr h)) field b e = absurd h

@@ -24,13 +24,13 @@ target_of None = None
 target_of (Some word) = target word
 
 -- the block to which the field of a block leads, through a pointer to it or to a modifiable in it
-abbrev pub behind : Shown → BlockId → ℕ → Option BlockId
-behind memory b field = target_of (word_at memory b field)
+abbrev pub target_at : Shown → BlockId → ℕ → Option BlockId
+target_at memory b field = target_of (word_at memory b field)
 
 -- A path is a list of field numbers; it leads from the one block to the other.
 unfoldable pub IsPath : Shown → BlockId → List ℕ → BlockId → Type 0
 IsPath memory a [] b = a ≡ b
-IsPath memory a (field ∷ path) b = (c : BlockId) × (behind memory a field ≡ Some c) × IsPath memory c path b
+IsPath memory a (field ∷ path) b = (c : BlockId) × (target_at memory a field ≡ Some c) × IsPath memory c path b
 
 -- at the first difference the first path has the smaller number
 abbrev pub IsEarlier : List ℕ → List ℕ → Type 0

@@ -3,7 +3,7 @@ use Rattle.std.specs.Prelude.{◌≡◌, ℕ, ◌+◌, Option, Some, None, IsSom
 use Rattle.ceal_base.specs.declared.word.BlockId.{BlockId}
 use Rattle.ceal_base.specs.declared.word.Word.{Word}
 use Rattle.ceal_show.specs.Shown.{Shown, target}
-use Rattle.ceal_show.specs.Paths.{is_in, behind}
+use Rattle.ceal_show.specs.Paths.{is_in, target_at}
 use Rattle.ceal_show.specs.Graph.{core_count, cores_before}
 
 -- the blocks with one more at the end, unless it is among them
@@ -38,4 +38,4 @@ AreAmong blocks (Some b) = IsTrue (is_in b blocks)
 pub record AreClosed (memory : Shown) (blocks : List BlockId) : Type 0 where
   pub there : (b : BlockId) → IsTrue (is_in b blocks) → IsSome (memory b)
   pub closed : (b : BlockId) (field : ℕ) (c : BlockId) → IsTrue (is_in b blocks)
-      → behind memory b field ≡ Some c → IsTrue (is_in c blocks)
+      → target_at memory b field ≡ Some c → IsTrue (is_in c blocks)

@@ -27,6 +27,12 @@ pub record Begun (code : Code) (r : Record) (m : TraceMemory) (is : List Item) (
   pub items : is ≡ r.forest
   pub arguments : args ≡ r.args
 
+pub begins : {code : Code} {r : Record} {m : TraceMemory} {is : List Item} {args : List Word} → code_in m ≡ code
+    → plain_in m ≡ input_plain code r.inputs → store_in m ≡ bases code r.inputs → is ≡ r.forest → args ≡ r.args
+    → Begun code r m is args
+begins program plain store items arguments =
+    record { program = program; plain = plain; store = store; items = items; arguments = arguments }
+
 -- the memory after the items' blocks were learnt
 pub record Learns (m learnt : TraceMemory) (is : List Item) : Type 0 where
   pub program : code_in learnt ≡ code_in m

@@ -87,7 +87,7 @@ fn are_inputs(memory: &TraceMemory<'_>, blocks: &[BlockWords]) -> Result<bool, N
 }
 
 /// The blocks after the one that the memory has of this number, if that is the first of them.
-fn behind<'b>(
+fn blocks_after<'b>(
     memory: &TraceMemory<'_>,
     id: BlockId,
     blocks: &'b [BlockWords],
@@ -123,7 +123,7 @@ fn left_over<'b>(
         ↔ AreMade (memory_in memory.now) is more.now)) }
 {
     match item {
-        Item::Alloc { block, .. } => behind(memory, *block, blocks),
+        Item::Alloc { block, .. } => blocks_after(memory, *block, blocks),
         Item::Step => Ok(Some(blocks)),
         Item::Write { .. } => Ok(Some(blocks)),
         Item::Read { .. } => Ok(Some(blocks)),

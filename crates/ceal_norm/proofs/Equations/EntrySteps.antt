@@ -10,24 +10,24 @@ use Rattle.ceal_flow.specs.Paths.{jumps}
 use Rattle.ceal_flow.specs.Program.{Graph}
 use Rattle.ceal_flow.specs.Sets.{is_in}
 use Rattle.ceal_flow.specs.declared.block.GraphBlock.{GraphBlock}
-use Rattle.ceal_norm.specs.Entries.{behind, all_behind, all_jumps, count, is_entry, entries_before}
+use Rattle.ceal_norm.specs.Entries.{continuations, all_continuations, all_jumps, count, is_entry, entries_before}
 use Rattle.ceal_norm.specs.Table.{is_marked, table}
 use Rattle.ceal_norm.proofs.Jumps.JumpCounts.{count-append}
 
-pub behind-none : all_behind [] ≡ []
-unfolding all_behind
-behind-none = refl
+pub continuations-none : all_continuations [] ≡ []
+unfolding all_continuations
+continuations-none = refl
 
-pub behind-end : (bs : List GraphBlock) → length bs ≡ 0 → all_behind bs ≡ []
-unfolding all_behind
-behind-end [] h = refl
-behind-end (b ∷ bs) h = absurd (omega (arith, h))
+pub continuations-end : (bs : List GraphBlock) → length bs ≡ 0 → all_continuations bs ≡ []
+unfolding all_continuations
+continuations-end [] h = refl
+continuations-end (b ∷ bs) h = absurd (omega (arith, h))
 
-pub behind-cons : (b : GraphBlock) (bs : List GraphBlock) → all_behind (b ∷ bs) ≡ behind b ++ all_behind bs
-unfolding all_behind
-behind-cons b bs = refl
+pub continuations-cons : (b : GraphBlock) (bs : List GraphBlock) → all_continuations (b ∷ bs) ≡ continuations b ++ all_continuations bs
+unfolding all_continuations
+continuations-cons b bs = refl
 
-pub ruleset behind_steps = (behind-none, behind-end, behind-cons, append-nil, append_assoc)
+pub ruleset continuation_steps = (continuations-none, continuations-end, continuations-cons, append-nil, append_assoc)
 
 pub jumps-end : (bs : List GraphBlock) → length bs ≡ 0 → all_jumps bs ≡ []
 unfolding all_jumps

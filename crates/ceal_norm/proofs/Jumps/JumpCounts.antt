@@ -7,7 +7,7 @@ use Rattle.ceal_flow.specs.Paths.{jumps, jumps_at}
 use Rattle.ceal_flow.specs.Program.{Graph}
 use Rattle.ceal_flow.specs.Sets.{is_in}
 use Rattle.ceal_flow.specs.declared.block.GraphBlock.{GraphBlock}
-use Rattle.ceal_norm.specs.Entries.{all_behind, all_jumps, count, is_entry}
+use Rattle.ceal_norm.specs.Entries.{all_continuations, all_jumps, count, is_entry}
 
 pub contains-none : (c : ℕ) → Contains [] c → ⊥
 contains-none c h = let l = h.1 in omega (arith, l)
@@ -83,12 +83,12 @@ module _ (g : Graph) where
   -- a function's first block is an entry
   pub first-entry : (b : ℕ) → Contains (firsts g.functions) b → is_entry g b ≡ true
   first-entry b h =
-      or_left (is_in b (firsts g.functions) || is_in b (all_behind g.blocks)) (nat_le 2 (count b (all_jumps g.blocks)))
-      (or_left (is_in b (firsts g.functions)) (is_in b (all_behind g.blocks)) (contains-is_in (firsts g.functions) b h))
+      or_left (is_in b (firsts g.functions) || is_in b (all_continuations g.blocks)) (nat_le 2 (count b (all_jumps g.blocks)))
+      (or_left (is_in b (firsts g.functions)) (is_in b (all_continuations g.blocks)) (contains-is_in (firsts g.functions) b h))
 
   two-entry : (c : ℕ) → 2 ≤ count c (all_jumps g.blocks) → is_entry g c ≡ true
   two-entry c h =
-      or_right (is_in c (firsts g.functions) || is_in c (all_behind g.blocks)) (nat_le 2 (count c (all_jumps g.blocks)))
+      or_right (is_in c (firsts g.functions) || is_in c (all_continuations g.blocks)) (nat_le 2 (count c (all_jumps g.blocks)))
       (le-leb 2 (count c (all_jumps g.blocks)) h)
 
   -- so is what two blocks jump to

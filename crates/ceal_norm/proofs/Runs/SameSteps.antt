@@ -60,7 +60,7 @@ use Rattle.ceal_norm.proofs.Runs.SameValues.{expr-same, exprs-same, arg-same}
 use Rattle.ceal_norm.proofs.Runs.WordsOfVariables.{instead, woven-map, values-map, values-own, set-word, set-long}
 use Rattle.ceal_norm.proofs.Validity.StatementsAtEntries.{Function, StandsIn, ViewIn, view-in, Spot, context, function-of, init-usage, init-function}
 use Rattle.ceal_norm.proofs.Validity.StatementsAtBlocks.{over as is_end, tests, acts}
-use Rattle.ceal_norm.proofs.Validity.UnitsOfEntries.{behind-entry}
+use Rattle.ceal_norm.proofs.Validity.UnitsOfEntries.{continuation-entry}
 
 -- the function of which it holds
 pub record Found (o : Option TypedFunction) (P : TypedFunction → Type 0) : Type 0 where
@@ -302,7 +302,8 @@ module _ (p : Typed) (sets : List (List ℕ)) (typed : WellTyped p) (kept : Keep
         read-along : (w w' : Word) (held : Option Kind) → is_entry graph next ≡ true → w ≡ w' → kind_held held ≡ Some kind
             → AllAlong p sets (record { block = next; env = slice_set q.env n (content_of m w' (content_default held)) } ∷ points)
             (code_entered the_code (entry_unit p sets next)
-            (words_after_read the_code (entry_unit p sets next) n (values p.structs (block_at m) env (closure_args source n next)) (content_of m w (variable_default the_code (entry_unit p sets next) n))) below)
+            (words_after_read the_code (entry_unit p sets next) n (values p.structs (block_at m) env (closure_args source n next))
+            (content_of m w (variable_default the_code (entry_unit p sets next) n))) below)
         read-along w w' held e same h =
             let x = entry_unit p sets next in
             let spot = spot-at next after stands in
@@ -316,7 +317,8 @@ module _ (p : Typed) (sets : List (List ℕ)) (typed : WellTyped p) (kept : Keep
             ∙ woven-map (live_at next) n value env in
             let wide = along.wide in
             let long = set-long q.env n value' in (
-              inl (enter-along p sets (record { block = next; env = slice_set q.env n value' }) spot (omega (arith, wide, long)) e (words_after_read the_code x n args value) (instead n value env) words
+              inl (enter-along p sets (record { block = next; env = slice_set q.env n value' }) spot (omega (arith, wide, long)) e
+                  (words_after_read the_code x n args value) (instead n value env) words
                   (after-set (Act st next) look next n value value' leads next-there assigned has-room value_same)),
               others,
             )
@@ -334,11 +336,12 @@ module _ (p : Typed) (sets : List (List ℕ)) (typed : WellTyped p) (kept : Keep
             })
         value-step (ReadValue at e) mention closes is t usage =
             let same = expr-same (context p along.spot.function.f) inner m env q.env e t.0 (λ v h. used (Act st next) look v (rw mention h)) in
-            let entry = behind-entry graph q.block next st look closes in
+            let entry = continuation-entry graph q.block next st look closes in
             let w = expr_value p.structs (block_at m) env (expr_code e) in
             let args = values p.structs (block_at m) env (closure_args source n next) in
             step-by _ (Read (variable n) (expr_code e) (unit_of source next) (closure_args source n next)) [] _ part-there is (record {
-              after = code_entered the_code (entry_unit p sets next) (words_after_read the_code (entry_unit p sets next) n args (content_of m w (variable_default the_code (entry_unit p sets next) n))) below;
+              after = code_entered the_code (entry_unit p sets next)
+                  (words_after_read the_code (entry_unit p sets next) n args (content_of m w (variable_default the_code (entry_unit p sets next) n))) below;
               goes_on = λ again k. read-ran the_code again k m w (unit_of source next) n args below;
               steps = λ k. read-steps the_code k m w (unit_of source next) n args below;
               along = read-along w (value_of q.env m e) e.kind entry same t.1;
@@ -410,7 +413,7 @@ module _ (p : Typed) (sets : List (List ℕ)) (typed : WellTyped p) (kept : Keep
           let fn = core-function f core in
           let first = first_of fn.f.body fn.home.start in
           let ws = values_of q.env m args in
-          let entry = behind-entry graph q.block next st look closes in
+          let entry = continuation-entry graph q.block next st look closes in
           let words = values p.structs (block_at m) env (call_args args (entry_set source (slice_get graph.functions f))) in
           let words_are : words ≡ map (λ v. variable_of ws v) (live_at first) =
           ap (λ o. values p.structs (block_at m) env (call_args args (entry_set source o))) fn.home.function

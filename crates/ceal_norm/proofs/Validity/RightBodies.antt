@@ -235,7 +235,8 @@ module _ (code : Code) (f : ℕ) where
       ap (λ p. reached (before ++ (replicate rest false ++ after)) (all_followers p i)) is
       ∙ ap (λ k. reached (before ++ (replicate k false ++ after)) (all_followers (c ∷ (first ++ second)) i)) both
       ∙ ap (λ bs. reached (before ++ bs) (all_followers (c ∷ (first ++ second)) i)) (replicate-append false (suc m) (suc n) after)
-      ∙ ap (reached (before ++ false ∷ (lf ++ false ∷ (rf ++ after)))) (all-followers-cons c (first ++ second) i ∙ ap (λ is. (i + 1) ∷ (i + 1 + length first) ∷ is) (all-followers-append first second (i + 1)))
+      ∙ ap (reached (before ++ false ∷ (lf ++ false ∷ (rf ++ after)))) (all-followers-cons c (first ++ second) i
+      ∙ ap (λ is. (i + 1) ∷ (i + 1 + length first) ∷ is) (all-followers-append first second (i + 1)))
       ∙ reach before (lf ++ false ∷ (rf ++ after)) (i + 1) ((i + 1 + length first) ∷ (js ++ ks)) at
       ∙ ap (λ bs. reached bs ((i + 1 + length first) ∷ (js ++ ks))) (sym (one-more before (lf ++ false ∷ (rf ++ after)) true) ∙ sym (append_assoc (before ++ true ∷ []) lf (false ∷ (rf ++ after))))
       ∙ reach ((before ++ true ∷ []) ++ lf) (rf ++ after) (i + 1 + length first) (js ++ ks) (omega (arith, at, longer, front, lm, a))

@@ -39,7 +39,7 @@ use Rattle.ceal_norm.proofs.Validity.RightCommands.{Covers, kinds-are, seen-live
 use Rattle.ceal_norm.proofs.Validity.LiveVariablesInScope.{match, used-live, jump-live}
 use Rattle.ceal_norm.proofs.Validity.StatementsAtEntries.{Function, StandsIn, ViewIn, view-in, context}
 use Rattle.ceal_norm.proofs.Validity.StatementsAtBlocks.{over, tests, acts}
-use Rattle.ceal_norm.proofs.Validity.UnitsOfEntries.{behind-entry}
+use Rattle.ceal_norm.proofs.Validity.UnitsOfEntries.{continuation-entry}
 
 -- a test that is not met
 pub not-same : (n v : ℕ) → (n ≡ v → ⊥) → not (n == v) ≡ true
@@ -114,7 +114,8 @@ module _ (p : Typed) (typed : WellTyped p) (kept : KeepsUsage p) (sets : List (L
           → ((v : ℕ) → is_in v (value_mentions value) ≡ true → Knows known v) → (is_read value ≡ true → is_entry (graph_of p) next ≡ true)
           → Here i known stepped (value_code src on next i n value)
       value-good stepped (Plain e) t u h closure =
-          line (command.Move (variable n) (expr_code e)) (on next (i + 1)) (slice_set known n true) refl (slot-fits p typed kept sets live k fn known seen n kind e slot t h) (λ j. refl) (λ w. refl) rest-good
+          line (command.Move (variable n) (expr_code e)) (on next (i + 1)) (slice_set known n true) refl
+          (slot-fits p typed kept sets live k fn known seen n kind e slot t h) (λ j. refl) (λ w. refl) rest-good
       value-good stepped (Read at e) t u h closure =
           leaf (command.Read (variable n) (expr_code e) (unit_of src next) (closure_args src n next)) refl
           (both-true _ _ (place-fits p typed kept sets live k fn known seen n kind e slot t.0 t.1 h) (read-fits p typed kept sets live k fn known outer next n st (closure refl) carries))
@@ -133,7 +134,8 @@ module _ (p : Typed) (typed : WellTyped p) (kept : KeepsUsage p) (sets : List (L
       fewer c block look j e = let l = forward b c (rw look j) e in omega (arith, l, deep)
 
       -- what is live after a block that does not assign it is known
-      carried : (c v : ℕ) (block : GraphBlock) → slice_get (graph_of p).blocks b ≡ Some block → keeps v block ≡ true → Contains (jumps block) c → c < all → is_in v (set_at sets c) ≡ true → Knows known v
+      carried : (c v : ℕ) (block : GraphBlock) → slice_get (graph_of p).blocks b ≡ Some block → keeps v block ≡ true
+          → Contains (jumps block) c → c < all → is_in v (set_at sets c) ≡ true → Knows known v
       carried c v block look keep j within h = cover v (jump-live (graph_of p).blocks sets live b c v block look keep j within h)
 
       used : (v : ℕ) (block : GraphBlock) → slice_get (graph_of p).blocks b ≡ Some block → is_in v (uses block) ≡ true → Knows known v
@@ -162,7 +164,8 @@ module _ (p : Typed) (typed : WellTyped p) (kept : KeepsUsage p) (sets : List (L
             (write-fits p typed kept sets live k fn known inner place e m.item t.0 m.is m.holds (λ v h. used v (Act (Write at place e) next) look (in-left v (mentions place) (mentions e) h))
             (λ v h. used v (Act (Write at place e) next) look (in-right v (mentions place) (mentions e) h)))
             (λ j. refl) (λ w. refl)
-            (jump-good next (i + 1) inner known st (λ v h. carried next v (Act (Write at place e) next) look refl only (there-is p typed kept sets live k fn _ next st) h) long (fewer next _ look only))
+            (jump-good next (i + 1) inner known st (λ v h. carried next v (Act (Write at place e) next) look refl only (there-is p typed kept sets live k fn _ next st) h)
+            long (fewer next _ look only))
         stmt-good (Call at f args) inner nx look t u simple st closure =
             leaf _ refl
             (both-true _ _ (call-fits p typed kept sets live k fn known inner f args t.0 t.1 u (λ v h. used v (Act (Call at f args) next) look h))
@@ -193,7 +196,7 @@ module _ (p : Typed) (typed : WellTyped p) (kept : KeepsUsage p) (sets : List (L
           (jump-good x (i + 1) inner known one (λ v h. carried x v block look refl to-x (there-is p typed kept sets live k fn _ x one) h) long (fewer x block look to-x))
           (jump-good y (i + 1 + length first) inner known two (λ v h. carried y v block look refl to-y (there-is p typed kept sets live k fn _ y two) h) long (fewer y block look to-y)))
       block-good (acts s next nx inner look within t usage simple st) =
-          rw look (stmt-good next s inner nx look t usage simple st (λ h. behind-entry (graph_of p) b next s look h))
+          rw look (stmt-good next s inner nx look t usage simple st (λ h. continuation-entry (graph_of p) b next s look h))
 
   grows-all : (d : ℕ) → Grows d
   unfolding tree

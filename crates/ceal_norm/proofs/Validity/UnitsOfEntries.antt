@@ -21,7 +21,7 @@ use Rattle.ceal_flow.specs.declared.block.GraphBlock.TheVariants.{Done, Test, Ac
 use Rattle.ceal_flow.specs.declared.function.GraphFunction.{GraphFunction}
 use Rattle.ceal_flow.specs.declared.function.GraphFunction.TheVariants.{Core, Init}
 use Rattle.ceal_flow.proofs.ListFacts.{get-left, get-right}
-use Rattle.ceal_norm.specs.Entries.{has_closure, behind, all_behind, all_jumps, count, is_entry, entries_before}
+use Rattle.ceal_norm.specs.Entries.{has_closure, continuations, all_continuations, all_jumps, count, is_entry, entries_before}
 use Rattle.ceal_norm.specs.Units.{Source, unit_code, units_before}
 use Rattle.ceal_norm.proofs.Jumps.JumpsLeadToBlocks.{jump-reached}
 use Rattle.ceal_norm.proofs.Jumps.JumpCounts.{first-entry}
@@ -81,18 +81,18 @@ module _ (s : Source) where
         units-if (is_entry s.graph n) (units_before s n) (unit_code s n) (units-all n (λ b e l. h b e (omega (arith, l)))) (λ e. h n e (omega arith))
 
 -- entries
-behind-in : (blocks : List GraphBlock) (b c : ℕ) (block : GraphBlock) → slice_get blocks b ≡ Some block → is_in c (behind block) ≡ true → is_in c (all_behind blocks) ≡ true
-unfolding all_behind
-behind-in [] b c block e h = cc
-behind-in (x ∷ xs) zero c block e h = let same : x ≡ block = cc in in-left c (behind x) (all_behind xs) (rw same h)
-behind-in (x ∷ xs) (suc b) c block e h = in-right c (behind x) (all_behind xs) (behind-in xs b c block e h)
+continuation-in : (blocks : List GraphBlock) (b c : ℕ) (block : GraphBlock) → slice_get blocks b ≡ Some block → is_in c (continuations block) ≡ true → is_in c (all_continuations blocks) ≡ true
+unfolding all_continuations
+continuation-in [] b c block e h = cc
+continuation-in (x ∷ xs) zero c block e h = let same : x ≡ block = cc in in-left c (continuations x) (all_continuations xs) (rw same h)
+continuation-in (x ∷ xs) (suc b) c block e h = in-right c (continuations x) (all_continuations xs) (continuation-in xs b c block e h)
 
-pub behind-entry : (g : Graph) (b c : ℕ) (s : TypedStmt) → slice_get g.blocks b ≡ Some (Act s c) → has_closure s ≡ true → is_entry g c ≡ true
-behind-entry g b c s look h =
-    let here : is_in c (behind (Act s c)) ≡ true = rw h (in-first c []) in
-    let inside = behind-in g.blocks b c (Act s c) look here in
-    or_left (is_in c (firsts g.functions) || is_in c (all_behind g.blocks)) (nat_le 2 (count c (all_jumps g.blocks)))
-    (or_right (is_in c (firsts g.functions)) (is_in c (all_behind g.blocks)) inside)
+pub continuation-entry : (g : Graph) (b c : ℕ) (s : TypedStmt) → slice_get g.blocks b ≡ Some (Act s c) → has_closure s ≡ true → is_entry g c ≡ true
+continuation-entry g b c s look h =
+    let here : is_in c (continuations (Act s c)) ≡ true = rw h (in-first c []) in
+    let inside = continuation-in g.blocks b c (Act s c) look here in
+    or_left (is_in c (firsts g.functions) || is_in c (all_continuations g.blocks)) (nat_le 2 (count c (all_jumps g.blocks)))
+    (or_right (is_in c (firsts g.functions)) (is_in c (all_continuations g.blocks)) inside)
 
 first-in : (gs : List GraphFunction) (k : ℕ) (name : List ℕ) (first params : ℕ) (kinds : List Kind) → slice_get gs k ≡ Some (Core name first params kinds) → Contains (firsts gs) first
 first-in [] k name first params kinds e = cc
@@ -121,22 +121,22 @@ record Jumps (blocks : List GraphBlock) (c : ℕ) : Type 0 where
 later-jump : (x : GraphBlock) (xs : List GraphBlock) (c : ℕ) → Jumps xs c → Jumps (x ∷ xs) c
 later-jump x xs c j = record { b = suc j.b; leads = j.leads }
 
-behind-if : (t : Bool) (n c : ℕ) → is_in c (if t then n ∷ [] else []) ≡ true → is_in c (n ∷ []) ≡ true
-behind-if true n c h = h
-behind-if false n c h = cc
+continuation-if : (t : Bool) (n c : ℕ) → is_in c (if t then n ∷ [] else []) ≡ true → is_in c (n ∷ []) ≡ true
+continuation-if true n c h = h
+continuation-if false n c h = cc
 
-behind-jumps : (block : GraphBlock) (c : ℕ) → is_in c (behind block) ≡ true → is_in c (jumps block) ≡ true
-behind-jumps Done c h = h
-behind-jumps (Test test a b) c h = cc
-behind-jumps (Act s next) c h = behind-if (has_closure s) next c h
-behind-jumps Unreached c h = h
+continuation-jumps : (block : GraphBlock) (c : ℕ) → is_in c (continuations block) ≡ true → is_in c (jumps block) ≡ true
+continuation-jumps Done c h = h
+continuation-jumps (Test test a b) c h = cc
+continuation-jumps (Act s next) c h = continuation-if (has_closure s) next c h
+continuation-jumps Unreached c h = h
 
-behind-from : (blocks : List GraphBlock) (c : ℕ) → is_in c (all_behind blocks) ≡ true → Jumps blocks c
-unfolding all_behind
-behind-from [] c h = cc
-behind-from (x ∷ xs) c h = elim (in-either c (behind x) (all_behind xs) h) [
-  | inl k ↦ record { b = 0; leads = in-contains c (jumps x) (behind-jumps x c k) }
-  | inr k ↦ later-jump x xs c (behind-from xs c k)
+continuation-from : (blocks : List GraphBlock) (c : ℕ) → is_in c (all_continuations blocks) ≡ true → Jumps blocks c
+unfolding all_continuations
+continuation-from [] c h = cc
+continuation-from (x ∷ xs) c h = elim (in-either c (continuations x) (all_continuations xs) h) [
+  | inl k ↦ record { b = 0; leads = in-contains c (jumps x) (continuation-jumps x c k) }
+  | inr k ↦ later-jump x xs c (continuation-from xs c k)
 ]
 
 counted-in : (c : ℕ) (xs : List ℕ) → 1 ≤ count c xs → is_in c xs ≡ true
@@ -160,12 +160,12 @@ module _ (p : Typed) where
   pub entry-reached : (c : ℕ) → is_entry (graph_of p) c ≡ true → IsReached (graph_of p) c
   entry-reached c h =
       let gs = firsts (graph_of p).functions in
-      let bs = all_behind (graph_of p).blocks in
+      let bs = all_continuations (graph_of p).blocks in
       let js = all_jumps (graph_of p).blocks in
       elim (or_cases (is_in c gs || is_in c bs) (nat_le 2 (count c js)) h) [
         | inl k ↦ elim (or_cases (is_in c gs) (is_in c bs) k) [
           | inl m ↦ (c, in-contains c gs m, stays)
-          | inr m ↦ let j = behind-from (graph_of p).blocks c m in jump-reached p j.b c j.leads
+          | inr m ↦ let j = continuation-from (graph_of p).blocks c m in jump-reached p j.b c j.leads
         ]
         | inr k ↦
             let two = leb-true 2 (count c js) k in

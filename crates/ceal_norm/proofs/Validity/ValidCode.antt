@@ -100,7 +100,8 @@ module _ (structs : List StructInfo) where
   structs-right [] h = refl
   structs-right (s ∷ rest) h =
       let t = All-head (StructTyped structs) s rest h in
-      both-true _ _ (both-true _ _ (le-leb (length s.fields) 255 t.few) (both-true _ _ (fields-right s.fields t.fields) (rows-right s.fields t.rows))) (structs-right rest (All-tail (StructTyped structs) s rest h))
+      both-true _ _ (both-true _ _ (le-leb (length s.fields) 255 t.few) (both-true _ _ (fields-right s.fields t.fields) (rows-right s.fields t.rows)))
+      (structs-right rest (All-tail (StructTyped structs) s rest h))
 
 prefix-right : (n : ℕ) (ks : List Kind) → is_prefix (take n ks) ks ≡ true
 unfolding is_prefix

@@ -5,6 +5,7 @@ use Rattle.ceal_adjust.proofs.Starting.{fix-begins, answered-by}
 use Rattle.ceal_adjust.specs.Machines.{code_of, machine_in}
 use Rattle.ceal_adjust.proofs.adjust.adjust.Goals as goal
 
+-- the machine ended, and wrote the repair, or it wrote more steps than the fuel, and so does each repair
 pub returns : goal.returns
 returns c = record {
   answer = λ old f args l flat edited. adjust-answer c.args.code.now old c.args.inputs.now f args l c.args.next edited c.args.fuel c.in_ok-answer.answer

@@ -5,6 +5,7 @@ use Rattle.ceal_adjust.proofs.Starting.{first-begins, answered-by}
 use Rattle.ceal_adjust.specs.Machines.{code_of, machine_in}
 use Rattle.ceal_adjust.proofs.adjust.first_forest.Goals as goal
 
+-- the same, where nothing is left over: what the machine writes is the first trace
 pub returns : goal.returns
 returns c = record {
   answer = first-answer c.args.code.now c.args.inputs.now c.args.function c.args.args.now c.requires.fits c.args.fuel c.in_ok-answer.answer

@@ -7,6 +7,7 @@ use Rattle.ceal_adjust.proofs.known.known_below.Goals as goal
 pub loop-number-init : goal.loop-number-init
 loop-number-init c = below-zero (plain_in c.args.memory.now) c.new-known.result (c.new-known.ensures.value ∙ c.new.ensures.items)
 
+-- a block of this number is added to the list if it is known
 pub loop-number-preserved : goal.loop-number-preserved
 loop-number-preserved c = elim c.match-branch-2.branch [
   | in-Some+in_ok-push w ↦ rw (w.known-is, w.in_ok-push.ensures.ok)

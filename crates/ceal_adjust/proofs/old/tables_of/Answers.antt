@@ -4,6 +4,7 @@ use Rattle.ceal_adjust.proofs.MarkSteps.{depth-zero, depths-zero, depth-next, de
 use Rattle.ceal_adjust.specs.Places.{listed}
 use Rattle.ceal_adjust.proofs.old.tables_of.Goals as goal
 
+-- no item was entered
 pub loop-item-init : goal.loop-item-init
 loop-item-init c = record {
   counted = refl;
@@ -12,6 +13,7 @@ loop-item-init c = record {
   places = λ m. places-zero c.args.items.now m _ (c.new-table.ensures.nothing m);
 }
 
+-- this item is entered with its depth, under its mark
 pub loop-item-preserved : goal.loop-item-preserved
 loop-item-preserved c =
     let at : slice_get c.args.items.now c.loop-item.item-index ≡ Some c.item-item.result =

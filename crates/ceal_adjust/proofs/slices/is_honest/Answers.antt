@@ -5,6 +5,7 @@ use Rattle.ceal_base.specs.Trace.{flat}
 use Rattle.ceal_adjust.proofs.Sliced.{agrees-there, stale-there, agrees-done, stale-more}
 use Rattle.ceal_adjust.proofs.slices.is_honest.Goals as goal
 
+-- no read is stale, so each agrees with the walk
 pub returns-in-None : goal.returns-in-None
 returns-in-None c = λ r f args fits stands sound. (
   λ t. agrees-done c.args.code.now c.args.inputs.now f args fits 0 r sound
@@ -15,6 +16,7 @@ returns-in-None c = λ r f args fits stands sound. (
   λ h. refl,
 )
 
+-- a stale read does not agree with the walk
 pub returns : goal.returns
 returns c = λ r f args fits stands sound. (
   λ t. absurd cc,

@@ -10,6 +10,7 @@ loop-turns-init c = record {
   reached = λ r f args fits stands sound. reached-first c.args.code.now c.args.inputs.now f args fits c.args.fuel r sound c.args.repair stands;
 }
 
+-- the number of reads was re-executed, and so the slice is over
 pub returns-then-is_last-clause-slice : goal.returns-then-is_last-clause-slice
 returns-then-is_last-clause-slice c =
     if-acts c.concluded.result _ _ (λ s h. λ r f args fits stands sound.
@@ -18,6 +19,7 @@ returns-then-is_last-clause-slice c =
     (c.is_last.ensures.0 c.if-is_last.true) s
     (h z.repair f args fits z.stands z.sound)) c.concluded.ensures
 
+-- so the repair that is left is one of the call, too
 pub returns-then-is_last-clause-holds : goal.returns-then-is_last-clause-holds
 returns-then-is_last-clause-holds c =
     if-acts c.concluded.result _ _ (λ s h. λ f args held.
@@ -27,6 +29,7 @@ returns-then-is_last-clause-holds c =
     (c.is_last.ensures.0 c.if-is_last.true) s
     (h z.repair f args held.fits z.stands z.sound))) c.concluded.ensures
 
+-- no read is stale any more, so the slice is done before its number is reached
 pub returns-in-Honest-clause-slice : goal.returns-in-Honest-clause-slice
 returns-in-Honest-clause-slice c = λ r f args fits stands sound.
     let z = c.loop-turns.invariant.reached r f args fits stands sound in
@@ -36,6 +39,7 @@ returns-in-Honest-clause-slice c = λ r f args fits stands sound.
     let d = c.if-is_last.false in
     absurd cc)
 
+-- so the repair that is left is one of the call, too
 pub returns-in-Honest-clause-holds : goal.returns-in-Honest-clause-holds
 returns-in-Honest-clause-holds c = λ f args held.
     let z = c.loop-turns.invariant.reached held.repair f args held.fits held.stands held.sound in
@@ -46,6 +50,7 @@ returns-in-Honest-clause-holds c = λ f args held.
     let d = c.if-is_last.false in
     absurd cc))
 
+-- the next turn has more work than the fuel, and a slice would have to make it
 pub returns-in-Over-clause-slice : goal.returns-in-Over-clause-slice
 returns-in-Over-clause-slice c = λ r f args fits stands sound.
     let z = c.loop-turns.invariant.reached r f args fits stands sound in
@@ -56,6 +61,7 @@ returns-in-Over-clause-slice c = λ r f args fits stands sound.
     let d = c.if-is_last.false in
     absurd cc)
 
+-- one turn more is made, and the number is not reached
 pub loop-turns-preserved : goal.loop-turns-preserved
 loop-turns-preserved c = record {
   few = let held = c.requires.holds.2 in

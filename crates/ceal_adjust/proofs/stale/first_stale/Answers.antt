@@ -4,6 +4,7 @@ use Rattle.ceal_code.specs.Tables.{code_in, store_in, store_flat}
 use Rattle.ceal_adjust.proofs.Fronts.{front-stored, front-agrees}
 use Rattle.ceal_adjust.proofs.stale.first_stale.Goals as goal
 
+-- this item is no stale read, and the walk has its writes
 pub loop-item-preserved : goal.loop-item-preserved
 loop-item-preserved c =
     let at : slice_get c.args.items.now c.loop-item.item-index ≡ Some c.item-item.result =

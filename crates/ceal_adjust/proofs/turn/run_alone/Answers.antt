@@ -8,6 +8,7 @@ use Rattle.ceal_adjust.specs.Machines.{code_of, state_in, machine_in}
 use Rattle.ceal_adjust.specs.declared.complete.Limit.TheVariants.{Work}
 use Rattle.ceal_adjust.proofs.turn.run_alone.Goals as goal
 
+-- more is re-executed than the fuel allows
 pub returns-in_default : goal.returns-in_default
 returns-in_default c =
     beyond-there (code_in c.args.memory) (code_of c.alone-unit.result) (Work c.args.fuel)
@@ -24,6 +25,7 @@ returns-in_default c =
     ) at c.in_ok-resume.ensures.resumed) c.empty-stack.ensures.empty c.in_ok-old.ensures.value)
     (rw c.in_default.is at c.in_ok-inside.ensures.beyond)
 
+-- the unit ran to its end over what is inside the read
 pub returns : goal.returns
 returns c =
     is-ran (code_in c.args.memory) c.args.fuel (alone (code_in c.args.memory) (state_of c.args.memory c.args.repair.now) c.args.stale.now) (state_in c.turn_to_end.new.repair) _

@@ -7,6 +7,7 @@ use Rattle.ceal_adjust.proofs.MachineSteps.{if-acts}
 use Rattle.ceal_adjust.proofs.Sliced.{agrees-there, stale-there, agrees-done}
 use Rattle.ceal_adjust.proofs.turn.turn.Goals as goal
 
+-- no read is stale, so the repair is done
 pub returns-in-None : goal.returns-in-None
 returns-in-None c = λ r f args fits stands sound.
     agrees-done c.args.code.now c.args.inputs.now f args fits 0 r sound
@@ -14,6 +15,7 @@ returns-in-None c = λ r f args fits stands sound.
     (store_in c.in_ok-memory.memory) c.items.result.now (flat r.items) c.in_ok-memory.ensures.code
     (c.in_ok-memory.ensures.store r stands) (c.items.ensures.value ∙ stands.items) (rw c.in-None.is at c.in_ok-first_stale.ensures.stale))
 
+-- the first stale read is where the turn begins
 pub returns-in-Some : goal.returns-in-Some
 returns-in-Some c =
     if-acts c.run_stale.result _ _ (λ t h. λ r f args fits stands sound.

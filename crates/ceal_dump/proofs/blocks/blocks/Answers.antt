@@ -4,6 +4,7 @@ use Rattle.ceal_dump.specs.Reading.{blocks_from, line_at}
 use Rattle.ceal_dump.proofs.blocks.blocks.Goals as goal
 use Rattle.ceal_dump.proofs.blocks.blocks.Goals.{then-loop-left-test+else-not-is_empty, else-loop-left-test}
 
+-- the text goes one block further, and the blocks to come are those of the rest
 pub loop-left-preserved : goal.loop-left-preserved
 loop-left-preserved c =
     let l = c.loop-left in
@@ -18,6 +19,7 @@ loop-left-preserved c =
       rest = more-rest l.blocks.items now next all l.invariant.same l.invariant.rest c.in_ok-block.block first;
     }
 
+-- the loop ends at the last block or at the end of the text, and no block is to come at either
 pub returns-clause-value : goal.returns-clause-value
 returns-clause-value c =
     let l = c.loop-left in
@@ -29,6 +31,7 @@ returns-clause-value c =
       | else-loop-left-test w ↦ done-same l.blocks.items now all all l.invariant.same l.invariant.rest l.reader (many-none line_at l.left l.reader (omega (arith, w.loop-left-test.false)))
     ]
 
+-- the same, for what is left of the text
 pub returns-clause-rest : goal.returns-clause-rest
 returns-clause-rest c =
     let l = c.loop-left in

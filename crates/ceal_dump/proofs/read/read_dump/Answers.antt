@@ -10,6 +10,7 @@ returns-in-Ok-true c =
     let told = c.in-Ok-true.ensures.0 c.in-Ok-true.field-0-test in
     record { read = record { has = told.0; range = subst InRange (sym c.in-Ok.ensures) (record-range c.args.bytes.now); text = told.1 } }
 
+-- a dump of another record would have been read as that one, and this record gives other bytes
 pub returns-in-Ok-false : goal.returns-in-Ok-false
 returns-in-Ok-false c = record {
   read = λ r h.

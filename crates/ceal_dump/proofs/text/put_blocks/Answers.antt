@@ -4,6 +4,7 @@ use Rattle.ceal_dump.proofs.Steps.{blocks-more, blocks-end}
 use Rattle.ceal_dump.specs.DumpText.{block_lines}
 use Rattle.ceal_dump.proofs.text.put_blocks.Goals as goal
 
+-- the line of this block, after those of the blocks before it; all are in range if these are
 pub loop-block-preserved : goal.loop-block-preserved
 loop-block-preserved c = record {
   text = blocks-more c.loop-block.out c.put_line.new.out (c.args.out.now ++ block_lines c.args.blocks.now) c.loop-block.blocks.now c.in-Some.more.now c.in-Some.block.now

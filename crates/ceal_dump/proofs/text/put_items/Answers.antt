@@ -4,6 +4,7 @@ use Rattle.ceal_dump.proofs.Steps.{items-more, items-end}
 use Rattle.ceal_dump.specs.DumpText.{item_lines}
 use Rattle.ceal_dump.proofs.text.put_items.Goals as goal
 
+-- the line of this item, after those of the items before it; all are in range if these are
 pub loop-item-preserved : goal.loop-item-preserved
 loop-item-preserved c = record {
   text = items-more c.loop-item.out c.put_item.new.out (c.args.out.now ++ item_lines c.args.items.now) c.loop-item.items.now c.in-Some.more.now c.in-Some.item.now

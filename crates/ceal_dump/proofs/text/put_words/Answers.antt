@@ -4,6 +4,7 @@ use Rattle.ceal_dump.proofs.Steps.{words-more, words-end}
 use Rattle.ceal_dump.specs.DumpText.{words_text}
 use Rattle.ceal_dump.proofs.text.put_words.Goals as goal
 
+-- a space and this word, after the words before it; all are in range if these are
 pub loop-word-preserved : goal.loop-word-preserved
 loop-word-preserved c = record {
   text = words-more c.loop-word.out c.append.new.self c.put_word.new.out (c.args.out.now ++ words_text c.args.words.now) c.loop-word.words.now c.in-Some.more.now c.in-Some.word.now

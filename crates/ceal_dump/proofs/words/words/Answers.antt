@@ -8,6 +8,7 @@ loop-reader-smaller c =
     let bs = c.loop-reader.reader in
     omega (arith, space-shorter bs (sym c.first.ensures.value ∙ c.loop-reader-test.true), ap length (c.word.ensures.rest ∙ ap (λ bs. (word_at bs).1) c.skip.ensures.rest))
 
+-- after a space there is one word more, and each word makes the text shorter
 pub loop-reader-preserved : goal.loop-reader-preserved
 loop-reader-preserved c =
     let bs = c.loop-reader.reader in
@@ -23,11 +24,13 @@ loop-reader-preserved c =
           c.word.result c.push.new.self.items c.word.new.reader space next c.in_ok-push.ensures.items;
     }
 
+-- no space follows, so there is no further word
 pub returns-clause-value : goal.returns-clause-value
 returns-clause-value c =
     words-all c.args.reader.now c.loop-reader.reader c.loop-reader.words.items c.loop-reader.invariant.same c.loop-reader.invariant.rest
     (differs (first_byte c.loop-reader.reader) 32 (λ e. c.loop-reader-test.false (c.first.ensures.value ∙ e))) (omega (arith, c.loop-reader.invariant.few))
 
+-- no space follows, so the rest begins here
 pub returns-clause-rest : goal.returns-clause-rest
 returns-clause-rest c =
     rest-all c.args.reader.now c.loop-reader.reader c.loop-reader.words.items c.loop-reader.invariant.same c.loop-reader.invariant.rest

@@ -5,6 +5,7 @@ use Rattle.ceal_dump.proofs.Loops.{joined, on-ok}
 use Rattle.ceal_dump.specs.DumpText.{block_lines}
 use Rattle.ceal_dump.proofs.write.put_inputs.Goals as goal
 
+-- the head, the count, and the line of each input
 pub returns-clause-text : goal.returns-clause-text
 returns-clause-text c =
     let out = c.args.out.now in

@@ -4,6 +4,7 @@ use Rattle.ceal_dump.proofs.Loops.{joined, on-ok}
 use Rattle.ceal_dump.specs.DumpText.{inputs_text, call_text, trace_text, memory_text, dump_text}
 use Rattle.ceal_dump.proofs.write.put_record.Goals as goal
 
+-- the inputs, the call, the trace, the memory, and the last line
 pub returns-clause-text : goal.returns-clause-text
 unfolding dump_text
 returns-clause-text c =

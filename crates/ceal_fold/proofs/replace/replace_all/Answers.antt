@@ -4,6 +4,7 @@ use Rattle.ceal_fold.specs.States.{copies_at, AllUntil}
 use Rattle.ceal_fold.proofs.ReplaceSteps.{replaced-same, root-none, replicate-length, until-begun, walk-on}
 use Rattle.ceal_fold.proofs.replace.replace_all.Goals as goal
 
+-- nothing is known at the root, so the whole body is replaced from there
 pub loop-command-init : goal.loop-command-init
 loop-command-init c =
     let structs = c.args.structs.now in
@@ -17,6 +18,7 @@ loop-command-init c =
       times = subst (AllUntil 0) (sym c.in_ok-states.ensures) (until-begun 0 _);
     }
 
+-- this command is replaced by what is known at it, and hands that on to those that follow it
 pub loop-command-preserved : goal.loop-command-preserved
 loop-command-preserved c =
     let w = c.loop-command.invariant in

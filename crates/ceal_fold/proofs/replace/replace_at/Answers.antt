@@ -5,6 +5,7 @@ use Rattle.ceal_fold.specs.States.{last_of, time, copy_at, copies_at, AllUntil}
 use Rattle.ceal_fold.proofs.ReplaceSteps.{set-length, copies-is, until-at, until-none, until-set, until-more, handed-is}
 use Rattle.ceal_fold.proofs.replace.replace_at.Goals as goal
 
+-- each assignment that is known here was made earlier on the path
 pub pass_on-requires : goal.pass_on-requires
 pass_on-requires c = record {
   room = c.requires.room;
@@ -19,6 +20,7 @@ returns-in-Ok-clause-command c =
     c.in_ok-command.ensures.value
     ∙ ap (λ k. folded_command c.args.structs.now k c.args.command.now) (ap copy_at c.take_state-known.ensures.state ∙ sym (copies-is c.args.states.now.items c.args.index))
 
+-- the commands that follow this one know what is known after it, and others what they knew
 pub returns-in-Ok-clause-handed : goal.returns-in-Ok-clause-handed
 returns-in-Ok-clause-handed c j lo hi =
     let states = c.args.states.now.items in

@@ -5,11 +5,13 @@ use Rattle.ceal_fold.specs.States.{has, has_at}
 use Rattle.ceal_fold.proofs.UnusedSteps.{ticked-ext, ticked-followers}
 use Rattle.ceal_fold.proofs.unused.tick_at.Goals as goal
 
+-- the command becomes a tick where nothing that follows it uses what it assigns
 pub returns-in_ok-command-in-Ok-clause-command : goal.returns-in_ok-command-in-Ok-clause-command
 returns-in_ok-command-in-Ok-clause-command c =
     c.in_ok-command-in-Ok.ensures.command
     ∙ ticked-ext (has c.in-Ok.later) (used_in (has_at c.args.sets.now.items) (followers c.args.command c.args.index)) c.args.command c.in-Ok.ensures.value
 
+-- a variable is used from here on if the command uses it, or if a later one does and this one does not assign it
 pub returns-in_ok-command-in-Ok-clause-here : goal.returns-in_ok-command-in-Ok-clause-here
 returns-in_ok-command-in-Ok-clause-here c u =
     let i = c.args.index in

@@ -4,6 +4,7 @@ use Rattle.ceal_gen.specs.ListText.{head_of, head}
 use Rattle.ceal_gen.proofs.Steps.{state-more}
 use Rattle.ceal_gen.proofs.list.list.Goals as goal
 
+-- after the cells two numbers are drawn, for the head of the list and for its new first cell
 pub returns : goal.returns
 returns c =
     let cells = rw c.from_seed-draws.ensures at c.in_ok-put_cells.ensures.state in

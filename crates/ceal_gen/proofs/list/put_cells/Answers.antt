@@ -10,6 +10,7 @@ loop-before-init c = record {
   lines = rw (cells-none c.args.draws.now) (sym (append-nil c.args.out.now));
 }
 
+-- one number is drawn for this cell, whose line follows those of the cells before it
 pub loop-before-preserved : goal.loop-before-preserved
 loop-before-preserved c =
     let state = c.draw_head-head.ensures.state ∙ ap next_state c.loop-before.invariant.state ∙ sym (state-more c.args.draws.now c.loop-before.before) in

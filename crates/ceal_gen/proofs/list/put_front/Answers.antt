@@ -5,6 +5,7 @@ use Rattle.ceal_gen.specs.Names.{cell_name}
 use Rattle.ceal_gen.proofs.Pieces.{four}
 use Rattle.ceal_gen.proofs.list.put_front.Goals as goal
 
+-- the new cell, the edit that puts it in front, and the two lines that follow each edit
 pub returns : goal.returns
 unfolding put_in_front
 returns c =

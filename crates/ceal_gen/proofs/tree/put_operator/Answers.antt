@@ -6,6 +6,7 @@ use Rattle.ceal_gen.specs.TreeText.{operator_line}
 use Rattle.ceal_gen.proofs.Pieces.{nine}
 use Rattle.ceal_gen.proofs.tree.put_operator.Goals as goal
 
+-- the line of an inner node names its operator and its two children
 pub returns : goal.returns
 unfolding operator_line
 returns c =

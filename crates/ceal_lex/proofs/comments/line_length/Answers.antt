@@ -5,6 +5,7 @@ use Rattle.ceal_lex.specs.Characters.{LINE_FEED}
 use Rattle.ceal_lex.proofs.Runs.{position_default, run_within}
 use Rattle.ceal_lex.proofs.comments.line_length.Goals as goal
 
+-- up to the first line feed, or to the end
 pub returns : goal.returns
 returns c =
     let first : c.unwrap_or.result ≡ position_or_len (λ b. b == LINE_FEED) c.args.text.now =

@@ -2,6 +2,7 @@ use Rattle.ceal_lex.specs.Parts.{source_of}
 use Rattle.ceal_lex.proofs.Outcomes.{all_from, only_from, ended_from, order_from, source_length}
 use Rattle.ceal_lex.proofs.lex.lex.Goals as goal
 
+-- what `read` found, and its fault, said of the source part of the input
 pub returns : goal.returns
 returns c =
     let source = source_of c.args.input.now c.args.part.now in

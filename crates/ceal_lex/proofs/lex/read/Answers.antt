@@ -7,6 +7,7 @@ use Rattle.ceal_lex.specs.Front.{IsBlank, IsFound}
 use Rattle.ceal_lex.proofs.Going.{Continues, after_blank, after_token, at_end, at_fault}
 use Rattle.ceal_lex.proofs.lex.read.Goals as goal
 
+-- a blank or a comment has no token
 pub loop-at-preserved-in-Blank : goal.loop-at-preserved-in-Blank
 loop-at-preserved-in-Blank c =
     let source = c.args.source.now in
@@ -17,6 +18,7 @@ loop-at-preserved-in-Blank c =
       so_far = after_blank source c.loop-at.at c.loop-at.tokens c.loop-at.invariant.so_far c.in-Blank.length blank;
     }
 
+-- the longest token at this place follows those before it
 pub loop-at-preserved : goal.loop-at-preserved
 loop-at-preserved c =
     let source = c.args.source.now in
@@ -30,6 +32,7 @@ loop-at-preserved c =
       so_far = subst (Continues source (drop (c.loop-at.at + c.in-Found.length) source) (c.loop-at.at + c.in-Found.length)) (sym pushed) more;
     }
 
+-- the text up to this place is tokens, and what follows begins none
 pub returns-in-Broken-clause-fault : goal.returns-in-Broken-clause-fault
 returns-in-Broken-clause-fault c =
     let source = c.args.source.now in

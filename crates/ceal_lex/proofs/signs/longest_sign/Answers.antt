@@ -2,6 +2,7 @@ use Rattle.std.proofs.Common.{drop, get_or}
 use Rattle.ceal_lex.proofs.SignTexts.{two_bytes, long_front, short_front}
 use Rattle.ceal_lex.proofs.signs.longest_sign.Goals as goal
 
+-- no sign has three bytes, so one of two bytes is the longest
 pub returns-in-Some-clause-longest : goal.returns-in-Some-clause-longest
 returns-in-Some-clause-longest c =
     let bytes = c.args.bytes.now in

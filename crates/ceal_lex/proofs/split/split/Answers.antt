@@ -8,6 +8,7 @@ use Rattle.ceal_lex.specs.Parts.{IsBeforeLine, IsMark}
 use Rattle.ceal_lex.proofs.Marks.{NoneBefore, before_more, marked, none_left, none_more}
 use Rattle.ceal_lex.proofs.split.split.Goals as goal
 
+-- no line before this one is the mark, and this one is
 pub returns-then-is_mark : goal.returns-then-is_mark
 returns-then-is_mark c =
     let input = c.args.input.now in
@@ -20,6 +21,7 @@ returns-then-is_mark c =
     let parts = marked input start n c.loop-start-test.true c.loop-start.invariant.none (c.loop-start.invariant.before (omega (arith, c.loop-start-test.true))) length_is mark in
     record { parts = record { small = c.requires; parts = rw c.min-script.ensures parts } }
 
+-- this line is not the mark, and no line before it is
 pub loop-start-preserved : goal.loop-start-preserved
 loop-start-preserved c =
     let input = c.args.input.now in
@@ -36,6 +38,7 @@ loop-start-preserved c =
       before = λ l. subst (λ (k : ℕ). IsBeforeLine (take k input)) place (before_more input start n c.loop-start-test.true c.loop-start.invariant.none before length_is (omega (arith, l)));
     }
 
+-- no line is the mark, so all is source
 pub returns : goal.returns
 returns c =
     record {

@@ -1,6 +1,7 @@
 use Rattle.ceal_live.proofs.RoundFacts.{turn-same, turn-closed, turn-more}
 use Rattle.ceal_live.proofs.round.go_round.Goals as goal
 
+-- the set of this block is updated, and the round has changed something if this or an earlier one did
 pub loop-at-preserved : goal.loop-at-preserved
 loop-at-preserved c =
     let first = c.args.sets.now.items in

@@ -25,22 +25,26 @@ joined c = λ w.
 few : (c : goal.After-put_set) → length c.join_jumps.new.set ≤ 2 ^ 32
 few c = c.in_ok-changed.ensures.few (rw c.take_set-set.ensures.set (c.requires.underway.few c.args.at))
 
+-- the set gets variables that are live after the block and not assigned in it, so they are live at it
 pub returns-clause-underway : goal.returns-clause-underway
 returns-clause-underway c =
     let ascending = c.in_ok-changed.ensures.ascending (rw c.take_set-set.ensures.set (c.requires.underway.ascending c.args.at)) in
     rw (new_is c) (put-underway c.args.blocks.now c.args.sets.now.items c.args.at c.index-blocks-at.result c.join_jumps.new.set c.requires.underway (look c) (within c) (joined c)
     ascending (few c))
 
+-- where nothing was added the sets are as they were
 pub returns-clause-same : goal.returns-clause-same
 returns-clause-same c = λ e.
     new_is c ∙ put-same c.args.blocks.now c.args.sets.now.items c.args.at c.index-blocks-at.result c.join_jumps.new.set c.requires.underway (look c) (within c) (joined c)
     (c.in_ok-changed.ensures.same e ∙ c.take_set-set.ensures.set)
 
+-- where nothing was added the set has all that its block asks for
 pub returns-clause-closed : goal.returns-clause-closed
 returns-clause-closed c = λ e.
     rw (new_is c) (put-closed c.args.blocks.now c.args.sets.now.items c.args.at c.index-blocks-at.result c.join_jumps.new.set c.requires.underway (look c) (within c) (joined c)
     (c.in_ok-changed.ensures.same e ∙ c.take_set-set.ensures.set))
 
+-- where something was added the sets have grown
 pub returns-clause-more : goal.returns-clause-more
 returns-clause-more c = λ e.
     let more = rw c.take_set-set.ensures.set at (c.in_ok-changed.ensures.more e) in

@@ -2,6 +2,7 @@ use Rattle.std.proofs.Common.{◌<◌, length, arith, append_assoc}
 use Rattle.ceal_live.proofs.UseSteps.{all-take}
 use Rattle.ceal_live.proofs.uses.put_all_mentions.Goals as goal
 
+-- the variables of this expression, after those of the expressions before it
 pub loop-e-preserved : goal.loop-e-preserved
 loop-e-preserved c =
     let within : c.loop-e.e-index < length c.args.es.now = omega arith in

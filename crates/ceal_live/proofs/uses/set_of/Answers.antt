@@ -3,6 +3,7 @@ use Rattle.std.proofs.lemmas.List.{take_more}
 use Rattle.ceal_live.proofs.BeginFacts.{in-push}
 use Rattle.ceal_live.proofs.uses.set_of.Goals as goal
 
+-- the set has this variable and those before it, in ascending order
 pub loop-v-preserved : goal.loop-v-preserved
 loop-v-preserved c =
     let used = c.args.used.now in

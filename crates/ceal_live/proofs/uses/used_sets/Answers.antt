@@ -5,6 +5,7 @@ use Rattle.ceal_flow.specs.Sets.{is_in}
 use Rattle.ceal_live.proofs.BeginFacts.{begun-push}
 use Rattle.ceal_live.proofs.uses.used_sets.Goals as goal
 
+-- the set of this block, after those of the blocks before it
 pub loop-block-preserved : goal.loop-block-preserved
 loop-block-preserved c =
     let blocks = c.args.blocks.now in

@@ -2,6 +2,7 @@ use Rattle.ceal_many.specs.Prefixes.{prefixed}
 use Rattle.ceal_many.proofs.PrefixSteps.{went, over}
 use Rattle.ceal_many.proofs.prefix.prefixed.Goals as goal
 
+-- at the beginning of a line its prefix and the byte are added, elsewhere the byte
 pub loop-byte-preserved : goal.loop-byte-preserved
 loop-byte-preserved c =
     rw (c.in_ok-push.ensures.ok, c.in_ok-put_prefix.ensures)

@@ -2,6 +2,7 @@ use Rattle.std.proofs.Common.{◌<◌, length, arith}
 use Rattle.ceal_mean.proofs.InitSteps.{set-take}
 use Rattle.ceal_mean.proofs.init.+set.Goals as goal
 
+-- this statement sets its field after those before it
 pub set_fields-loop-s-preserved : goal.set_fields-loop-s-preserved
 set_fields-loop-s-preserved t c =
     let within : c.loop-s.s-index < length c.args.stmts.now = omega arith in

@@ -4,6 +4,7 @@ use Rattle.ceal_mean.specs.Fresh.{fresh, outcome_of}
 use Rattle.ceal_mean.proofs.RunLemmas.{run-more, run-over, run-empty, run-short}
 use Rattle.ceal_mean.proofs.run.interpret.Goals as goal
 
+-- one step is taken within the fuel, and the run from here on is the one from before it
 pub loop-steps-preserved : goal.loop-steps-preserved
 loop-steps-preserved c =
     let below : c.loop-steps.steps < c.args.fuel = omega arith in
@@ -13,6 +14,7 @@ loop-steps-preserved c =
           (rw c.if-not-more.false at c.in_ok-more.ensures.advanced)) ∙ c.loop-steps.invariant.same;
     }
 
+-- no frame is left, so the run has ended with these steps
 pub returns-then-not-more : goal.returns-then-not-more
 returns-then-not-more c =
     let last : Some (record { memory = c.step.new.memory; steps = c.loop-steps.steps; blocks = length c.step.new.memory.made })
@@ -22,6 +24,7 @@ returns-then-not-more c =
     (rw c.if-not-more.true at c.in_ok-more.ensures.advanced)) ∙ c.loop-steps.invariant.same) in
     record { outcome = c.done.ensures ∙ ap outcome_of last }
 
+-- the fuel is spent, and nothing was left to do
 pub returns-in-None : goal.returns-in-None
 returns-in-None c =
     let spent : c.loop-steps.steps ≡ c.args.fuel = omega arith in
@@ -32,6 +35,7 @@ returns-in-None c =
           ∙ c.loop-steps.invariant.same);
     }
 
+-- the fuel is spent, and a statement is left to do
 pub returns-in-Some : goal.returns-in-Some
 returns-in-Some c =
     let none : c.args.fuel - c.loop-steps.steps ≡ 0 = omega arith in

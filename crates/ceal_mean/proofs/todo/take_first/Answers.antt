@@ -15,12 +15,14 @@ returns-in-Return c = record {
       ∙ return-ready _ _ c.in-Some.part c.in-Body.body c.in-Some.ensures.items c.in-Body.is _ _ c.in-Some-split_first.ensures.cases.0 c.in-Return.field-0 c.in-Return.is;
 }
 
+-- `break` leaves the innermost loop, and what follows that is looked at next
 pub loop-part-preserved-in-Break : goal.loop-part-preserved-in-Break
 loop-part-preserved-in-Break c =
     c.take_turn.ensures.behind
     ∙ sym (break-ready _ _ c.in-Some.part c.in-Body.body c.in-Some.ensures.items c.in-Body.is _ _ c.in-Some-split_first.ensures.cases.0 c.in-Break.field-0 c.in-Break.is)
     ∙ c.loop-part.invariant
 
+-- `continue` goes to the test of the innermost loop
 pub returns-in-Continue : goal.returns-in-Continue
 returns-in-Continue c = record {
   taken = rw (
@@ -30,6 +32,7 @@ returns-in-Continue c = record {
       c.take_turn-in-Continue.ensures.taken;
 }
 
+-- any other statement is the first one itself, and its row keeps the rest
 pub returns-in_default-first : goal.returns-in_default-first
 returns-in_default-first c = record {
   taken = rw (

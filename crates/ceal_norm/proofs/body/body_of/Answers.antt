@@ -4,6 +4,7 @@ use Rattle.ceal_norm.specs.Units.{tree}
 use Rattle.ceal_norm.proofs.Equations.BodySteps.{finished-none, finished-length, reverse-push}
 use Rattle.ceal_norm.proofs.body.body_of.Goals as goal
 
+-- the whole body follows from its first tree, before any tree that waits
 pub loop-next-init : goal.loop-next-init
 loop-next-init c = record {
   same = c.in_ok-put_tree.ensures.same
@@ -12,6 +13,7 @@ loop-next-init c = record {
   below = c.in_ok-put_tree.ensures.below;
 }
 
+-- the body gets longer, and it is never longer than the tree of the unit's first block
 pub loop-next-smaller : goal.loop-next-smaller
 loop-next-smaller c =
     let popped : c.loop-next.out.pending.items ≡ c.pop.new.self.items ++ c.in-Some.next ∷ [] = c.pop.ensures.items ∙ (rw c.in-Some.is refl) in
@@ -25,6 +27,7 @@ loop-next-smaller c =
     let more : length c.put_pending.new.out.body.items ≡ length c.loop-next.out.body.items + 1 = c.in_ok-put_pending.ensures.longer in
     omega (arith, long, within, more)
 
+-- no tree waits, so the body is whole
 pub returns : goal.returns
 returns c =
     let empty : c.loop-next.out.pending.items ≡ [] = search rules in

@@ -2,6 +2,7 @@ use Rattle.std.proofs.Common.{◌<◌, length, get_or, refl, arith, ◌∙◌}
 use Rattle.ceal_norm.proofs.Equations.EntrySteps.{in-marked}
 use Rattle.ceal_norm.proofs.entries.mark_all.Goals as goal
 
+-- this block is marked, and the marks of the others stay
 pub loop-b-preserved : goal.loop-b-preserved
 loop-b-preserved c =
     let within : c.loop-b.b-index < length c.args.bs.now = omega arith in

@@ -4,6 +4,7 @@ use Rattle.ceal_norm.specs.Table.{is_marked}
 use Rattle.ceal_norm.proofs.Equations.EntrySteps.{marked-none, count-none, once-marked, twice-marked}
 use Rattle.ceal_norm.proofs.entries.mark_repeated.Goals as goal
 
+-- no block was seen, so none is marked
 pub loop-b-init : goal.loop-b-init
 loop-b-init c = record {
   long = refl;
@@ -12,6 +13,7 @@ loop-b-init c = record {
   marked = λ x l. rw count-none refl;
 }
 
+-- a block that was seen before is marked as repeated, another one as seen
 pub loop-b-preserved : goal.loop-b-preserved
 loop-b-preserved c =
     let within : c.loop-b.b-index < length c.args.bs.now = omega arith in

@@ -3,6 +3,7 @@ use Rattle.ceal_norm.specs.Units.{function_code}
 use Rattle.ceal_norm.proofs.Equations.UnitSteps.{map-more}
 use Rattle.ceal_norm.proofs.functions.functions_of.Goals as goal
 
+-- the code of this function, after that of the functions before it
 pub loop-f-preserved : goal.loop-f-preserved
 loop-f-preserved c =
     c.in_ok-push.ensures.items

@@ -7,6 +7,7 @@ pub returns-in-None : goal.returns-in-None
 returns-in-None c =
     words-end (memory_in c.args.memory.now c.args.id) c.loop-field.field c.loop-field.words.items c.loop-field.invariant (sym c.in-None.is ∙ c.word_after.ensures.value)
 
+-- the word of this field is the next one of the block
 pub loop-field-preserved : goal.loop-field-preserved
 loop-field-preserved c =
     rw c.in_ok-push-in-Some.ensures.items

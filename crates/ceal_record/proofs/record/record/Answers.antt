@@ -3,6 +3,7 @@ use Rattle.ceal_record.proofs.Left.{forest-in-order, replays-in-order}
 use Rattle.ceal_record.specs.Recorded.{in_order}
 use Rattle.ceal_record.proofs.record.record.Goals as goal
 
+-- renamed by first occurrence, the items are those of a trace, which replays and is honest as the given one is
 pub returns : goal.returns
 returns c = λ l e t.
     let items = forest-in-order c.renamed_items_law.ensures.law c.in_ok-new.field-0 c.args.items.now c.in_ok-forest.forest c.in_ok-new.ensures c.in_ok-forest.ensures l e in

@@ -7,6 +7,7 @@ use Rattle.ceal_script.proofs.number.is_index.Goals.{in_default-via-then-word-lt
 pub returns-in-48 : goal.returns-in-48
 returns-in-48 c = (λ e. absurd (false≢true e), λ h. absurd (omega (arith, index_front c.args.word.now h (search rules), c.in-48.len_at_least)))
 
+-- digits without a leading zero spell an index exactly when their number fits a row
 pub returns-then-are_digits : goal.returns-then-are_digits
 returns-then-are_digits c = (
   λ e. index_of c.args.word.now (sym c.are_digits.ensures ∙ c.if-are_digits.true)

@@ -10,12 +10,14 @@ use Rattle.ceal_script.proofs.spelling.is_element.Goals as goal
 pub returns-in_default : goal.returns-in_default
 returns-in_default c = (λ e. absurd (false≢true e), λ h. absurd (no_element c.args.word.now c.in_default.ensures h))
 
+-- the word does not end with a bracket, and an element does
 pub returns-in-None : goal.returns-in-None
 returns-in-None c =
     let unclosed = strip_suffix_is Decides-eqb _ (CLOSING_BRACKET ∷ []) None c.in-None.ensures.cases in
     let behind = take_rest c.args.word.now (c.in-Some.at + 1) in
     (λ e. absurd (false≢true e), λ h. absurd (not_closed c.args.word.now c.in-Some.at c.in-Some.ensures (λ front e. unclosed front (behind ∙ e)) h))
 
+-- a row's name, a bracket, an index or none, and a bracket
 pub returns-then-is_identifier : goal.returns-then-is_identifier
 returns-then-is_identifier c =
     let closed = strip_suffix_is Decides-eqb _ (CLOSING_BRACKET ∷ []) (Some c.in-Some-strip_suffix.index) c.in-Some-strip_suffix.ensures.cases in

@@ -4,6 +4,7 @@ use Rattle.ceal_script.specs.Spelling.{SpellsPlace, SpellsValue}
 use Rattle.ceal_script.proofs.PlaceLaws.{passed_on, not_value}
 use Rattle.ceal_script.proofs.spelling.value.Goals as goal
 
+-- the word is neither null nor a number, and no place
 pub returns-in_err-place-in-None : goal.returns-in_err-place-in-None
 returns-in_err-place-in-None c =
     let p = err_from_is_err_and c.from_residual.result c.from_residual.ensures.1 in

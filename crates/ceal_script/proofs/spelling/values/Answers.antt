@@ -6,6 +6,7 @@ use Rattle.ceal_script.proofs.ValuesLaws.{values_more, no_values}
 use Rattle.std.specs.List.{AllZip}
 use Rattle.ceal_script.proofs.spelling.values.Goals as goal
 
+-- one word that is no value is enough
 pub returns-in_err-value : goal.returns-in_err-value
 returns-in_err-value c =
     let p = err_from_is_err_and c.from_residual.result c.from_residual.ensures.1 in

@@ -8,6 +8,7 @@ pub returns-then-is_empty : goal.returns-then-is_empty
 returns-then-is_empty c =
     no_word c.args.line.now c.gap_length.result c.gap_length.ensures.run _ (take_rest c.args.line.now c.gap_length.result) (grind (arith, nat_tests))
 
+-- the line is a gap, a word without gaps, and the rest
 pub returns : goal.returns
 returns c =
     let line = c.args.line.now in

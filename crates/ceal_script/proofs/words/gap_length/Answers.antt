@@ -6,6 +6,7 @@ use Rattle.ceal_script.specs.Characters.{is_gap}
 use Rattle.ceal_script.proofs.Runs.{position_default, run_turned}
 use Rattle.ceal_script.proofs.words.gap_length.Goals as goal
 
+-- up to the first byte that is no gap, or to the end
 pub returns : goal.returns
 returns c =
     let run : c.unwrap_or.result ≡ prefix_len is_gap c.args.bytes.now =

@@ -5,6 +5,7 @@ use Rattle.ceal_show.proofs.Finding.{words_counted, word_there}
 use Rattle.ceal_show.proofs.LineSteps.{among_target, fields_more, fields_all}
 use Rattle.ceal_show.proofs.lines.put_fields.Goals as goal
 
+-- the block has as many words as its shape has fields
 pub word-word-requires : goal.word-word-requires
 word-word-requires g c =
     let counted = rw (c.items.ensures.value, c.structs.ensures) at c.in_ok-count.ensures in
@@ -15,6 +16,7 @@ pub put_field_word-requires-clause-met : goal.put_field_word-requires-clause-met
 put_field_word-requires-clause-met g c =
     among_target (g.V.View.memory c.args.view.now) c.args.met.now c.args.block c.loop-field.field c.word-word.result c.requires.closed c.requires.met c.word-word.ensures
 
+-- the text of this field, after those of the fields before it
 pub loop-field-preserved : goal.loop-field-preserved
 loop-field-preserved g c =
     let scene : Scene = record { structs = g.V.View.declared c.args.view.now; memory = g.V.View.memory c.args.view.now; name = g.V.View.name c.args.view.now; blocks = c.args.met.now } in
@@ -22,6 +24,7 @@ loop-field-preserved g c =
     fields_more scene c.args.shape c.loop-field.out c.put_field_word.new.out words c.loop-field.field c.word-word.result c.word-word.ensures c.in_ok-put_field_word.ensures
     ∙ c.loop-field.invariant
 
+-- the loop passed all fields, and the block has no more words
 pub returns : goal.returns
 returns g c =
     let scene : Scene = record { structs = g.V.View.declared c.args.view.now; memory = g.V.View.memory c.args.view.now; name = g.V.View.name c.args.view.now; blocks = c.args.met.now } in

@@ -6,11 +6,13 @@ loop-at-init g c =
     rw (c.in_ok-met.ensures.value, c.new.ensures.value)
     (start_search (g.V.View.declared c.args.view.now) (g.V.View.memory c.args.view.now) c.requires.whole c.args.root c.requires.there)
 
+-- only blocks of the memory are met
 pub with_targets-requires-clause-there : goal.with_targets-requires-clause-there
 with_targets-requires-clause-there g c =
     there_search (g.V.View.declared c.args.view.now)
     (g.V.View.memory c.args.view.now) c.requires.whole c.args.root c.loop-at.at c.loop-at.met c.block-block.result c.loop-at.invariant c.block-block.ensures.value
 
+-- with the targets of this block the search has gone one block further
 pub loop-at-preserved : goal.loop-at-preserved
 loop-at-preserved g c =
     rw c.in_ok-met-2.ensures

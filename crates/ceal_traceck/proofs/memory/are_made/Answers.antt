@@ -3,6 +3,7 @@ use Rattle.ceal_code.specs.Tables.{memory_in}
 use Rattle.ceal_traceck.proofs.MemorySteps.{zero-told, told-zero, none-made}
 use Rattle.ceal_traceck.proofs.memory.are_made.Goals as goal
 
+-- no item is left, so what has to be there is exactly the blocks that are left
 pub returns : goal.returns
 returns c =
     let n = length c.loop-item.blocks.now in

@@ -5,6 +5,7 @@ use Rattle.ceal_code.specs.Tables.{code_in, plain_in, store_in, memory_in}
 use Rattle.ceal_traceck.proofs.MemorySteps.{told-no, if-ok, shape-after, block-is, is-block}
 use Rattle.ceal_traceck.proofs.memory.is_block.Goals as goal
 
+-- blocks of two shapes are not the same
 pub returns-then-not-is_shape : goal.returns-then-not-is_shape
 returns-then-not-is_shape c =
     let m = c.args.memory.now in
@@ -12,6 +13,7 @@ returns-then-not-is_shape c =
     (c.shape.ensures ∙ (sym (shape-after (code_in m) (plain_in m) (store_in m) c.args.id) ∙
     (ap block_shape h ∙ ap Some (sym c.recorded_shape.ensures))))))
 
+-- of one shape, blocks are the same exactly when their words are
 pub returns : goal.returns
 returns c =
     let m = c.args.memory.now in

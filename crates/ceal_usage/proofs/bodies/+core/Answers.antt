@@ -4,6 +4,7 @@ use Rattle.ceal_usage.specs.Faults.{core_faults}
 use Rattle.ceal_usage.proofs.VerdictSteps.{each-passed, each-failed, each-over}
 use Rattle.ceal_usage.proofs.bodies.+core.Goals as goal
 
+-- the statements before this one have no fault, so its fault is the first one
 pub check_core_body-returns-in_err-check_core_stmt : goal.check_core_body-returns-in_err-check_core_stmt
 check_core_body-returns-in_err-check_core_stmt t c =
     let stmts = c.args.stmts.now in
@@ -14,6 +15,7 @@ check_core_body-returns-in_err-check_core_stmt t c =
           (core_faults c.args.functions.now c.args.looped) stmts _ c.s-item.result _ _ c.s-item.is within c.loop-s.invariant c.in_err-check_core_stmt.ensures.first);
     }
 
+-- neither the statements before this one nor this one have a fault
 pub check_core_body-loop-s-preserved : goal.check_core_body-loop-s-preserved
 check_core_body-loop-s-preserved t c =
     let stmts = c.args.stmts.now in

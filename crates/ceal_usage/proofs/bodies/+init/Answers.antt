@@ -4,6 +4,7 @@ use Rattle.ceal_usage.specs.Faults.{init_faults}
 use Rattle.ceal_usage.proofs.VerdictSteps.{each-passed, each-failed, each-over}
 use Rattle.ceal_usage.proofs.bodies.+init.Goals as goal
 
+-- the statements before this one have no fault, so its fault is the first one
 pub check_init_body-returns-in_err-check_init_stmt : goal.check_init_body-returns-in_err-check_init_stmt
 check_init_body-returns-in_err-check_init_stmt t c =
     let stmts = c.args.stmts.now in
@@ -11,6 +12,7 @@ check_init_body-returns-in_err-check_init_stmt t c =
     let p = err_from_is_err_and c.from_residual.result c.from_residual.ensures.1 in
     record { first = rw (p.1, p.2) (each-failed init_faults stmts _ c.s-item.result _ _ c.s-item.is within c.loop-s.invariant c.in_err-check_init_stmt.ensures.first) }
 
+-- neither the statements before this one nor this one have a fault
 pub check_init_body-loop-s-preserved : goal.check_init_body-loop-s-preserved
 check_init_body-loop-s-preserved t c =
     let stmts = c.args.stmts.now in

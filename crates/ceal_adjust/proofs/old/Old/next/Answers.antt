@@ -2,6 +2,7 @@ use Rattle.ceal_adjust.proofs.MarkSteps.{lists-in, searched-ok, searched-err}
 use Rattle.ceal_adjust.specs.Places.{listed}
 use Rattle.ceal_adjust.proofs.old.Old.next.Goals as goal
 
+-- the place itself is in the ascending list of the mark
 pub returns-in-Ok : goal.returns-in-Ok
 returns-in-Ok c = record {
   next = searched-ok c.args.self.now c.args.mark.now c.args.from c.of-places.result.now
@@ -11,6 +12,7 @@ returns-in-Ok c = record {
       c.in-Ok.field-0 c.binary_search.result c.binary_search.ensures.position c.in-Ok.is;
 }
 
+-- the place is not in the list: the next one in it is the first after the place
 pub returns-in-Err : goal.returns-in-Err
 returns-in-Err c = record {
   next = searched-err c.args.self.now c.args.mark.now c.args.from c.of-places.result.now

@@ -3,6 +3,7 @@ use Rattle.ceal_adjust.proofs.MachineSteps.{open-stale}
 use Rattle.ceal_adjust.specs.Machines.{state_in}
 use Rattle.ceal_adjust.proofs.repair.Repair.open.Goals as goal
 
+-- the value differs, so the read's unit runs, with the old items inside it left over
 pub returns-clause-machine : goal.returns-clause-machine
 returns-clause-machine c =
     rw c.code.ensures.value at (open-stale c.code.result.now (state_in c.args.self.now) c.args.self.now.frames.items

@@ -5,6 +5,7 @@ use Rattle.ceal_adjust.proofs.MachineSteps.{acts-makes, acts-reads, if-acts}
 use Rattle.ceal_adjust.specs.Machines.{code_of, state_in, after, machine_in, turn_in}
 use Rattle.ceal_adjust.proofs.repair.Repair.perform.Goals as goal
 
+-- the unit allocates, and that is one move of the machine
 pub returns-in-Makes-clause-turn : goal.returns-in-Makes-clause-turn
 returns-in-Makes-clause-turn c =
     if-acts c.make.result _ _ (λ t h.
@@ -12,6 +13,7 @@ returns-in-Makes-clause-turn c =
     c.in-Makes.key c.in-Makes.var c.in-Makes.unit.unit c.in-Makes.unit.index (arguments c.in-Makes.unit.env.items) (stack_in c.args.self.now.stack)
     (turn_in t (machine_in c.make.new.self)) (act_in c.args.act (stack_in c.args.self.now.stack)) (ap (λ a. act_in a (stack_in c.args.self.now.stack)) c.in-Makes.is) h) c.make.ensures.turn
 
+-- the unit reads, and that is one move of the machine
 pub returns-in-Reads-clause-turn : goal.returns-in-Reads-clause-turn
 returns-in-Reads-clause-turn c =
     if-acts c.read.result _ _ (λ t h.

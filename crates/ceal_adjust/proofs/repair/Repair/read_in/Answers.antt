@@ -4,6 +4,7 @@ use Rattle.ceal_adjust.proofs.MachineSteps.{read-taken}
 use Rattle.ceal_adjust.specs.Machines.{code_of, state_in, machine_in}
 use Rattle.ceal_adjust.proofs.repair.Repair.read_in.Goals as goal
 
+-- an old read has the closure: it is used again, with what is inside it
 pub returns-in_ok-open-in-Some-clause-turn : goal.returns-in_ok-open-in-Some-clause-turn
 returns-in_ok-open-in-Some-clause-turn c =
     let old = c.args.self.now in

@@ -3,6 +3,7 @@ use Rattle.ceal_norm.specs.Table.{JumpsBelow, Planned}
 use Rattle.ceal_norm.proofs.Equations.PlanSteps.{jumps-below, tree-of}
 use Rattle.ceal_norm.proofs.plan.Plan.block.Goals as goal
 
+-- a graph's jumps go to its blocks
 pub returns-clause-jumps : goal.returns-clause-jumps
 returns-clause-jumps c =
     let same : c.self.inside.graph.now ≡ c.args.self.now.graph = ap (λ s. s.graph) c.self.view_is in
@@ -10,6 +11,7 @@ returns-clause-jumps c =
     subst (λ g. JumpsBelow (length g.blocks) c.block_at.result.now) same
     (jumps-below c.self.inside.graph.now c.self.inside.entries.items c.self.invariant c.args.b c.block_at.result.now found)
 
+-- the tree of a block is its code, with the trees of the blocks to which it jumps
 pub returns-clause-tree : goal.returns-clause-tree
 returns-clause-tree c =
     let same : c.self.inside.graph.now ≡ c.args.self.now.graph = ap (λ s. s.graph) c.self.view_is in

@@ -3,6 +3,7 @@ use Rattle.ceal_norm.specs.Table.{BeginsBelow}
 use Rattle.ceal_norm.proofs.Equations.PlanSteps.{begins-below}
 use Rattle.ceal_norm.proofs.plan.Plan.function.Goals as goal
 
+-- a function's first block is one of the graph
 pub returns-clause-begins : goal.returns-clause-begins
 returns-clause-begins c =
     let same : c.self.inside.graph.now ≡ c.args.self.now.graph = ap (λ s. s.graph) c.self.view_is in

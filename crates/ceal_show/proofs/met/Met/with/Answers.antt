@@ -8,6 +8,7 @@ overflow_add-cores c =
     let small = c.self.inside.blocks.small in
     omega (arith, fit, c.self.invariant.counted, c.core_count.ensures, small)
 
+-- a block that was not met gets the next number
 pub invariant_of-result-2 : goal.invariant_of-result-2
 invariant_of-result-2 c =
     table_more c.self.inside.blocks.items _ c.args.block c.self.inside.numbers _ c.self.inside.cores _ c.self.invariant (sym c.if-contains_key.ensures)

@@ -7,6 +7,7 @@ use Rattle.ceal_traceck.proofs.WalkSteps.{makes-more, over-is}
 use Rattle.ceal_traceck.specs.Walk.{code_of, plain_of, waiting}
 use Rattle.ceal_traceck.proofs.replay.Walk.make.Goals as goal
 
+-- a step and an allocation of this key follow, and the variable gets the block that they name
 pub returns-clause-turn : goal.returns-clause-turn
 returns-clause-turn c =
     let w = c.args.self.now in

@@ -4,6 +4,7 @@ use Rattle.ceal_traceck.proofs.WalkSteps.{reads-more, waiting-push}
 use Rattle.ceal_traceck.specs.Walk.{code_of, plain_of, waiting}
 use Rattle.ceal_traceck.proofs.replay.Walk.read.Goals as goal
 
+-- a step and this read follow; its unit runs on the value that was recorded, and the rest waits
 pub returns-clause-turn : goal.returns-clause-turn
 returns-clause-turn c =
     let w = c.args.self.now in

@@ -3,6 +3,7 @@ use Rattle.ceal_traceck.proofs.WalkSteps.{writes-more}
 use Rattle.ceal_traceck.specs.Walk.{code_of, plain_of, waiting}
 use Rattle.ceal_traceck.proofs.replay.Walk.write.Goals as goal
 
+-- a step and this write follow
 pub returns-clause-turn : goal.returns-clause-turn
 returns-clause-turn c =
     let w = c.args.self.now in
