@@ -1,4 +1,4 @@
-use Rattle.std.proofs.Common.{◌≡◌, ◌<◌, ◌++◌, ap, ap₂, sym, subst, ◌∙◌, ◌||◌, ◌&&◌, not, length}
+use Rattle.std.proofs.Common.{◌≡◌, ◌<◌, ap, ap₂, sym, subst, ◌∙◌, ◌||◌, ◌&&◌, not, length}
 use Rattle.ceal_flow.specs.Bits.{has_bit, members}
 use Rattle.ceal_flow.specs.Sets.{is_in, is_that}
 use Rattle.ceal_flow.proofs.BitFacts.{in-members, members-ascend, members-few, members-more, or-left}
