@@ -15,7 +15,7 @@ use std::alloc::Global;
 use std::marker::Model;
 
 /// How many names are looked through one by one. Most functions and structs have no more, and nothing is hashed there.
-const FEW: usize = 8;
+pub const FEW: usize = 8;
 
 /// Values by their names, in the order in which they were added. A name's number is its place, from 0. The first few
 /// are in a list, and those after them in a map by their hashes.
