@@ -150,6 +150,17 @@ fn but(chunk: Chunk, except: Option<u32>) -> u64
     }
 }
 
+/// A copy, with room for what a set of `others` chunks adds. Mostly two sets have no more chunks than the larger one by
+/// itself, and a vector that grows by pushes would have up to twice that room.
+pub fn copied(alloc: Global, chunks: &[Chunk], others: usize) -> Result<Vec<Chunk>, NoMemory>
+    ensures equal { IfOk result (λ copy. copy.items ≡ chunks.now) }
+{
+    let room = chunks.len().max(others);
+    let mut copy = Vec::with_capacity(alloc, room)?;
+    copy.extend_from_slice(chunks)?;
+    Ok(copy)
+}
+
 /// Adds the numbers of the other set but one, and says whether any was added.
 pub fn add(chunks: &mut Vec<Chunk>, others: &[Chunk], except: Option<u32>) -> Result<bool, NoMemory>
     requires ordered { AreOrdered chunks.old.items }

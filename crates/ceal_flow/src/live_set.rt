@@ -4,7 +4,7 @@ ghost use Rattle.std.specs.Prelude.{◌≡◌, ◌<◌, ◌≤◌, ◌==◌, ◌
 ghost use Rattle.std.specs.Prelude.{OnErr};
 ghost use Rattle.ceal_flow.specs.Sets.{is_in, is_that, IsAscending};
 
-use crate::bits::{Chunk, add, has, numbers, put, skip};
+use crate::bits::{Chunk, add, copied, has, numbers, put, skip};
 use ceal_base::no_memory::NoMemory;
 use std::alloc::Global;
 use std::marker::Model;
@@ -69,8 +69,7 @@ impl LiveSet {
         ensures ascending { IsAscending self.new }
         ensures few { length self.new ≤ 2 ^ 32 }
     {
-        let mut grown = Vec::new(self.alloc);
-        grown.extend_from_slice(self.chunks.as_slice())?;
+        let mut grown = copied(self.alloc, self.chunks.as_slice(), other.chunks.len())?;
         let changed = add(&mut grown, other.chunks.as_slice(), except)?;
         self.chunks = grown;
         Ok(changed)

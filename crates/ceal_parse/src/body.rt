@@ -2,7 +2,7 @@
 // way.
 
 ghost use Rattle.std.specs.Prelude.{◌≡◌, ◌<◌, ◌≤◌, Some, true, IfOk};
-ghost use Rattle.ceal_grammar.specs.Machine.{placed, begun, moved, mode_nesting, operators_in};
+ghost use Rattle.ceal_grammar.specs.Machine.{at_owned, placed, begun, moved, mode_nesting, operators_in};
 ghost use Rattle.ceal_parse.specs.Reading.{has_parts, is_aside, is_begun, is_later, turn_state};
 
 use crate::block::{
@@ -17,6 +17,7 @@ use crate::statement::{
     take_reached, take_typing,
 };
 use crate::turn::{Part, Turn, leave, no_expr, no_name, stand};
+use ceal_base::fault::Span;
 use ceal_base::no_memory::NoMemory;
 use ceal_base::syntax::{Stmt, TypeForm, Value};
 use ceal_grammar::state::{Callee, Inside, Making, Mode, Owner, Receiver, Target, TypePart};
@@ -32,6 +33,16 @@ fn go_on(mode: &mut Mode, next: Option<Mode>) -> Turn
         Some(next) => stand(mode, next),
         None => Turn::Refused,
     }
+}
+
+/// The token after `self` at the beginning of a statement. It is rare, and the place that it makes is not cleared for
+/// each token of a body.
+#[inline(never)]
+fn take_own(mode: &mut Mode, at: Span, token: &Token) -> Turn
+    ensures value { (i : Inside)
+        → turn_state i mode.new result ≡ placed i (at_owned at token.now.kind) }
+{
+    go_on(mode, take_owned(at, token))
 }
 
 /// A token within a path, an `alloc`, a `modref` or a call.
@@ -248,7 +259,7 @@ pub fn take_mode(
         }
         Mode::Owned(at) => {
             let at = *at;
-            Ok(go_on(mode, take_owned(at, token)))
+            Ok(take_own(mode, at, token))
         }
         _ => {
             let turn = take_part(alloc, inside, mode, token)?;

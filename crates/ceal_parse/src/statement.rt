@@ -18,7 +18,7 @@ use ceal_base::boxed::Boxed;
 use ceal_base::fault::Span;
 use ceal_base::items::Items;
 use ceal_base::no_memory::NoMemory;
-use ceal_base::syntax::{Expr, ExprForm, Ident, Stmt, TypeForm};
+use ceal_base::syntax::{Expr, ExprForm, Ident, Stmt, Stmts, TypeForm};
 use ceal_grammar::stack::Stack;
 use ceal_grammar::state::{
     Callee, Chained, Inside, Mode, Opened, Owner, Place, Receiver, State, Target, TypePart, Typing,
@@ -102,13 +102,22 @@ pub fn take_end(
     }
 }
 
+/// No statements of a block that opens. There is room for one at first, since many blocks have no more.
+fn no_statements(alloc: Global) -> Result<Stmts, NoMemory>
+    ensures nothing { IfOk result (λ statements. statements ≡ []) }
+{
+    let statements = Vec::with_capacity(alloc, 1)?;
+    Ok(Items::new(statements))
+}
+
 /// Opens a block.
 #[inline(never)]
 pub fn open_block(alloc: Global, inside: &mut Inside, owner: Owner) -> Result<(), NoMemory>
     requires shallow { inside.old.nesting < 2 ^ 31 }
     ensures value { IfOk result (λ _. State.In inside.new Mode.Body ≡ opened_by inside.old owner) }
 {
-    let before = mem::replace(&mut inside.done, Items::empty(alloc));
+    let statements = no_statements(alloc)?;
+    let before = mem::replace(&mut inside.done, statements);
     let chain = mem::replace(&mut inside.chain, Stack::new(alloc));
     inside.opened.push(Opened {
         before,

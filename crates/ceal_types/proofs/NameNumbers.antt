@@ -2,4 +2,5 @@
 pub mod FoundPlace
 pub mod NamesOfStructs
 pub mod NumberOfName
+pub mod FirstFew
 pub mod FirstOfName

@@ -1,5 +1,6 @@
 // How names are hashed.
 
+use crate::table::FEW;
 use ceal_base::syntax::{Entry, FieldDecl, FunctionDecl, Stmt};
 use ceal_base::text::Text;
 use sha2::{Digest, Sha512};
@@ -73,7 +74,31 @@ impl Fed {
     }
 }
 
+// How many names statements declare. It recurses as deep as blocks are nested.
+fn declared(stmts: &[Stmt]) -> usize {
+    let mut count: usize = 0;
+    for s in stmts {
+        let more = match s {
+            Stmt::Declare(..) => 1,
+            Stmt::If(_, _, first, second) => {
+                declared(first.items()).saturating_add(declared(second.items()))
+            }
+            Stmt::While(_, _, body) => declared(body.items()),
+            _ => 0,
+        };
+        count = count.saturating_add(more);
+    }
+    count
+}
+
 impl Seed {
+    /// For a table that hashes nothing.
+    fn unused() -> Seed {
+        Seed {
+            start: DefaultHasher::new(),
+        }
+    }
+
     /// A number that another table may begin with.
     pub fn number(&self, at: u64) -> u64 {
         let mut more = self.start;
@@ -109,8 +134,16 @@ impl Seed {
         fed.seed()
     }
 
-    /// The names of a function's parameters and variables.
+    /// The names of a function's parameters and variables. A table of few names hashes none.
     pub fn of_function(function: &FunctionDecl) -> Seed {
+        let names = function
+            .params
+            .items()
+            .len()
+            .saturating_add(declared(function.body.items()));
+        if names <= FEW {
+            return Seed::unused();
+        }
         let mut fed = Fed::new();
         fed.add_fields(function.params.items());
         fed.add_declared(function.body.items());

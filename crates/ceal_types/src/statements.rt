@@ -15,9 +15,8 @@ use crate::heads::{add_variable, kind_of};
 use crate::kinds::{held, suits};
 use crate::members::{fault, find_member};
 use crate::program::{Body, Site, Variables};
-use crate::values::{check_call, type_condition, type_exprs, type_value};
+use crate::values::{check_call, type_condition, type_exprs, type_value, with_room};
 use ceal_base::fault::{FaultCode, FrontError, Span};
-use ceal_base::items::Items;
 use ceal_base::kind::{FieldKind, Kind};
 use ceal_base::syntax::{Expr, Ident, Stmt, TypeForm, Value};
 use ceal_base::typed::{TypedExpr, TypedStmt, TypedStmts};
@@ -165,7 +164,7 @@ pub fn type_block(
         (inner_block (typed_stmts body.now.program.now body.now.own stmts.now) variables.old) }
 {
     let outer = variables.scope.len();
-    let mut typed = Items::empty(body.alloc);
+    let mut typed = with_room(body.alloc, stmts.len())?;
     for s in stmts {
         let s = type_stmt(body, variables, s)?;
         typed.push(s)?;

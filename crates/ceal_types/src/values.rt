@@ -1,6 +1,6 @@
 // What a variable is given.
 
-ghost use Rattle.std.specs.Prelude.{◌≡◌, [], Ok, length};
+ghost use Rattle.std.specs.Prelude.{◌≡◌, [], Ok, length, IfOk};
 ghost use Rattle.ceal_base.specs.Answers.{Gives};
 ghost use Rattle.ceal_types.specs.Expressions.{typed_exprs, condition};
 ghost use Rattle.ceal_types.specs.Statements as spec;
@@ -13,15 +13,25 @@ use crate::program::{Head, Site};
 use ceal_base::fault::{FaultCode, FrontError, Span};
 use ceal_base::items::Items;
 use ceal_base::kind::Kind;
+use ceal_base::no_memory::NoMemory;
 use ceal_base::syntax::{Expr, Ident, Value};
 use ceal_base::typed::{TypedExpr, TypedExprs, TypedValue};
+use std::alloc::Global;
+
+/// A list without items, with room for this many.
+pub fn with_room<T>(alloc: Global, count: usize) -> Result<Items<T>, NoMemory>
+    ensures empty { IfOk result (λ list. list ≡ []) }
+{
+    let items = Vec::with_capacity(alloc, count)?;
+    Ok(Items::new(items))
+}
 
 /// Expressions from left to right.
 pub fn type_exprs(site: &Site<'_, '_>, es: &[Expr]) -> Result<TypedExprs, FrontError>
     ensures value { Gives result
         (typed_exprs site.now.program.now site.now.own site.now.variables.now es.now) }
 {
-    let mut typed = Items::empty(site.alloc);
+    let mut typed = with_room(site.alloc, es.len())?;
     for e in es {
         let e = type_expr(site, e)?;
         typed.push(e)?;

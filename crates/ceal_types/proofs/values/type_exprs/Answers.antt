@@ -10,7 +10,7 @@ returns-in_err-e c =
     let es = c.args.es.now in
     let step = with_expr c.args.site.now.program.now c.args.site.now.own c.args.site.now.variables.now in
     let within : c.loop-e.e-index < length c.args.es.now = omega arith in
-    let p = err_from_is_err_and c.from_residual.result c.from_residual.ensures.1 in
+    let p = err_from_is_err_and c.from_residual-in_err-e.result c.from_residual-in_err-e.ensures.1 in
     let failed = fails-mapped (at_end c.loop-e.typed) _ _ c.in_err-e.ensures.value in
     record { value = rw (p.1, p.2) (turn-failed step es _ c.e-item.result _ _ _ c.e-item.is within c.loop-e.invariant failed) }
 
