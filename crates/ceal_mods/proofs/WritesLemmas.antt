@@ -1,10 +1,13 @@
 -- Stamps with their values.
-use Rattle.std.proofs.Common.{◌≡◌, ◌<◌, ◌≤◌, ◌+◌, ◌-◌, ℕ, suc, zero, inl, inr, true, false, List, [], ◌∷◌, length, get_or, refl, ap, arith}
+use Rattle.std.proofs.Common.{◌≡◌, ◌<◌, ◌≤◌, ◌+◌, ◌-◌, ℕ, suc, zero, inl, inr, true, false, List, [], ◌∷◌, length, map, get_or, refl, sym, ap, ◌∙◌, arith}
 use Rattle.std.proofs.lemmas.Bool.Decides.{eqb_tells}
 use Rattle.std.proofs.lemmas.Bool.{cases_lt, lt-ltb, le-ltb, eq-eqb}
 use Rattle.std.specs.List.{insert, remove}
+use Rattle.std.proofs.lemmas.List.{length-map}
 use Rattle.ceal_base.specs.declared.word.Word.{Word}
 use Rattle.ceal_order.specs.Stamps.{is_in, place, without}
+use Rattle.ceal_order.specs.Packed.{word_of}
+use Rattle.ceal_order.specs.declared.packed.Packed.{Packed}
 use Rattle.ceal_order.specs.Rising.{IsBeforeAll, IsRising, count_before}
 use Rattle.ceal_mods.specs.Writes.{Write, stamps_of, written, last_of, those_before, without_one}
 
@@ -69,7 +72,7 @@ written-insert (x ∷ xs) [] (suc i) s v same = absurd (omega arith)
 written-insert (x ∷ xs) (y ∷ ys) (suc i) s v same =
     ap (λ (l : List Write). record { stamp = x; value = y } ∷ l) (written-insert xs ys i s v (omega arith))
 
-pub as_many-insert : (ss : List ℕ) (vs : List Word) (i s : ℕ) (v : Word) → length ss ≡ length vs → length (insert ss i s) ≡ length (insert vs i v)
+pub as_many-insert : {A : Type 0} (ss : List ℕ) (vs : List A) (i s : ℕ) (v : A) → length ss ≡ length vs → length (insert ss i s) ≡ length (insert vs i v)
 as_many-insert ss vs zero s v same = ap suc same
 as_many-insert [] [] (suc i) s v same = refl
 as_many-insert [] (y ∷ ys) (suc i) s v same = absurd (omega arith)
@@ -89,7 +92,7 @@ written-without s (x ∷ xs) (v ∷ vs) same found = elim (eqb_tells x s) [
       rw (p.0, next) (ap (λ (l : List Write). record { stamp = x; value = v } ∷ l) (written-without s xs vs (omega arith) (rw p.0 at found)))
 ]
 
-pub as_many-without : (s : ℕ) (ss : List ℕ) (vs : List Word) → length ss ≡ length vs → is_in s ss ≡ true → length (without s ss) ≡ length (remove vs (place s ss))
+pub as_many-without : {A : Type 0} (s : ℕ) (ss : List ℕ) (vs : List A) → length ss ≡ length vs → is_in s ss ≡ true → length (without s ss) ≡ length (remove vs (place s ss))
 as_many-without s [] vs same found = absurd (cc)
 as_many-without s (x ∷ xs) [] same found = absurd (omega arith)
 as_many-without s (x ∷ xs) (v ∷ vs) same found = elim (eqb_tells x s) [
@@ -113,3 +116,25 @@ pub in-inserted : (s i : ℕ) (ss : List ℕ) → is_in s (insert ss i s) ≡ tr
 in-inserted s zero ss = rw (eq-eqb s s refl) refl
 in-inserted s (suc i) [] = rw (eq-eqb s s refl) refl
 in-inserted s (suc i) (x ∷ xs) = elim (eqb_tells x s) [ inl p ↦ rw p.0 refl | inr p ↦ rw p.0 (in-inserted s i xs) ]
+
+-- ---- values that are packed
+
+pub packed-insert : (vs : List Packed) (i : ℕ) (v : Packed) → map word_of (insert vs i v) ≡ insert (map word_of vs) i (word_of v)
+packed-insert vs zero v = refl
+packed-insert [] (suc i) v = refl
+packed-insert (x ∷ xs) (suc i) v = ap (λ (l : List Word). word_of x ∷ l) (packed-insert xs i v)
+
+pub packed-remove : (vs : List Packed) (i : ℕ) → map word_of (remove vs i) ≡ remove (map word_of vs) i
+packed-remove [] zero = refl
+packed-remove [] (suc i) = refl
+packed-remove (x ∷ xs) zero = refl
+packed-remove (x ∷ xs) (suc i) = ap (λ (l : List Word). word_of x ∷ l) (packed-remove xs i)
+
+pub packed-get : (vs : List Packed) (i : ℕ) (d : Word) (v : Packed) → i < length vs → ((other : Packed) → get_or vs i other ≡ v) → get_or (map word_of vs) i d ≡ word_of v
+packed-get [] i d v within is = absurd (omega (arith, within))
+packed-get (x ∷ xs) zero d v within is = ap word_of (is v)
+packed-get (x ∷ xs) (suc i) d v within is = packed-get xs i d v (omega (arith, within)) is
+
+-- as many stamps as values that are packed are as many as their words
+pub as_many-packed : (ss : List ℕ) (vs : List Packed) → length ss ≡ length vs → length ss ≡ length (map word_of vs)
+as_many-packed ss vs same = same ∙ sym (length-map vs word_of)

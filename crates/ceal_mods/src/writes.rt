@@ -8,6 +8,7 @@ ghost use Rattle.ceal_mods.specs.Writes.{stamps_of, last_of, those_before, with_
 use ceal_base::no_memory::NoMemory;
 use ceal_base::word::Word;
 use ceal_order::order::Order;
+use ceal_order::packed::Packed;
 use ceal_order::rising::Rising;
 use ceal_order::short_list::ShortList;
 use ceal_order::stamp::Stamp;
@@ -18,16 +19,17 @@ use std::marker::Model;
 #[derive(Drop)]
 pub struct Writes {
     stamps: Rising,
-    values: ShortList<Word>,
+    values: ShortList<Packed>,
 }
 
 impl Model for Writes {
-    ghost use Rattle.std.specs.Prelude.{◌≡◌, List, length};
+    ghost use Rattle.std.specs.Prelude.{◌≡◌, List, length, map};
+    ghost use Rattle.ceal_order.specs.Packed.{word_of};
     ghost use Rattle.ceal_mods.specs.Writes.{Write, written};
 
     ghost Value = { List Write };
 
-    ghost view = { λ w. written w.stamps w.values };
+    ghost view = { λ w. written w.stamps (map word_of w.values) };
 
     ghost invariant = { λ w. length w.stamps ≡ length w.values };
 }
@@ -53,7 +55,7 @@ impl Writes {
         if count == 0 {
             base
         } else {
-            self.values.get(count - 1)
+            self.values.get(count - 1).word()
         }
     }
 
@@ -65,7 +67,7 @@ impl Writes {
         if count == 0 {
             base
         } else {
-            self.values.get(count - 1)
+            self.values.get(count - 1).word()
         }
     }
 
@@ -91,7 +93,7 @@ impl Writes {
         ensures rising { IsRising order.now.stamps (stamps_of self.new) }
     {
         let at = self.stamps.insert(order, stamp)?;
-        match self.values.insert(at, value) {
+        match self.values.insert(at, Packed::of(value)) {
             Ok(()) => Ok(()),
             Err(error) => {
                 self.stamps.remove(order, stamp);

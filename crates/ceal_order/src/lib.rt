@@ -11,8 +11,10 @@
 //! What is kept by time is kept in lists of stamps that rise along the order: each is before those that follow it.
 //! `rising` is such a list, searched by halves; it is in a `short_list`, which takes no memory for up to two stamps,
 //! and for more a `sequence`, which keeps chunks of them in a balanced `tree`. `chunks` puts items into such a tree and
-//! takes them out, and `search` finds a place in it. `laws` says along which other orders stamps still rise. `room`
-//! makes room in lists that grow.
+//! takes them out, and `search` finds a place in it. `laws` says along which other orders stamps still rise.
+//!
+//! Two more modules serve all that is kept by time: `room` makes room in lists that grow, and `packed` is a word in 12
+//! bytes.
 #![tactic(auto)]
 
 mod chunks;
@@ -20,6 +22,7 @@ mod labels;
 pub mod laws;
 mod link;
 pub mod order;
+pub mod packed;
 pub mod rising;
 pub mod room;
 mod run;

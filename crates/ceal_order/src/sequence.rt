@@ -121,7 +121,20 @@ impl<T: Copy> Sequence<T> {
 
     /// Takes what memory the next insertion may need, and where there are many items, some for those after it: after a
     /// few such calls each chunk may be halved once without taking memory.
+    #[inline]
     pub fn make_ample_room(&mut self) -> Result<(), NoMemory>
+        ensures { self.new ≡ self.old }
+    {
+        let len = self.last.len();
+        if len < HALF_CHUNK && len < self.last.capacity() && count(&self.front) == 0 {
+            return Ok(());
+        }
+        self.take_ample_room()
+    }
+
+    // Takes it where the list is not short or its last chunk is full, which is seldom so.
+    #[inline(never)]
+    fn take_ample_room(&mut self) -> Result<(), NoMemory>
         ensures { self.new ≡ self.old }
     {
         self.make_room()?;

@@ -1,8 +1,7 @@
 -- Three stale reads that wait, and the earliest of them.
-use Rattle.std.proofs.Common.{◌≡◌, ℕ, List, [], ◌∷◌, Some, refl, sym, lit<, arith}
+use Rattle.std.proofs.Common.{ℕ, List, [], ◌∷◌, Some, refl, sym, lit<, arith}
 use Rattle.ceal_queue.proofs.QueueLemmas.{in_other}
 use Rattle.ceal_queue.specs.Queue.{Waiting, Follows, IsBefore, IsEarliest, IsWithout}
-use Rattle.ceal_order.specs.declared.stamp.Stamp.{Stamp}
 
 -- time is told by an order of stamps, and not by their numbers
 abbrev order : List ℕ

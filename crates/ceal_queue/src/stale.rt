@@ -47,7 +47,23 @@ impl Stale {
     }
 
     /// Makes room for `n` more stamps. `NoMemory` also comes when there would be 2^32 stamps or more, the room counted.
+    #[inline]
     pub fn reserve(&mut self, n: u32) -> Result<(), NoMemory>
+        ensures stamps { self.new.stamps ≡ self.old.stamps }
+        ensures room { OnOk result (self.new.spare ≡ max self.old.spare n) }
+        ensures err { OnErr result (self.new ≡ self.old) }
+        ensures follows { (order : List ℕ) → Follows order self.old → Follows order self.new }
+    {
+        if n <= self.spare {
+            self.stamps.make_next_room()?;
+            return Ok(());
+        }
+        self.widen(n)
+    }
+
+    // Makes room where there is too little, which is seldom so.
+    #[inline(never)]
+    fn widen(&mut self, n: u32) -> Result<(), NoMemory>
         ensures stamps { self.new.stamps ≡ self.old.stamps }
         ensures room { OnOk result (self.new.spare ≡ max self.old.spare n) }
         ensures err { OnErr result (self.new ≡ self.old) }

@@ -64,6 +64,14 @@ impl Stamps {
         Ok(())
     }
 
+    /// Makes room for the next ones in the sequence.
+    #[inline]
+    pub fn make_next_room(&mut self) -> Result<(), NoMemory>
+        ensures { self.new ≡ self.old }
+    {
+        self.sequence.make_ample_room()
+    }
+
     pub fn get(&self, index: usize) -> Stamp
         requires { index < length self.now.items }
         ensures { (other : StampOf) → slice_index_or self.now.items index other ≡ result }

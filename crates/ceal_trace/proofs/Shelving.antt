@@ -12,7 +12,9 @@ use Rattle.ceal_trace.specs.declared.held.Held.{Held}
 use Rattle.ceal_trace.specs.declared.held.Held.TheVariants as small
 use Rattle.ceal_trace.specs.declared.held.Apart.{Apart}
 use Rattle.ceal_trace.specs.declared.held.Apart.TheVariants as other
+use Rattle.ceal_order.specs.declared.packed.Packed.{Packed}
 use Rattle.ceal_trace.specs.Nodes.{valued}
+use Rattle.ceal_order.specs.Packed.{number_of, word_of}
 use Rattle.ceal_trace.specs.Shelves.{keyed, closed, whole, whole_in, place_of, needs, weight, IsFit, Split, Joined, held_valued}
 
 -- ---- how many slots are counted, where one changes
@@ -70,18 +72,18 @@ closed_some value (Some a) some = refl
 pub stands : (a : Slab Apart) (o : Option Held) (at : ℕ) → IsSome (whole_in a o) → place_of o ≡ Some at → IsSome (get a at)
 stands a None at some is = absurd (cc)
 stands a (Some small.Root) at some is = absurd (cc)
-stands a (Some (small.Alloc block k)) at some is = let same : k ≡ at = cc in subst (λ (n : ℕ). IsSome (get a n)) same (keyed_some block (get a k) some)
+stands a (Some (small.Alloc block k)) at some is = let same : number_of k ≡ at = cc in subst (λ (n : ℕ). IsSome (get a n)) same (keyed_some block (get a (number_of k)) some)
 stands a (Some (small.Write place value)) at some is = absurd (cc)
-stands a (Some (small.Read value k)) at some is = let same : k ≡ at = cc in subst (λ (n : ℕ). IsSome (get a n)) same (closed_some value (get a k) some)
+stands a (Some (small.Read value k)) at some is = let same : number_of k ≡ at = cc in subst (λ (n : ℕ). IsSome (get a n)) same (closed_some (word_of value) (get a (number_of k)) some)
 stands a (Some (small.End read)) at some is = absurd (cc)
 
 -- a node is whole as long as its other part is kept
 pub whole_kept : (a a' : Slab Apart) (o : Option Held) → ((at : ℕ) → place_of o ≡ Some at → get a' at ≡ get a at) → whole_in a' o ≡ whole_in a o
 whole_kept a a' None kept = refl
 whole_kept a a' (Some small.Root) kept = refl
-whole_kept a a' (Some (small.Alloc block k)) kept = ap (keyed block) (kept k refl)
+whole_kept a a' (Some (small.Alloc block k)) kept = ap (keyed block) (kept (number_of k) refl)
 whole_kept a a' (Some (small.Write place value)) kept = refl
-whole_kept a a' (Some (small.Read value k)) kept = ap (closed value) (kept k refl)
+whole_kept a a' (Some (small.Read value k)) kept = ap (closed (word_of value)) (kept (number_of k) refl)
 whole_kept a a' (Some (small.End read)) kept = refl
 
 none_or_some : {X : Type 0} (o : Option X) → (o ≡ None) ⊎ IsSome o
@@ -184,24 +186,24 @@ module _ (h h' : Slab Held) (a a' : Slab Apart) (key : ℕ) (n : Node) (x : Held
 
 -- ---- another value
 
-valued_whole : (a : Slab Apart) (value : Word) (x : Held) → whole a (held_valued value x) ≡ option_map (valued value) (whole a x)
+valued_whole : (a : Slab Apart) (value : Packed) (x : Held) → whole a (held_valued value x) ≡ option_map (valued (word_of value)) (whole a x)
 valued_whole a value small.Root = refl
-valued_whole a value (small.Alloc block at) = by (get a at)
+valued_whole a value (small.Alloc block at) = by (get a (number_of at))
   where
-    by : (o : Option Apart) → keyed block o ≡ option_map (valued value) (keyed block o)
+    by : (o : Option Apart) → keyed block o ≡ option_map (valued (word_of value)) (keyed block o)
     by None = refl
     by (Some (other.Key key)) = refl
     by (Some (other.Closure place unit var args)) = refl
 valued_whole a value (small.Write place word) = refl
-valued_whole a value (small.Read word at) = by (get a at)
+valued_whole a value (small.Read word at) = by (get a (number_of at))
   where
-    by : (o : Option Apart) → closed value o ≡ option_map (valued value) (closed word o)
+    by : (o : Option Apart) → closed (word_of value) o ≡ option_map (valued (word_of value)) (closed (word_of word) o)
     by None = refl
     by (Some (other.Key key)) = refl
     by (Some (other.Closure place unit var args)) = refl
 valued_whole a value (small.End read) = refl
 
-valued_place : (value : Word) (x : Held) → place_of (Some (held_valued value x)) ≡ place_of (Some x)
+valued_place : (value : Packed) (x : Held) → place_of (Some (held_valued value x)) ≡ place_of (Some x)
 valued_place value small.Root = refl
 valued_place value (small.Alloc block at) = refl
 valued_place value (small.Write place word) = refl
@@ -212,13 +214,13 @@ some_mapped : {X Y : Type 0} (g : X → Y) (o : Option X) → IsSome o → IsSom
 some_mapped g None some = some
 some_mapped g (Some x) some = refl
 
-module _ (h h' : Slab Held) (a : Slab Apart) (key : ℕ) (value : Word) (x : Held)
+module _ (h h' : Slab Held) (a : Slab Apart) (key : ℕ) (value : Packed) (x : Held)
     (fit : IsFit h a) (was : get h key ≡ Some x) (is : h' ≡ with_value h key (held_valued value x)) where
   ups : Updates h h' key (Some (held_valued value x))
   ups = subst (λ (s : Slab Held). Updates h s key (Some (held_valued value x))) (sym is) (Updates-with_value h key (held_valued value x) (ap is_some was))
 
-  pub valued_changed : whole_in a (get h' key) ≡ option_map (valued value) (whole_in a (get h key))
-  valued_changed = ap (whole_in a) ups.changed ∙ valued_whole a value x ∙ sym (ap (λ (o : Option Held). option_map (valued value) (whole_in a o)) was)
+  pub valued_changed : whole_in a (get h' key) ≡ option_map (valued (word_of value)) (whole_in a (get h key))
+  valued_changed = ap (whole_in a) ups.changed ∙ valued_whole a value x ∙ sym (ap (λ (o : Option Held). option_map (valued (word_of value)) (whole_in a o)) was)
 
   pub valued_others : (k : ℕ) → k ≢ key → whole_in a (get h' k) ≡ whole_in a (get h k)
   valued_others k differs = ap (whole_in a) (ups.others k differs)
@@ -258,7 +260,7 @@ module _ (h h' : Slab Held) (a : Slab Apart) (key : ℕ) (value : Word) (x : Hel
   valued_fits = record {
     there = λ k some. elim (cases_eq k key) [
       | inl same ↦ subst (λ (m : ℕ). IsSome (whole_in a (get h' m))) (sym same)
-          (ap is_some valued_changed ∙ some_mapped (valued value) (whole_in a (get h key)) (fit.there key (ap is_some was)))
+          (ap is_some valued_changed ∙ some_mapped (valued (word_of value)) (whole_in a (get h key)) (fit.there key (ap is_some was)))
       | inr differs ↦ ap is_some (valued_others k differs) ∙ fit.there k (ap is_some (sym (ups.others k differs)) ∙ some)
     ];
     one = λ k l at first second. fit.one k l at (sym (place_same k) ∙ first) (sym (place_same l) ∙ second);

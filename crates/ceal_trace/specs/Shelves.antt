@@ -10,7 +10,9 @@ use Rattle.ceal_trace.specs.declared.held.Held.TheVariants as small
 use Rattle.ceal_trace.specs.declared.held.Apart.{Apart}
 use Rattle.ceal_trace.specs.declared.held.Apart.TheVariants as other
 use Rattle.ceal_trace.specs.declared.shelf.Shelf.{Shelf}
+use Rattle.ceal_order.specs.declared.packed.Packed.{Packed}
 use Rattle.ceal_trace.specs.Nodes.{valued}
+use Rattle.ceal_order.specs.Packed.{number_of, word_of}
 
 -- stands for no key
 abbrev pub no_key : ℕ
@@ -29,9 +31,9 @@ closed value _ = None
 -- a whole node
 abbrev pub whole : Slab Apart → Held → Option Node
 whole apart small.Root = Some node.Root
-whole apart (small.Alloc block at) = keyed block (get apart at)
-whole apart (small.Write place value) = Some (node.Write place value)
-whole apart (small.Read value at) = closed value (get apart at)
+whole apart (small.Alloc block at) = keyed block (get apart (number_of at))
+whole apart (small.Write place value) = Some (node.Write place (word_of value))
+whole apart (small.Read value at) = closed (word_of value) (get apart (number_of at))
 whole apart (small.End read) = Some (node.End read)
 
 abbrev pub whole_in : Slab Apart → Option Held → Option Node
@@ -45,8 +47,8 @@ or_root (Some n) = n
 
 -- under which key a part stands apart
 abbrev pub place_of : Option Held → Option ℕ
-place_of (Some (small.Alloc block at)) = Some at
-place_of (Some (small.Read value at)) = Some at
+place_of (Some (small.Alloc block at)) = Some (number_of at)
+place_of (Some (small.Read value at)) = Some (number_of at)
 place_of _ = None
 
 -- whether a part stands apart
@@ -87,15 +89,17 @@ pub record Joined (old new : Slab Apart) (held : Held) (node : Node) : Type 0 wh
   pub room : new.capacity ≡ old.capacity
 
 -- a read with this value, another one as it is
-abbrev pub held_valued : Word → Held → Held
+abbrev pub held_valued : Packed → Held → Held
 held_valued value (small.Read _ at) = small.Read value at
 held_valued value h = h
 
 -- the small part at a key has another value
 pub record HeldValued (key : ℕ) (value : Word) (old new : Slab Held) : Type 0 where
   pub was : Held
+  pub packed : Packed
+  pub packs : word_of packed ≡ value
   pub there : get old key ≡ Some was
-  pub is : new ≡ with_value old key (held_valued value was)
+  pub is : new ≡ with_value old key (held_valued packed was)
 
 -- room may have been made, and nothing else
 pub record SameShelf (old new : Shelf) : Type 0 where

@@ -6,18 +6,20 @@ ghost use Rattle.ceal_trace.specs.Shelves.{whole, or_root, Joined, held_valued};
 
 use crate::node::{Node, Seen};
 use ceal_base::forest::{Key, UnitId};
-use ceal_base::word::{BlockId, Place, Word};
+use ceal_base::word::{BlockId, Place};
 use ceal_base::words::Words;
+use ceal_order::packed::{Halves, Packed};
 use ceal_order::stamp::Stamp;
 use slab::Slab;
 
-/// A node but for its key or its closure, the second part, which has a key in a slab of its own.
+/// A node but for its key or its closure, the second part, which has a key in a slab of its own. All of it is in numbers
+/// of 32 bits, so that the slab's tag takes no more than that.
 #[derive(Drop)]
 pub enum Held {
     Root,
-    Alloc { block: BlockId, apart: usize },
-    Write { place: Place, value: Word },
-    Read { value: Word, apart: usize },
+    Alloc { block: BlockId, apart: Halves },
+    Write { place: Place, value: Packed },
+    Read { value: Packed, apart: Halves },
     End { read: Stamp },
 }
 
@@ -40,12 +42,15 @@ pub fn join(apart: &mut Slab<Apart>, held: Held) -> Node
 {
     match held {
         Held::Root => Node::Root,
-        Held::Alloc { block, apart: at } => match apart.remove(at) {
+        Held::Alloc { block, apart: at } => match apart.remove(at.number() as usize) {
             Apart::Key(key) => Node::Alloc { block, key },
             Apart::Closure { .. } => unreachable!(),
         },
-        Held::Write { place, value } => Node::Write { place, value },
-        Held::Read { value, apart: at } => match apart.remove(at) {
+        Held::Write { place, value } => Node::Write {
+            place,
+            value: value.word(),
+        },
+        Held::Read { value, apart: at } => match apart.remove(at.number() as usize) {
             Apart::Closure {
                 place,
                 unit,
@@ -53,7 +58,7 @@ pub fn join(apart: &mut Slab<Apart>, held: Held) -> Node
                 args,
             } => Node::Read {
                 place,
-                value,
+                value: value.word(),
                 unit,
                 var,
                 args,
@@ -74,35 +79,35 @@ pub fn release(apart: &mut Slab<Apart>, held: Held) -> Option<Stamp>
     match held {
         Held::Root => None,
         Held::Alloc { apart: at, .. } => {
-            drop(apart.remove(at));
+            drop(apart.remove(at.number() as usize));
             None
         }
         Held::Write { .. } => None,
         Held::Read { apart: at, .. } => {
-            drop(apart.remove(at));
+            drop(apart.remove(at.number() as usize));
             None
         }
         Held::End { read } => Some(read),
     }
 }
 
-/// A node as it stands.
-#[inline]
+/// A node as it stands. It is always put in line, so that a part of it that nobody asks for is not unpacked.
+#[inline(always)]
 pub fn look<'a>(apart: &'a Slab<Apart>, held: &'a Held) -> Seen<'a>
     requires { IsSome (whole apart.now held.now) }
     ensures { whole apart.now held.now ≡ Some (seen result) }
 {
     match held {
         Held::Root => Seen::Root,
-        Held::Alloc { block, apart: at } => match &apart[*at] {
+        Held::Alloc { block, apart: at } => match &apart[at.number() as usize] {
             Apart::Key(key) => Seen::Alloc { block: *block, key },
             Apart::Closure { .. } => unreachable!(),
         },
         Held::Write { place, value } => Seen::Write {
             place: *place,
-            value: *value,
+            value: value.word(),
         },
-        Held::Read { value, apart: at } => match &apart[*at] {
+        Held::Read { value, apart: at } => match &apart[at.number() as usize] {
             Apart::Closure {
                 place,
                 unit,
@@ -110,7 +115,7 @@ pub fn look<'a>(apart: &'a Slab<Apart>, held: &'a Held) -> Seen<'a>
                 args,
             } => Seen::Read {
                 place: *place,
-                value: *value,
+                value: value.word(),
                 unit: *unit,
                 var: *var,
                 args,
@@ -122,7 +127,7 @@ pub fn look<'a>(apart: &'a Slab<Apart>, held: &'a Held) -> Seen<'a>
 }
 
 /// Gives a read another value.
-pub fn give_value(held: &mut Held, value: Word)
+pub fn give_value(held: &mut Held, value: Packed)
     ensures { held.new ≡ held_valued value held.old }
 {
     if let Held::Read { value: kept, .. } = held {

@@ -10,6 +10,7 @@ use crate::held::{Apart, Held};
 use ceal_base::forest::{Key, UnitId};
 use ceal_base::word::{BlockId, Place, Word};
 use ceal_base::words::Words;
+use ceal_order::packed::{Halves, Packed};
 use ceal_order::stamp::Stamp;
 use slab::Slab;
 
@@ -49,7 +50,10 @@ impl NewNode for NewAlloc {
     fn split(self, apart: &mut Slab<Apart>) -> Held {
         let NewAlloc { block, key } = self;
         let at = apart.insert_reserved(Apart::Key(key));
-        Held::Alloc { block, apart: at }
+        Held::Alloc {
+            block,
+            apart: Halves::of(at as u64),
+        }
     }
 }
 
@@ -64,7 +68,10 @@ impl NewNode for NewWrite {
     #[inline]
     fn split(self, _apart: &mut Slab<Apart>) -> Held {
         let NewWrite { place, value } = self;
-        Held::Write { place, value }
+        Held::Write {
+            place,
+            value: Packed::of(value),
+        }
     }
 }
 
@@ -94,7 +101,10 @@ impl NewNode for NewRead {
             var,
             args,
         });
-        Held::Read { value, apart: at }
+        Held::Read {
+            value: Packed::of(value),
+            apart: Halves::of(at as u64),
+        }
     }
 }
 

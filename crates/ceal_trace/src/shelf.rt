@@ -10,6 +10,7 @@ use crate::new_node::NewNode;
 use crate::node::{Node, Seen};
 use ceal_base::no_memory::NoMemory;
 use ceal_base::word::Word;
+use ceal_order::packed::Packed;
 use ceal_order::room::ample;
 use ceal_order::stamp::Stamp;
 use slab::Slab;
@@ -100,7 +101,7 @@ impl Shelf {
     }
 
     /// The node at a key.
-    #[inline]
+    #[inline(always)]
     pub fn node(&self, key: usize) -> Seen<'_>
         requires { IsSome (at self.now key) }
         ensures { at self.now key ≡ Some (seen result) }
@@ -123,5 +124,5 @@ fn value_at(held: &mut Slab<Held>, key: usize, value: Word)
     requires { ContainsKey held.old key }
     ensures { HeldValued key value held.old held.new }
 {
-    give_value(&mut held[key], value);
+    give_value(&mut held[key], Packed::of(value));
 }

@@ -111,7 +111,7 @@ impl Table {
         slot.steps
     }
 
-    #[inline]
+    #[inline(always)]
     pub fn node(&self, at: Stamp) -> Seen<'_>
         requires { IsTrue (held_at self.now at.0) }
         ensures { seen result ≡ node_of self.now at.0 }

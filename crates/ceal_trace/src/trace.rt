@@ -267,7 +267,7 @@ impl Trace {
         self.steps = self.steps - u64::from(old) + u64::from(steps);
     }
 
-    #[inline]
+    #[inline(always)]
     pub fn node(&self, stamp: Stamp) -> Seen<'_>
         requires here { IsTrue (has_node stamp.0 self.now.nodes) }
         ensures node { node_at stamp.0 self.now.nodes ≡ Some (seen result) }

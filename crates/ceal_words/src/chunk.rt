@@ -11,11 +11,13 @@ use std::marker::Model;
 // A block has fewer than 2 ^ 63 bytes.
 const MOST_WORDS: usize = 0x0fff_ffff_ffff_ffff;
 
-/// A row of words, which contracts see as their list.
+/// A row of words, which contracts see as their list, in memory that may have room for more. What comes after the words
+/// was never written to, so it takes no place yet.
 pub(crate) struct Chunk {
     block: Block,
     deed: Deed<Global>,
     count: usize,
+    room: usize,
     alloc: Global,
 }
 
@@ -27,8 +29,8 @@ impl Model for Chunk {
 
     ghost view = { λ c. held c.block.words };
 
-    ghost invariant = { λ c. IsWritten c.block.words c.count × (c.deed.at ≡ c.block.at)
-        × (c.deed.count ≡ c.count) × (c.deed.heap ≡ c.alloc) };
+    ghost invariant = { λ c. IsWritten c.block.words c.count c.room × (c.deed.at ≡ c.block.at)
+        × (c.deed.count ≡ c.room) × (c.deed.heap ≡ c.alloc) };
 }
 
 impl Drop for Chunk {
@@ -36,10 +38,11 @@ impl Drop for Chunk {
         let Chunk {
             block,
             deed,
-            count,
+            count: _,
+            room,
             alloc,
         } = self;
-        block.free(deed, &alloc, count);
+        block.free(deed, &alloc, room);
     }
 }
 
@@ -53,52 +56,59 @@ impl Chunk {
         }
         match Block::new(&alloc, count) {
             None => Err(NoMemory),
-            Some((block, deed)) => {
-                let block = cleared(block, 0, count);
+            Some((mut block, deed)) => {
+                clear(&mut block, 0, count);
                 Ok(Chunk {
                     block,
                     deed,
                     count,
+                    room: count,
                     alloc,
                 })
             }
         }
     }
 
-    // The same words and zeros after them, `count` in all, in new memory.
-    fn longer(&self, count: usize) -> Result<Chunk, NoMemory>
-        requires { length self.now ≤ count }
-        ensures { IfOk result (λ c. c ≡ self.now ++ replicate (count - length self.now) 0) }
+    // The same words and zeros after them, `len` in all, in new memory, which has twice the room.
+    fn longer(&self, len: usize) -> Result<Chunk, NoMemory>
+        requires { length self.now ≤ len }
+        ensures { IfOk result (λ c. c ≡ self.now ++ replicate (len - length self.now) 0) }
     {
-        if MOST_WORDS < count {
+        let room = len.max(self.room.saturating_mul(2));
+        if MOST_WORDS < room {
             return Err(NoMemory);
         }
         let alloc = self.alloc;
-        match Block::new(&alloc, count) {
+        match Block::new(&alloc, room) {
             None => Err(NoMemory),
-            Some((block, deed)) => {
-                let block = copied(self, block);
-                let block = cleared(block, self.count, count);
+            Some((mut block, deed)) => {
+                copy(self, &mut block);
+                clear(&mut block, self.count, len);
                 Ok(Chunk {
                     block,
                     deed,
-                    count,
+                    count: len,
+                    room,
                     alloc,
                 })
             }
         }
     }
 
-    /// Makes room for `len` words. Where there was no memory, all is as before.
+    /// Makes the row `len` words long, if it is shorter. Where there was no memory, all is as before.
     pub(crate) fn reserve(&mut self, len: usize) -> Result<(), NoMemory>
         ensures kept { (more : List ℕ) × (self.new ≡ self.old ++ more) }
         ensures ok { OnOk result (len ≤ length self.new) }
     {
-        let count = self.count;
-        if len <= count {
+        if len <= self.count {
             return Ok(());
         }
-        let larger = self.longer(len.max(count.saturating_mul(2)))?;
+        if len <= self.room {
+            clear(&mut self.block, self.count, len);
+            self.count = len;
+            return Ok(());
+        }
+        let larger = self.longer(len)?;
         *self = larger;
         Ok(())
     }
@@ -124,28 +134,28 @@ impl Chunk {
     }
 }
 
-// Writes 0 into each cell from an index on.
-fn cleared(mut block: Block, from: usize, count: usize) -> Block
-    requires count { length block.words ≡ count }
-    requires within { from ≤ count }
-    ensures words { result.words ≡ take from block.words ++ replicate (count - from) (Some 0) }
-    ensures at { result.at ≡ block.at }
+// Writes 0 into the cells from one index up to another.
+fn clear(block: &mut Block, from: usize, to: usize)
+    requires rises { from ≤ to }
+    requires within { to ≤ length block.old.words }
+    ensures words { block.new.words
+        ≡ take from block.old.words ++ replicate (to - from) (Some 0) ++ drop to block.old.words }
+    ensures at { block.new.at ≡ block.old.at }
 {
-    for index in from..count {
+    for index in from..to {
         block.write(index, 0);
     }
-    block
 }
 
 // Writes the words of a chunk into the first cells.
-fn copied(chunk: &Chunk, mut block: Block) -> Block
-    requires { length chunk.now ≤ length block.words }
-    ensures words { result.words ≡ map Some chunk.now ++ drop (length chunk.now) block.words }
-    ensures at { result.at ≡ block.at }
+fn copy(chunk: &Chunk, block: &mut Block)
+    requires { length chunk.now ≤ length block.old.words }
+    ensures words { block.new.words
+        ≡ map Some chunk.now ++ drop (length chunk.now) block.old.words }
+    ensures at { block.new.at ≡ block.old.at }
 {
     let count = chunk.len();
     for at in 0..count {
         block.write(at, chunk.get(at));
     }
-    block
 }

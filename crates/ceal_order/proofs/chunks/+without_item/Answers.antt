@@ -1,4 +1,4 @@
-use Rattle.std.proofs.Common.{◌≡◌, ◌+◌, ◌-◌, ◌++◌, List, length, sym, ap, ◌∙◌, arith}
+use Rattle.std.proofs.Common.{◌≡◌, ◌+◌, ◌-◌, ◌++◌, length, sym, ap, ◌∙◌, arith}
 use Rattle.ceal_order.specs.Tree.{items_of}
 use Rattle.ceal_order.proofs.TreeLemmas.{length-parts, remove-middle, remove-last, remove-fork}
 use Rattle.ceal_order.proofs.chunks.+without_item.Goals as goal

@@ -1,6 +1,5 @@
-use Rattle.std.proofs.Common.{◌≡◌, ◌<◌, length, arith}
+use Rattle.std.proofs.Common.{arith}
 use Rattle.ceal_order.specs.Tree.{items_of}
-use Rattle.ceal_order.specs.Rising.{numbers, count_before}
 use Rattle.ceal_order.proofs.TreeLemmas.{length-parts}
 use Rattle.ceal_order.proofs.Searching.{count_within}
 use Rattle.ceal_order.proofs.Parts.{rise_earlier, rise_here, rise_later, count_parts, all_earlier, none_later}

@@ -1,4 +1,4 @@
-use Rattle.std.proofs.Common.{◌≡◌, ◌<◌, ◌≤◌, length, take, sym, ap, ◌∙◌, arith, rules}
+use Rattle.std.proofs.Common.{◌<◌, length, ap, arith, rules}
 use Rattle.std.proofs.lemmas.List.{take_more}
 use Rattle.ceal_order.proofs.Searching.{blank}
 use Rattle.ceal_queue.proofs.stamps.move_all.Goals as goal

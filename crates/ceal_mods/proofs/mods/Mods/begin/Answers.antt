@@ -1,4 +1,4 @@
-use Rattle.std.proofs.Common.{◌≡◌, sym, ◌∙◌, arith}
+use Rattle.std.proofs.Common.{arith}
 use Rattle.ceal_mods.proofs.ModsLemmas.{rise_same, has_cell, no_cell, cell_none, added, added_touched, added_too, follow_added}
 use Rattle.ceal_mods.proofs.mods.Mods.begin.Goals as goal
 

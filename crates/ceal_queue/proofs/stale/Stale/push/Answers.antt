@@ -1,4 +1,4 @@
-use Rattle.std.proofs.Common.{◌≡◌, arith}
+use Rattle.std.proofs.Common.{arith}
 use Rattle.std.proofs.lemmas.List.Edits.{length-insert}
 use Rattle.ceal_order.specs.Rising.{numbers}
 use Rattle.ceal_order.proofs.Searching.{length-numbers}
