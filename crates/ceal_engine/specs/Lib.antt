@@ -2,7 +2,7 @@
 pub mod Engine
 pub mod Repaired
 pub mod Keeping
-pub mod Completed
+pub mod Runs
 pub mod Partial
 pub mod Looks
 -- what its own functions say of each other

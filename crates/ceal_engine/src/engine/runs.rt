@@ -6,18 +6,17 @@ ghost use Rattle.ceal_base.specs.Trace.{Trace as TraceOf};
 ghost use Rattle.ceal_code.specs.Fitting.{Fits};
 ghost use Rattle.ceal_code.specs.Replay.{IsHonest};
 ghost use Rattle.ceal_engine.specs.Engine.{trace, fresh_of, has_run, IsWhole, IsPresent, IfOutOfFuel, NeedsNoMemory};
-ghost use Rattle.ceal_engine.specs.Completed.{finished, IsFirstOf};
-ghost use Rattle.ceal_engine.specs.Keeping.{Keeps};
 ghost use Rattle.ceal_engine.specs.Looks.{LooksOfEither, LooksOfRepair, LooksOfRun};
 ghost use Rattle.ceal_engine.specs.Partial.{phase_after, phase_behind, CarriesFrom, Comes, ComesSo, EndsSo, IsRepairSoFar, IsRunAgain, KeepsWords};
 ghost use Rattle.ceal_engine.specs.Repaired.{IsFirst, IsRepaired, IsUnchanged, KeepsFront};
+ghost use Rattle.ceal_engine.specs.Runs.{IsFirstOf};
 ghost use Rattle.ceal_engine.specs.declared.phase.Phase.TheVariants.{New, Finished, Pending, Partial, Dropped};
 ghost use Rattle.ceal_theory.specs.Slices.{Repair as RepairOf};
 
 use super::Engine;
 use crate::phase::{Came, Phase, Progress};
+use crate::run::{Run, Stage};
 use crate::run_error::RunError;
-use crate::running::{give_up, reopen, rest};
 use ceal_base::word::Word;
 use ceal_repair::advance::{Progress as Repaired, advance};
 use ceal_repair::first::first;
@@ -53,18 +52,6 @@ impl Engine {
         }
     }
 
-    /// Takes a run of the call on the present inputs.
-    fn keep(&mut self, run: Running)
-        requires kept { Keeps self.old.code self.old.fuel self.old.inputs Finished
-            self.old.call (Some run) }
-        ensures state { self.new
-            ≡ finished self.old.code self.old.fuel self.old.inputs self.old.call run }
-        ensures present { IsPresent self.new }
-    {
-        drop(mem::replace(&mut self.running, Some(run)));
-        self.phase = Phase::Finished;
-    }
-
     /// Runs the call, of which there is no run.
     fn run_anew(&mut self) -> Result<(), RunError>
         requires dropped { self.old.phase ≡ Dropped }
@@ -81,7 +68,7 @@ impl Engine {
         ensures dropped { OnErr result (self.new.phase ≡ Dropped) }
     {
         let run = self.first()?;
-        self.keep(run);
+        self.run.keep(run, Stage::Finished);
         Ok(())
     }
 
@@ -102,7 +89,7 @@ impl Engine {
         ensures dropped { OnErr result (self.new.phase ≡ Dropped) }
     {
         self.call.set(function, args);
-        self.phase = Phase::Dropped;
+        drop(mem::replace(&mut self.run, Run::Dropped));
         self.run_anew()
     }
 
@@ -143,10 +130,10 @@ impl Engine {
         ensures out_of_fuel { IfOutOfFuel result (fresh_of self.new ≡ None) }
         ensures dropped { OnErr result (self.new.phase ≡ Dropped) }
     {
-        match self.phase {
+        match self.run.phase() {
             Phase::New => unreachable!(),
             Phase::Finished => {
-                rest(&mut self.running);
+                self.tell(0);
                 Ok(())
             }
             Phase::Pending => {
@@ -195,41 +182,30 @@ impl Engine {
         ensures out_of_fuel { IfOutOfFuel result (fresh_of self.new ≡ None) }
         ensures dropped { OnErr result (self.new.phase ≡ Dropped) }
     {
-        reopen(&mut self.running, self.phase);
-        match &mut self.running {
-            None => unreachable!(),
-            Some(run) => {
-                match advance(
-                    &mut self.room,
-                    &self.code,
-                    &self.inputs,
-                    reads,
-                    self.fuel,
-                    run,
-                ) {
-                    Ok(Repaired::More) => {
-                        self.phase = Phase::Partial;
-                        Ok(Came::More)
-                    }
-                    Ok(Repaired::Done) => {
-                        self.phase = Phase::Finished;
-                        Ok(Came::Done)
-                    }
-                    Ok(Repaired::Spent) => {
-                        let began = self.phase;
-                        give_up(&mut self.phase, &mut self.running);
-                        self.run_again(began)?;
-                        Ok(Came::Anew)
-                    }
-                    Ok(Repaired::OutOfFuel) => {
-                        give_up(&mut self.phase, &mut self.running);
-                        Err(RunError::OutOfFuel)
-                    }
-                    Err(error) => {
-                        give_up(&mut self.phase, &mut self.running);
-                        Err(RunError::from(error))
-                    }
-                }
+        let before = self.run.phase();
+        let mut run = self.run.open();
+        let room = &mut self.room;
+        match advance(room, &self.code, &self.inputs, reads, self.fuel, &mut run) {
+            Ok(Repaired::More) => {
+                self.run.keep(run, Stage::Partial);
+                Ok(Came::More)
+            }
+            Ok(Repaired::Done) => {
+                self.run.keep(run, Stage::Finished);
+                Ok(Came::Done)
+            }
+            Ok(Repaired::Spent) => {
+                drop(run);
+                self.run_again(before)?;
+                Ok(Came::Anew)
+            }
+            Ok(Repaired::OutOfFuel) => {
+                drop(run);
+                Err(RunError::OutOfFuel)
+            }
+            Err(error) => {
+                drop(run);
+                Err(RunError::from(error))
             }
         }
     }
@@ -291,7 +267,7 @@ impl Engine {
         ensures out_of_fuel { IfOutOfFuel result (fresh_of self.new ≡ None) }
         ensures dropped { OnErr result (self.new.phase ≡ Dropped) }
     {
-        if self.phase == Phase::Dropped {
+        if self.run.phase() == Phase::Dropped {
             self.run_anew()?;
             return Ok(Progress::Done);
         }

@@ -5,6 +5,7 @@ use Rattle.ceal_engine.proofs.Carrying.{comes-so, done-repair}
 use Rattle.ceal_engine.proofs.LooksOfCalls.{looks-either}
 use Rattle.ceal_engine.proofs.Present.{not-both}
 use Rattle.ceal_engine.specs.Engine.{has_run, trace}
+use Rattle.ceal_engine.specs.Keeping.{phase_of}
 use Rattle.ceal_engine.specs.Repaired.{KeepsFront}
 use Rattle.ceal_engine.specs.declared.phase.Phase.{Phase}
 use Rattle.ceal_engine.specs.declared.phase.Phase.TheVariants.{New, Finished, Pending, Partial, Dropped}
@@ -37,17 +38,17 @@ returns-in_err-came-clause-sure_where_honest c = λ w l e h. absurd (let no : fa
 pub returns-then-eq-clause-front : goal.returns-then-eq-clause-front
 returns-then-eq-clause-front c =
     let v = c.self.inside in
-    let told : IsTrue c.eq.result ↔ (v.phase ≡ Dropped) = search rules in
-    inl (subst (λ e. KeepsFront e c.run_anew.new.self) c.self.view_is (front-of-none v.code v.fuel v.inputs v.phase v.call.call v.running c.self.invariant.keeps (told.0 c.if-eq.true) c.run_anew.new.self))
+    let told : IsTrue c.eq.result ↔ (c.phase.result ≡ Dropped) = search rules in
+    inl (subst (λ e. KeepsFront e c.run_anew.new.self) c.self.view_is (front-of-none v.code v.fuel v.inputs v.call.call v.run (sym c.phase.ensures ∙ told.0 c.if-eq.true) c.run_anew.new.self))
 
 pub returns-clause-looks_always : goal.returns-clause-looks_always
 returns-clause-looks_always c =
     let a = c.in_ok-came.ensures in
     let v = c.self.inside in
-    let told : IsTrue c.eq.result ↔ (v.phase ≡ Dropped) = search rules in
+    let told : IsTrue c.eq.result ↔ (c.phase.result ≡ Dropped) = search rules in
     looks-either c.args.self.now c.advance.new.self c.in_ok-came.came
     (subst (λ e. has_run e.phase ≡ true) c.self.view_is
-    (there v.phase (subst (λ e. e.phase ≡ New → ⊥) (sym c.self.view_is) c.requires.called) (λ d. absurd (let yes : true ≡ false = sym (told.1 d) ∙ c.if-eq.false in cc)))) a.looks a.looks_anew a.first
+    (there (phase_of v.run) (subst (λ e. e.phase ≡ New → ⊥) (sym c.self.view_is) c.requires.called) (λ d. absurd (let yes : true ≡ false = sym (told.1 (c.phase.ensures ∙ d)) ∙ c.if-eq.false in cc)))) a.looks a.looks_anew a.first
 
 pub returns-clause-looks : goal.returns-clause-looks
 returns-clause-looks c = λ w. c.in_ok-came.ensures.looks (λ anew. not-both c.args.self.now.phase (c.in_ok-came.ensures.anew anew) w)
@@ -66,5 +67,5 @@ returns-then-eq-clause-looks_always c = inr (c.in_ok-run_anew.ensures.first, c.i
 pub returns-in_err-run_anew-clause-sure_in_part : goal.returns-in_err-run_anew-clause-sure_in_part
 returns-in_err-run_anew-clause-sure_in_part c = λ l e h.
     let v = c.self.inside in
-    let told : IsTrue c.eq.result ↔ (v.phase ≡ Dropped) = search rules in
-    absurd (no-trace v.code v.fuel v.inputs v.phase v.call.call v.running c.self.invariant.keeps (told.0 c.if-eq.true) l (ap trace c.self.view_is ∙ e))
+    let told : IsTrue c.eq.result ↔ (c.phase.result ≡ Dropped) = search rules in
+    absurd (no-trace v.run (sym c.phase.ensures ∙ told.0 c.if-eq.true) l (ap trace c.self.view_is ∙ e))
