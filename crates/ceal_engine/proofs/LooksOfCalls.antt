@@ -11,6 +11,7 @@ use Rattle.ceal_base.specs.declared.word.Word.{Word}
 use Rattle.ceal_code.proofs.Words.SameIsEqual.{some-same, none-some}
 use Rattle.ceal_code.specs.Program.{Code}
 use Rattle.ceal_engine.proofs.Carrying.{same-as}
+use Rattle.ceal_engine.specs.Calls.{IsRunAnew}
 use Rattle.ceal_engine.specs.Engine.{EngineState, has_run, trace}
 use Rattle.ceal_engine.specs.Keeping.{phase_at, state_of}
 use Rattle.ceal_engine.specs.Looks.{due, IsCounted, LooksOfEdit, LooksAtNothing, LooksOfRepair, LooksOfRun, LooksOfEither, Updates, LooksLaw}
@@ -96,9 +97,9 @@ looks-either e n came.More there repair run first = inl (there, repair (λ s. ab
 looks-either e n came.Done there repair run first = inl (there, repair (λ s. absurd cc))
 looks-either e n came.Anew there repair run first = inr (first refl, run refl)
 
-pub on-ok : {A E : Type 0} (e n : EngineState) (r : Result A E) → OnOk r (IsSomeAnd (trace n) (IsFirst n)) → OnOk r (LooksOfRun n) → OnOk r (LooksOfEither e n)
-on-ok e n (Ok x) first run = inr (first, run)
-on-ok e n (Err x) first run = tt
+pub on-ok : {A E : Type 0} (e n : EngineState) (r : Result A E) → OnOk r (IsRunAnew n) → OnOk r (LooksOfEither e n)
+on-ok e n (Ok x) anew = inr (anew.first, anew.looks)
+on-ok e n (Err x) anew = tt
 
 -- ---- a list of edits and repairs
 

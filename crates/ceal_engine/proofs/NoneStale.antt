@@ -1,5 +1,5 @@
 -- A repair in progress where no read is stale, and what it leaves of the nodes at the beginning.
-use Rattle.std.proofs.Common.{◌≡◌, ◌≢◌, ◌⊎◌, inl, inr, ℕ, zero, suc, ◌≤◌, Ok, Option, Some, None, List, refl, sym, ap, ◌∙◌, subst, arith}
+use Rattle.std.proofs.Common.{◌≡◌, ◌≢◌, ◌⊎◌, inl, inr, ℕ, zero, suc, ◌≤◌, true, false, Ok, Err, Option, Some, None, List, refl, sym, ap, ◌∙◌, subst, arith}
 use Rattle.std.specs.Option.{IsSomeAnd}
 use Rattle.ceal_base.specs.Block.{Block}
 use Rattle.ceal_base.specs.Trace.{Trace, trace_of}
@@ -11,6 +11,7 @@ use Rattle.ceal_code.specs.Replay.{IsHonest}
 use Rattle.ceal_engine.proofs.Carrying.{IsOpenRun, same-as, open-run}
 use Rattle.ceal_engine.proofs.Present.{by-run, part-trace, trace-kept}
 use Rattle.ceal_engine.proofs.Repairs.{no-end}
+use Rattle.ceal_engine.specs.Calls.{Advances}
 use Rattle.ceal_engine.specs.Engine.{EngineState, IsWhole, stands_for, trace, fresh_call}
 use Rattle.ceal_engine.specs.Keeping.{Keeps, forest_in, phase_of, running_in, state_of}
 use Rattle.ceal_engine.specs.Partial.{CarriesFrom, Comes, IsRunAgain}
@@ -24,6 +25,8 @@ use Rattle.ceal_engine.specs.declared.run.Run.{Run}
 use Rattle.ceal_engine.specs.declared.run.Run.TheVariants as its
 use Rattle.ceal_engine.specs.declared.run.Stage.{Stage}
 use Rattle.ceal_engine.specs.declared.run.Stage.TheVariants as stage
+use Rattle.ceal_engine.specs.declared.run_error.RunError.{RunError}
+use Rattle.ceal_engine.specs.declared.run_error.RunError.TheVariants.{Memory, OutOfFuel}
 use Rattle.ceal_repair.specs.Propagation.{KeepsFront as KeepsNodes}
 use Rattle.ceal_repair.specs.Slicing.{IsPartRun, IsSliceOf}
 use Rattle.ceal_repair.specs.declared.running.Running.{Running}
@@ -115,3 +118,26 @@ front-of-none code fuel inputs call run e n = rw (no-running run e) tt
 -- and no trace
 pub no-trace : (run : Run) → phase_of run ≡ Dropped → (l : Trace) → stands_for (forest_in (running_in run)) ≡ Some l → ⊥
 no-trace run e l h = none-some l (sym (ap (λ r. stands_for (forest_in r)) (no-running run e)) ∙ h)
+
+-- after an error the type of an answer does not matter
+pub on-error : {A B : Type 0} (e n : EngineState) (error : RunError) → Advances {A = A} e n (Err error) → Advances {A = B} e n (Err error)
+on-error e n Memory a = record {
+  code = a.code;
+  fuel = a.fuel;
+  inputs = a.inputs;
+  call = a.call;
+  sure_where_honest = λ w l t h. absurd (let no : false ≡ true = a.sure_where_honest w l t h in cc);
+  sure_in_part = a.sure_in_part;
+  out_of_fuel = tt;
+  dropped = a.dropped;
+}
+on-error e n OutOfFuel a = record {
+  code = a.code;
+  fuel = a.fuel;
+  inputs = a.inputs;
+  call = a.call;
+  sure_where_honest = λ w l t h. absurd (let no : false ≡ true = a.sure_where_honest w l t h in cc);
+  sure_in_part = λ l t h. tt;
+  out_of_fuel = a.out_of_fuel;
+  dropped = a.dropped;
+}

@@ -54,8 +54,7 @@ module _ (code : Code) (fuel : ℕ) (inputs : List Block) (before : Run) (whole 
       let same : m ≡ l = some-same m l (sym (trace-kept code fuel inputs c b m was) ∙ t) in
       subst (λ l. IsRepairSoFar (state_of code fuel inputs (Some c) (its.Kept b g)) (finished code fuel inputs (Some c) run') l came.Done) same
       (let old = subst (IsKeptRun code inputs c.function c.args fuel m) (sym own) (told-run code fuel inputs 0 c.function c.args m b was) in
-      let d = subst (IsRepaired code inputs c.function c.args fuel m run run') h r in
-      (
+      let d = subst (IsRepaired code inputs c.function c.args fuel m run run') h r in (
         repaired-of code fuel inputs c was.fits m run old run' d,
         λ honest. let u = unchanged-of code fuel inputs c was.fits m run old run' d honest in (u.0, ap Some (u.1 ∙ ap (λ (r : Running). r.tables.trace) own)),
       )))

@@ -5,7 +5,8 @@ ghost use Rattle.std.specs.Option.{IsSomeAnd};
 ghost use Rattle.ceal_base.specs.Trace.{Trace as TraceOf};
 ghost use Rattle.ceal_code.specs.Fitting.{Fits};
 ghost use Rattle.ceal_code.specs.Replay.{IsHonest};
-ghost use Rattle.ceal_engine.specs.Engine.{trace, fresh_of, has_run, IsWhole, IsPresent, IfOutOfFuel, NeedsNoMemory};
+ghost use Rattle.ceal_engine.specs.Calls.{Advances, IsRunAnew, called};
+ghost use Rattle.ceal_engine.specs.Engine.{trace, fresh_of, has_run, IsWhole, IsPresent, IfOutOfFuel};
 ghost use Rattle.ceal_engine.specs.Looks.{LooksOfEither, LooksOfRepair, LooksOfRun};
 ghost use Rattle.ceal_engine.specs.Partial.{phase_after, phase_behind, CarriesFrom, Comes, ComesSo, EndsSo, IsRepairSoFar, IsRunAgain, KeepsWords};
 ghost use Rattle.ceal_engine.specs.Repaired.{IsFirst, IsRepaired, IsUnchanged, KeepsFront};
@@ -56,16 +57,8 @@ impl Engine {
     fn run_anew(&mut self) -> Result<(), RunError>
         requires dropped { self.old.phase ≡ Dropped }
         requires called { IsSome self.old.call }
-        ensures code { self.new.code ≡ self.old.code }
-        ensures fuel { self.new.fuel ≡ self.old.fuel }
-        ensures inputs { self.new.inputs ≡ self.old.inputs }
-        ensures call { self.new.call ≡ self.old.call }
-        ensures phase { OnOk result (self.new.phase ≡ Finished) }
-        ensures present { OnOk result (IsPresent self.new) }
-        ensures first { OnOk result (IsSomeAnd (trace self.new) (IsFirst self.new)) }
-        ensures looks { OnOk result (LooksOfRun self.new) }
-        ensures out_of_fuel { IfOutOfFuel result (fresh_of self.new ≡ None) }
-        ensures dropped { OnErr result (self.new.phase ≡ Dropped) }
+        ensures keeps { Advances self.old self.new result }
+        ensures anew { OnOk result (IsRunAnew self.new) }
     {
         let run = self.first()?;
         self.run.keep(run, Stage::Finished);
@@ -77,16 +70,11 @@ impl Engine {
     pub fn run(&mut self, function: u32, args: &[Word]) -> Result<(), RunError>
         requires new { self.old.phase ≡ New }
         requires fits { Fits self.old.code self.old.inputs function args.now }
-        ensures code { self.new.code ≡ self.old.code }
-        ensures fuel { self.new.fuel ≡ self.old.fuel }
-        ensures inputs { self.new.inputs ≡ self.old.inputs }
-        ensures call { self.new.call ≡ Some (record { function = function; args = args.now }) }
+        ensures keeps { Advances (called self.old function args.now) self.new result }
         ensures phase { OnOk result (self.new.phase ≡ Finished) }
         ensures present { OnOk result (IsPresent self.new) }
         ensures first { OnOk result (IsSomeAnd (trace self.new) (IsFirst self.new)) }
         ensures looks { OnOk result (LooksOfRun self.new) }
-        ensures out_of_fuel { IfOutOfFuel result (fresh_of self.new ≡ None) }
-        ensures dropped { OnErr result (self.new.phase ≡ Dropped) }
     {
         self.call.set(function, args);
         drop(mem::replace(&mut self.run, Run::Dropped));
@@ -99,10 +87,7 @@ impl Engine {
     /// memory. In Partial it ends the repair that is under way.
     pub fn propagate(&mut self) -> Result<(), RunError>
         requires { self.old.phase ≡ New → ⊥ }
-        ensures code { self.new.code ≡ self.old.code }
-        ensures fuel { self.new.fuel ≡ self.old.fuel }
-        ensures inputs { self.new.inputs ≡ self.old.inputs }
-        ensures call { self.new.call ≡ self.old.call }
+        ensures keeps { Advances self.old self.new result }
         ensures phase { OnOk result (self.new.phase ≡ Finished) }
         ensures present { OnOk result (IsPresent self.new) }
         ensures first { OnOk result (self.old.phase ≡ Dropped →
@@ -121,14 +106,8 @@ impl Engine {
             CarriesFrom self.old next r → EndsSo self.old self.new next r result }
         ensures looks { OnOk result (IsWhole self.old.phase → LooksOfRepair self.old self.new) }
         ensures looks_always { OnOk result (LooksOfEither self.old self.new) }
-        ensures sure_where_honest { IsWhole self.old.phase → (l : TraceOf) →
-            trace self.old ≡ Some l → IsHonest self.old.code self.old.inputs l → IsOk result }
-        ensures sure_in_part { (l : TraceOf) → trace self.old ≡ Some l →
-            IsHonest self.old.code self.old.inputs l → NeedsNoMemory result }
         ensures sure { self.old.phase ≡ Finished → IsOk result }
         ensures still { self.old.phase ≡ Finished → self.new ≡ record self.old { work = 0 } }
-        ensures out_of_fuel { IfOutOfFuel result (fresh_of self.new ≡ None) }
-        ensures dropped { OnErr result (self.new.phase ≡ Dropped) }
     {
         match self.run.phase() {
             Phase::New => unreachable!(),
@@ -156,10 +135,7 @@ impl Engine {
     pub fn advance(&mut self, reads: Option<u32>) -> Result<Came, RunError>
         requires run { has_run self.old.phase ≡ true }
         requires some { reads ≢ Some 0 }
-        ensures code { self.new.code ≡ self.old.code }
-        ensures fuel { self.new.fuel ≡ self.old.fuel }
-        ensures inputs { self.new.inputs ≡ self.old.inputs }
-        ensures call { self.new.call ≡ self.old.call }
+        ensures keeps { Advances self.old self.new result }
         ensures phase { IfOk result (λ came. self.new.phase ≡ phase_behind came) }
         ensures present { IfOk result (λ came. came ≢ Came.More → IsPresent self.new) }
         ensures comes { (next : ℕ) (r : RepairOf) → CarriesFrom self.old next r →
@@ -175,12 +151,6 @@ impl Engine {
         ensures looks_anew { IfOk result (λ came. came ≡ Came.Anew → LooksOfRun self.new) }
         ensures revoked_stay { IfOk result (λ came. came ≡ Came.More →
             KeepsWords self.old.heap self.new.heap) }
-        ensures sure_where_honest { IsWhole self.old.phase → (l : TraceOf) →
-            trace self.old ≡ Some l → IsHonest self.old.code self.old.inputs l → IsOk result }
-        ensures sure_in_part { (l : TraceOf) → trace self.old ≡ Some l →
-            IsHonest self.old.code self.old.inputs l → NeedsNoMemory result }
-        ensures out_of_fuel { IfOutOfFuel result (fresh_of self.new ≡ None) }
-        ensures dropped { OnErr result (self.new.phase ≡ Dropped) }
     {
         let before = self.run.phase();
         let mut run = self.run.open();
@@ -216,17 +186,9 @@ impl Engine {
         requires dropped { self.old.phase ≡ Dropped }
         requires called { IsSome self.old.call }
         requires out { (began ≡ Partial → ⊥) → fresh_of self.old ≡ None }
-        ensures code { self.new.code ≡ self.old.code }
-        ensures fuel { self.new.fuel ≡ self.old.fuel }
-        ensures inputs { self.new.inputs ≡ self.old.inputs }
-        ensures call { self.new.call ≡ self.old.call }
+        ensures keeps { Advances self.old self.new result }
         ensures began { OnOk result (began ≡ Partial) }
-        ensures phase { OnOk result (self.new.phase ≡ Finished) }
-        ensures present { OnOk result (IsPresent self.new) }
-        ensures first { OnOk result (IsSomeAnd (trace self.new) (IsFirst self.new)) }
-        ensures looks { OnOk result (LooksOfRun self.new) }
-        ensures out_of_fuel { IfOutOfFuel result (fresh_of self.new ≡ None) }
-        ensures dropped { OnErr result (self.new.phase ≡ Dropped) }
+        ensures anew { OnOk result (IsRunAnew self.new) }
     {
         if began != Phase::Partial {
             return Err(RunError::OutOfFuel);
@@ -240,10 +202,7 @@ impl Engine {
     pub fn slice(&mut self, reads: u32) -> Result<Progress, RunError>
         requires called { self.old.phase ≡ New → ⊥ }
         requires some { 1 ≤ reads }
-        ensures code { self.new.code ≡ self.old.code }
-        ensures fuel { self.new.fuel ≡ self.old.fuel }
-        ensures inputs { self.new.inputs ≡ self.old.inputs }
-        ensures call { self.new.call ≡ self.old.call }
+        ensures keeps { Advances self.old self.new result }
         ensures phase { IfOk result (λ p. self.new.phase ≡ phase_after p) }
         ensures present { IfOk result (λ p. p ≡ Progress.Done → IsPresent self.new) }
         ensures done { IfOk result (λ p. self.old.phase ≡ Dropped → p ≡ Progress.Done) }
@@ -260,12 +219,6 @@ impl Engine {
         ensures looks_always { OnOk result (LooksOfEither self.old self.new) }
         ensures revoked_stay { IfOk result (λ p. p ≡ Progress.More →
             KeepsWords self.old.heap self.new.heap) }
-        ensures sure_where_honest { IsWhole self.old.phase → (l : TraceOf) →
-            trace self.old ≡ Some l → IsHonest self.old.code self.old.inputs l → IsOk result }
-        ensures sure_in_part { (l : TraceOf) → trace self.old ≡ Some l →
-            IsHonest self.old.code self.old.inputs l → NeedsNoMemory result }
-        ensures out_of_fuel { IfOutOfFuel result (fresh_of self.new ≡ None) }
-        ensures dropped { OnErr result (self.new.phase ≡ Dropped) }
     {
         if self.run.phase() == Phase::Dropped {
             self.run_anew()?;

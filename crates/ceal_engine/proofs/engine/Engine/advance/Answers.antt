@@ -1,9 +1,11 @@
-use Rattle.std.proofs.Common.{◌≡◌, ◌∙◌, false, true, None, Some, ap, refl, sym, subst}
+use Rattle.std.proofs.Common.{◌≡◌, ◌∙◌, false, true, None, Some, Err, ap, refl, sym, subst}
 use Rattle.std.proofs.lemmas.Result.{err_from_is_err_and}
 use Rattle.ceal_engine.proofs.Carrying.{open-part, keeps-more, keeps-done, goes-on, ends, some-reads, keeps-words, no-slice, is-out, fresh-out, anew-comes}
-use Rattle.ceal_engine.proofs.NoneStale.{done-within, part-honest, honest-ends, front-kept}
+use Rattle.ceal_base.specs.Trace.{Trace}
+use Rattle.ceal_engine.proofs.NoneStale.{done-within, part-honest, honest-ends, front-kept, on-error}
 use Rattle.ceal_engine.proofs.Keeping.{sound-with, sound-dropped}
-use Rattle.ceal_engine.specs.Keeping.{phase_of}
+use Rattle.ceal_engine.specs.Calls.{Advances}
+use Rattle.ceal_engine.specs.Keeping.{phase_of, state_of}
 use Rattle.ceal_engine.specs.Runs.{finished, under_way}
 use Rattle.ceal_code.specs.Replay.{IsHonest}
 use Rattle.ceal_engine.specs.Engine.{IsWhole, has_run, trace}
@@ -12,7 +14,9 @@ use Rattle.ceal_engine.proofs.Present.{not-both, other-whole, sound-present}
 use Rattle.ceal_engine.proofs.TraceSoFar.{done-so-far, spent-fresh}
 use Rattle.ceal_engine.specs.Looks.{LooksOfRepair}
 use Rattle.ceal_engine.specs.Partial.{CarriesFrom, GoesOn, Ends, IsOut, IsRepairSoFar, KeepsWords}
+use Rattle.ceal_engine.specs.declared.phase.Came.{Came}
 use Rattle.ceal_engine.specs.declared.phase.Came.TheVariants as came
+use Rattle.ceal_engine.specs.declared.run_error.RunError.TheVariants.{Memory, OutOfFuel}
 use Rattle.ceal_engine.specs.Repaired.{KeepsFront}
 use Rattle.ceal_engine.specs.declared.phase.Phase.TheVariants.{Partial}
 use Rattle.ceal_engine.specs.declared.run.Run.TheVariants as its
@@ -114,14 +118,6 @@ returns-in-Ok-OutOfFuel-clause-comes c = λ next r carries.
     let sliced = c.in-Ok-OutOfFuel.ensures.sliced in
     subst (λ e. (CarriesFrom e next r → IsOut e c.args.reads r)) c.self.view_is (is-out v.code v.fuel v.inputs v.run v.call.call c.self.invariant.keeps c.open-run.result is c.args.reads run c.in-Ok-OutOfFuel.field-0 sliced c.in-Ok-OutOfFuel.field-0-is next r) carries
 
-pub returns-in-Ok-OutOfFuel-clause-out_of_fuel : goal.returns-in-Ok-OutOfFuel-clause-out_of_fuel
-returns-in-Ok-OutOfFuel-clause-out_of_fuel c =
-    let v = c.self.inside in
-    let is = c.open-run.ensures.run in
-    let run = c.advance.new.running in
-    let sliced = c.in-Ok-OutOfFuel.ensures.sliced in
-    fresh-out v.code v.fuel v.inputs v.run v.call.call c.self.invariant.keeps c.open-run.result is c.args.reads run c.in-Ok-OutOfFuel.field-0 sliced c.in-Ok-OutOfFuel.field-0-is
-
 pub returns-in-Ok-More-clause-front : goal.returns-in-Ok-More-clause-front
 returns-in-Ok-More-clause-front c = λ n.
     let v = c.self.inside in
@@ -140,23 +136,6 @@ returns-in-Ok-Done-clause-front c = λ n.
     (subst (λ e. KeepsFront e (finished v.code v.fuel v.inputs v.call.call run)) c.self.view_is
     (front-kept v.code v.fuel v.inputs v.call.call v.run c.open-run.result run stage.Finished is (c.in-Ok-Done.ensures.front (λ s. absurd (let clash = sym c.in-Ok-Done.field-0-is ∙ s in cc)))))
 
-pub returns-in-Ok-OutOfFuel-clause-sure_where_honest : goal.returns-in-Ok-OutOfFuel-clause-sure_where_honest
-returns-in-Ok-OutOfFuel-clause-sure_where_honest c = λ w l e h.
-    let v = c.self.inside in
-    let is = c.open-run.ensures.run in
-    let run = c.advance.new.running in
-    let sliced = c.in-Ok-OutOfFuel.ensures.sliced in
-    absurd
-    (honest-ends v.code v.fuel v.inputs v.run v.call.call c.self.invariant.keeps (subst (λ s. IsWhole s.phase) (sym c.self.view_is) w) l (ap trace c.self.view_is ∙ e) (subst (λ s. IsHonest s.code s.inputs l) (sym c.self.view_is) h)
-    (fresh-out v.code v.fuel v.inputs v.run v.call.call c.self.invariant.keeps c.open-run.result is c.args.reads run c.in-Ok-OutOfFuel.field-0 sliced c.in-Ok-OutOfFuel.field-0-is))
-
-pub returns-in-Err-clause-sure_where_honest : goal.returns-in-Err-clause-sure_where_honest
-returns-in-Err-clause-sure_where_honest c = λ w l e h.
-    let v = c.self.inside in
-    let is = c.open-run.ensures.run in
-    let p = part-honest v.code v.fuel v.inputs v.run v.call.call c.self.invariant.keeps c.open-run.result is l (ap trace c.self.view_is ∙ e) (subst (λ s. IsHonest s.code s.inputs l) (sym c.self.view_is) h) in
-    absurd (let no : false ≡ true = c.in-Err.ensures.sure p.0 p.1 p.2 p.3 p.4 in cc)
-
 -- where more steps were spent than the fuel, no slice is there
 pub returns-in_ok-run_again-in-Ok-Spent-clause-comes : goal.returns-in_ok-run_again-in-Ok-Spent-clause-comes
 returns-in_ok-run_again-in-Ok-Spent-clause-comes c = λ next r carries.
@@ -166,7 +145,7 @@ returns-in_ok-run_again-in-Ok-Spent-clause-comes c = λ next r carries.
     let sliced = c.in-Ok-Spent.ensures.sliced in
     record {
       none = subst (λ e. (CarriesFrom e next r → sliced_repair e.code own e.inputs c.args.reads e.fuel r ≡ None)) c.self.view_is (no-slice v.code v.fuel v.inputs v.run v.call.call c.self.invariant.keeps c.open-run.result is c.args.reads run c.in-Ok-Spent.field-0 sliced c.in-Ok-Spent.field-0-is next r) carries;
-      first = c.in_ok-run_again-in-Ok-Spent.ensures.first;
+      first = c.in_ok-run_again-in-Ok-Spent.ensures.anew.first;
     }
 
 pub returns-in_err-run_again-in-Ok-Spent-clause-comes : goal.returns-in_err-run_again-in-Ok-Spent-clause-comes
@@ -199,29 +178,6 @@ pub returns-in_ok-run_again-in-Ok-Spent-clause-repaired : goal.returns-in_ok-run
 returns-in_ok-run_again-in-Ok-Spent-clause-repaired c = λ w l e.
     absurd (not-both (phase_of c.self.inside.run) (sym c.phase-before.ensures ∙ c.in_ok-run_again-in-Ok-Spent.ensures.began) (subst (λ s. IsWhole s.phase) (sym c.self.view_is) w))
 
-pub returns-in_err-run_again-in-Ok-Spent-clause-sure_where_honest : goal.returns-in_err-run_again-in-Ok-Spent-clause-sure_where_honest
-returns-in_err-run_again-in-Ok-Spent-clause-sure_where_honest c = λ w l e h.
-    let v = c.self.inside in
-    let is = c.open-run.ensures.run in
-    let p = part-honest v.code v.fuel v.inputs v.run v.call.call c.self.invariant.keeps c.open-run.result is l (ap trace c.self.view_is ∙ e) (subst (λ s. IsHonest s.code s.inputs l) (sym c.self.view_is) h) in
-    absurd
-    (done-within v.code v.inputs p.0 p.1 v.fuel p.2 c.open-run.result p.3 p.4 c.args.reads c.requires.some (subst (IsSliced v.code v.inputs p.0 p.1 c.args.reads v.fuel p.2 c.advance.new.running) c.in-Ok-Spent.field-0-is (c.in-Ok-Spent.ensures.sliced p.0 p.1 p.2 p.3)))
-
-pub returns-in_err-run_again-in-Ok-Spent-clause-sure_in_part : goal.returns-in_err-run_again-in-Ok-Spent-clause-sure_in_part
-returns-in_err-run_again-in-Ok-Spent-clause-sure_in_part c = λ l e h.
-    let v = c.self.inside in
-    let is = c.open-run.ensures.run in
-    let p = part-honest v.code v.fuel v.inputs v.run v.call.call c.self.invariant.keeps c.open-run.result is l (ap trace c.self.view_is ∙ e) (subst (λ s. IsHonest s.code s.inputs l) (sym c.self.view_is) h) in
-    absurd
-    (done-within v.code v.inputs p.0 p.1 v.fuel p.2 c.open-run.result p.3 p.4 c.args.reads c.requires.some (subst (IsSliced v.code v.inputs p.0 p.1 c.args.reads v.fuel p.2 c.advance.new.running) c.in-Ok-Spent.field-0-is (c.in-Ok-Spent.ensures.sliced p.0 p.1 p.2 p.3)))
-
-pub returns-in-Err-clause-sure_in_part : goal.returns-in-Err-clause-sure_in_part
-returns-in-Err-clause-sure_in_part c = λ l e h.
-    let v = c.self.inside in
-    let is = c.open-run.ensures.run in
-    let p = part-honest v.code v.fuel v.inputs v.run v.call.call c.self.invariant.keeps c.open-run.result is l (ap trace c.self.view_is ∙ e) (subst (λ s. IsHonest s.code s.inputs l) (sym c.self.view_is) h) in
-    absurd (let no : false ≡ true = c.in-Err.ensures.sure p.0 p.1 p.2 p.3 p.4 in cc)
-
 pub returns-in-Ok-Done-clause-repaired : goal.returns-in-Ok-Done-clause-repaired
 returns-in-Ok-Done-clause-repaired c = λ w l e.
     let v = c.self.inside in
@@ -251,5 +207,44 @@ returns-in-Ok-More-clause-looks c = λ n.
 pub returns-in-Ok-More-clause-repaired : goal.returns-in-Ok-More-clause-repaired
 returns-in-Ok-More-clause-repaired c = λ w l e. tt
 
-pub returns-in-Ok-OutOfFuel-clause-sure_in_part : goal.returns-in-Ok-OutOfFuel-clause-sure_in_part
-returns-in-Ok-OutOfFuel-clause-sure_in_part c = λ l e h. tt
+pub returns-in-Ok-OutOfFuel-clause-keeps : goal.returns-in-Ok-OutOfFuel-clause-keeps
+returns-in-Ok-OutOfFuel-clause-keeps c =
+    let v = c.self.inside in
+    let fresh = fresh-out v.code v.fuel v.inputs v.run v.call.call c.self.invariant.keeps c.open-run.result c.open-run.ensures.run c.args.reads c.advance.new.running c.in-Ok-OutOfFuel.field-0 c.in-Ok-OutOfFuel.ensures.sliced c.in-Ok-OutOfFuel.field-0-is in
+    rw c.open-run.ensures.dropped
+    (subst (λ e. Advances {A = Came} e (state_of v.code v.fuel v.inputs v.call.call its.Dropped) (Err OutOfFuel)) c.self.view_is
+    (record {
+      code = refl;
+      fuel = refl;
+      inputs = refl;
+      call = refl;
+      sure_where_honest = λ w l e h. absurd (honest-ends v.code v.fuel v.inputs v.run v.call.call c.self.invariant.keeps w l e h fresh);
+      sure_in_part = λ l e h. tt;
+      out_of_fuel = fresh;
+      dropped = refl;
+    }))
+
+-- where no read is stale it does not fail
+pub returns-in-Err-clause-keeps : goal.returns-in-Err-clause-keeps
+returns-in-Err-clause-keeps c =
+    let v = c.self.inside in
+    let before = state_of v.code v.fuel v.inputs v.call.call v.run in
+    let sure : (l : Trace) → trace before ≡ Some l → IsHonest v.code v.inputs l → ⊥ = λ l e h.
+    let p = part-honest v.code v.fuel v.inputs v.run v.call.call c.self.invariant.keeps c.open-run.result c.open-run.ensures.run l e h in
+    absurd (let no : false ≡ true = c.in-Err.ensures.sure p.0 p.1 p.2 p.3 p.4 in cc) in
+    rw (c.open-run.ensures.dropped, c.from.ensures)
+    (subst (λ e. Advances {A = Came} e (state_of v.code v.fuel v.inputs v.call.call its.Dropped) (Err Memory)) c.self.view_is
+    (record { code = refl; fuel = refl; inputs = refl; call = refl; sure_where_honest = λ w l e h. absurd (sure l e h); sure_in_part = λ l e h. absurd (sure l e h); out_of_fuel = tt; dropped = refl }))
+
+pub returns-in_err-run_again-in-Ok-Spent-clause-keeps : goal.returns-in_err-run_again-in-Ok-Spent-clause-keeps
+returns-in_err-run_again-in-Ok-Spent-clause-keeps c =
+    let v = c.self.inside in
+    let before = state_of v.code v.fuel v.inputs v.call.call v.run in
+    let sure : (l : Trace) → trace before ≡ Some l → IsHonest v.code v.inputs l → ⊥ = λ l e h.
+    let p = part-honest v.code v.fuel v.inputs v.run v.call.call c.self.invariant.keeps c.open-run.result c.open-run.ensures.run l e h in
+    done-within v.code v.inputs p.0 p.1 v.fuel p.2 c.open-run.result p.3 p.4 c.args.reads c.requires.some (subst (IsSliced v.code v.inputs p.0 p.1 c.args.reads v.fuel p.2 c.advance.new.running) c.in-Ok-Spent.field-0-is (c.in-Ok-Spent.ensures.sliced p.0 p.1 p.2 p.3)) in
+    let error = err_from_is_err_and c.from_residual.result c.from_residual.ensures.1 in
+    let k = on-error {B = Came} _ c.run_again.new.self _ c.in_err-run_again-in-Ok-Spent.ensures.keeps in
+    rw (error.1, error.2)
+    (subst (λ e. Advances {A = Came} e c.run_again.new.self (Err c.in_err-run_again-in-Ok-Spent.field-0.0)) c.self.view_is
+    (record { code = k.code; fuel = k.fuel; inputs = k.inputs; call = k.call; sure_where_honest = λ w l e h. absurd (sure l e h); sure_in_part = λ l e h. absurd (sure l e h); out_of_fuel = k.out_of_fuel; dropped = k.dropped }))

@@ -2,7 +2,7 @@ use Rattle.std.proofs.Common.{◌≡◌, false, true, inl, ◌∙◌, ap, sym, s
 use Rattle.std.proofs.lemmas.Result.{err_from_is_err_and}
 use Rattle.std.specs.Option.{IsSomeAnd}
 use Rattle.ceal_engine.proofs.Carrying.{ended-so, whole-repair}
-use Rattle.ceal_engine.proofs.NoneStale.{no-trace}
+use Rattle.ceal_engine.proofs.NoneStale.{on-error}
 use Rattle.ceal_engine.proofs.Propagated.{finished-clause, present-told}
 use Rattle.ceal_engine.proofs.Present.{not-both, sound-present}
 use Rattle.ceal_engine.proofs.LooksOfCalls.{looks-idle, looks-either, on-ok}
@@ -52,7 +52,7 @@ returns-in_ok-advance-in-Partial-clause-looks_always c =
     looks-either c.args.self.now c.advance-in-Partial.new.self c.in_ok-advance-in-Partial.field-0 (subst (λ e. has_run e.phase ≡ true) c.self.view_is (ap has_run (sym c.phase.ensures ∙ c.in-Partial.is))) a.looks a.looks_anew a.first
 
 pub returns-in-Dropped-clause-looks_always : goal.returns-in-Dropped-clause-looks_always
-returns-in-Dropped-clause-looks_always c = on-ok c.args.self.now c.run_anew.new.self c.run_anew.result c.run_anew.ensures.first c.run_anew.ensures.looks
+returns-in-Dropped-clause-looks_always c = on-ok c.args.self.now c.run_anew.new.self c.run_anew.result c.run_anew.ensures.anew
 
 -- from Pending the call is not run again, so all is repaired
 pub returns-in_ok-advance-in-Pending-clause-repaired : goal.returns-in_ok-advance-in-Pending-clause-repaired
@@ -80,20 +80,12 @@ returns-in_ok-advance-in-Pending-clause-looks c = λ w.
     let a = c.in_ok-advance-in-Pending.ensures in
     a.looks (λ anew. not-both c.args.self.now.phase (a.anew anew) w)
 
-pub returns-in_err-advance-in-Pending-clause-sure_where_honest : goal.returns-in_err-advance-in-Pending-clause-sure_where_honest
-returns-in_err-advance-in-Pending-clause-sure_where_honest c = λ w l e h. absurd (let no : false ≡ true = c.in_err-advance-in-Pending.ensures.sure_where_honest w l e h in cc)
-
-pub returns-in_err-advance-in-Pending-clause-sure_in_part : goal.returns-in_err-advance-in-Pending-clause-sure_in_part
-returns-in_err-advance-in-Pending-clause-sure_in_part c = λ l e h.
+pub returns-in_err-advance-in-Pending-clause-keeps : goal.returns-in_err-advance-in-Pending-clause-keeps
+returns-in_err-advance-in-Pending-clause-keeps c =
     let error = err_from_is_err_and c.from_residual.result c.from_residual.ensures.1 in
-    rw (error.1, error.2) (c.in_err-advance-in-Pending.ensures.sure_in_part l e h)
+    rw (error.1, error.2) (on-error c.args.self.now c.advance.new.self _ c.in_err-advance-in-Pending.ensures.keeps)
 
-pub returns-in_err-advance-in-Partial-clause-sure_in_part : goal.returns-in_err-advance-in-Partial-clause-sure_in_part
-returns-in_err-advance-in-Partial-clause-sure_in_part c = λ l e h.
+pub returns-in_err-advance-in-Partial-clause-keeps : goal.returns-in_err-advance-in-Partial-clause-keeps
+returns-in_err-advance-in-Partial-clause-keeps c =
     let error = err_from_is_err_and c.from_residual-in_err-advance-in-Partial.result c.from_residual-in_err-advance-in-Partial.ensures.1 in
-    rw (error.1, error.2) (c.in_err-advance-in-Partial.ensures.sure_in_part l e h)
-
-pub returns-in-Dropped-clause-sure_in_part : goal.returns-in-Dropped-clause-sure_in_part
-returns-in-Dropped-clause-sure_in_part c = λ l e h.
-    let v = c.self.inside in
-    absurd (no-trace v.run (sym c.phase.ensures ∙ c.in-Dropped.is) l (ap trace c.self.view_is ∙ e))
+    rw (error.1, error.2) (on-error c.args.self.now c.advance-in-Partial.new.self _ c.in_err-advance-in-Partial.ensures.keeps)
