@@ -18,7 +18,7 @@ use Rattle.ceal_engine.proofs.Present.{part-trace}
 use Rattle.ceal_engine.proofs.Repairs.{kept-as, trace-is}
 use Rattle.ceal_engine.proofs.RunMemory.{low-numbers}
 use Rattle.ceal_engine.specs.Engine.{EngineState, IsWhole, fresh_call, trace}
-use Rattle.ceal_engine.specs.Keeping.{IsPartKept, KeepsRun, Keeps, heap_in, phase_at, phase_of, running_in, state_of}
+use Rattle.ceal_engine.specs.Keeping.{IsPartKept, Keeps, heap_in, phase_at, phase_of, running_in, state_of}
 use Rattle.ceal_engine.specs.Runs.{finished, under_way, told, opened}
 use Rattle.ceal_engine.specs.Partial.{spent_in, carried_by, CarriesFrom, IsUnderWay, RenamedFrom, progress_of, GoesOn, Ends, IsAnew, IsOut, IsRepairSoFar, Comes, ComesSo, KeepsWords}
 use Rattle.ceal_engine.specs.declared.phase.Came.{Came}
@@ -102,7 +102,7 @@ opened-whole stage.Finished run h = refl
 opened-whole stage.Pending run h = refl
 opened-whole stage.Partial run h = absurd (grind (arith, h))
 
--- a run with which a repair goes on
+-- a run with which a repair continues
 abbrev pub IsOpenRun : Code → ℕ → List Block → Option Call → Running → Type 0
 IsOpenRun code fuel inputs None run = ⊥
 IsOpenRun code fuel inputs (Some call) run = IsPartKept code fuel inputs call run

@@ -19,7 +19,7 @@ use Rattle.ceal_code.proofs.Replay.MemoryChanges.{CellThere, contents, written-c
 use Rattle.ceal_code.proofs.Words.SameIsEqual.{both, some-same, none-some}
 use Rattle.ceal_code.specs.Fitting.{Fits}
 use Rattle.ceal_code.specs.Program.{Code}
-use Rattle.ceal_code.specs.Replay.{IsHonest, stored}
+use Rattle.ceal_code.specs.Replay.{stored}
 use Rattle.ceal_code.specs.Value.{is_cell}
 use Rattle.ceal_engine.proofs.Inputs.{all-get, fit-all, edit-fits, call-kept, extended-edit, extended-refl}
 use Rattle.ceal_engine.proofs.MoreMemory.{core-plain}

@@ -1,6 +1,5 @@
 -- A repair in progress where no read is stale, and what it leaves of the nodes at the beginning.
 use Rattle.std.proofs.Common.{◌≡◌, ◌≢◌, ◌⊎◌, inl, inr, ℕ, zero, suc, ◌≤◌, true, false, Ok, Err, Option, Some, None, List, refl, sym, ap, ◌∙◌, subst, arith}
-use Rattle.std.specs.Option.{IsSomeAnd}
 use Rattle.ceal_base.specs.Block.{Block}
 use Rattle.ceal_base.specs.Trace.{Trace, trace_of}
 use Rattle.ceal_base.specs.declared.call.Call.{Call}
@@ -12,14 +11,13 @@ use Rattle.ceal_engine.proofs.Carrying.{IsOpenRun, same-as, open-run}
 use Rattle.ceal_engine.proofs.Present.{by-run, part-trace, trace-kept}
 use Rattle.ceal_engine.proofs.Repairs.{no-end}
 use Rattle.ceal_engine.specs.Calls.{Advances}
-use Rattle.ceal_engine.specs.Engine.{EngineState, IsWhole, stands_for, trace, fresh_call}
+use Rattle.ceal_engine.specs.Engine.{EngineState, IsWhole, stands_for, fresh_call}
 use Rattle.ceal_engine.specs.Keeping.{Keeps, forest_in, phase_of, running_in, state_of}
 use Rattle.ceal_engine.specs.Partial.{CarriesFrom, Comes, IsRunAgain}
 use Rattle.ceal_engine.specs.Repaired.{KeepsFront}
 use Rattle.ceal_engine.specs.Runs.{opened}
 use Rattle.ceal_engine.specs.declared.phase.Came.{Came}
 use Rattle.ceal_engine.specs.declared.phase.Came.TheVariants as came
-use Rattle.ceal_engine.specs.declared.phase.Phase.{Phase}
 use Rattle.ceal_engine.specs.declared.phase.Phase.TheVariants.{Partial, Dropped}
 use Rattle.ceal_engine.specs.declared.run.Run.{Run}
 use Rattle.ceal_engine.specs.declared.run.Run.TheVariants as its
@@ -111,13 +109,9 @@ no-running (its.Kept run stage.Pending) e = absurd (grind (arith, e))
 no-running (its.Kept run stage.Partial) e = absurd (grind (arith, e))
 no-running its.Dropped e = refl
 
--- no nodes
+-- and no nodes
 pub front-of-none : (code : Code) (fuel : ℕ) (inputs : List Block) (call : Option Call) (run : Run) → phase_of run ≡ Dropped → (n : EngineState) → KeepsFront (state_of code fuel inputs call run) n
 front-of-none code fuel inputs call run e n = rw (no-running run e) tt
-
--- and no trace
-pub no-trace : (run : Run) → phase_of run ≡ Dropped → (l : Trace) → stands_for (forest_in (running_in run)) ≡ Some l → ⊥
-no-trace run e l h = none-some l (sym (ap (λ r. stands_for (forest_in r)) (no-running run e)) ∙ h)
 
 -- after an error the type of an answer does not matter
 pub on-error : {A B : Type 0} (e n : EngineState) (error : RunError) → Advances {A = A} e n (Err error) → Advances {A = B} e n (Err error)

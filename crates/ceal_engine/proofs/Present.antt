@@ -21,7 +21,6 @@ use Rattle.ceal_code.proofs.Words.SameIsEqual.{some-same, none-some}
 use Rattle.ceal_code.proofs.TypedCode.TypedRun.{progress}
 use Rattle.ceal_code.specs.After.{memory_after}
 use Rattle.ceal_code.specs.Determined.{Determined}
-use Rattle.ceal_code.specs.Fitting.{Fits}
 use Rattle.ceal_code.specs.Fresh.{fresh}
 use Rattle.ceal_code.specs.Program.{Code}
 use Rattle.ceal_code.specs.Replay.{count, core_numbers, bases, plain_of, block_after, inputs_after, IsHonest}

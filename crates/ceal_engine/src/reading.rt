@@ -60,8 +60,8 @@ pub fn shape(run: &Run, inputs: &Inputs, block: BlockId) -> Option<Shape>
 
 /// The word of a plain field of an input or of a core block of the run.
 pub fn plain_word(run: &Run, inputs: &Inputs, block: BlockId, field: u32) -> Word
-    ensures { result
-        ≡ unwrap_or (block_word (known_block (running_in run.now) inputs.now block) field) Word.Null }
+    ensures { result ≡ unwrap_or
+        (block_word (known_block (running_in run.now) inputs.now block) field) Word.Null }
 {
     word(run, inputs, block, field).unwrap_or(Word::Null)
 }

@@ -1,10 +1,10 @@
 use Rattle.std.specs.Prelude.{◌↔◌, IsTrue}
-use Rattle.std.proofs.Common.{rules, ◌≡◌, false, true, Some, inl, inr, refl, sym, ap, ◌∙◌, subst}
+use Rattle.std.proofs.Common.{rules, ◌≡◌, false, true, Some, inl, inr, refl, sym, ◌∙◌, subst}
 use Rattle.std.proofs.lemmas.Result.{err_from_is_err_and}
 use Rattle.ceal_engine.proofs.Carrying.{comes-so, done-repair}
 use Rattle.ceal_engine.proofs.LooksOfCalls.{looks-either}
 use Rattle.ceal_engine.proofs.Present.{not-both}
-use Rattle.ceal_engine.specs.Engine.{has_run, trace}
+use Rattle.ceal_engine.specs.Engine.{has_run}
 use Rattle.ceal_engine.specs.Keeping.{phase_of}
 use Rattle.ceal_engine.specs.Repaired.{KeepsFront}
 use Rattle.ceal_engine.specs.declared.phase.Phase.{Phase}
