@@ -56,12 +56,16 @@ told_of work its.New = its.New
 told_of work (its.Kept run s) = its.Kept (told work run) s
 told_of work its.Dropped = its.Dropped
 
--- the run with which a repair continues; where a new one begins no step was spent on it
+-- a run as a repair continues it; where one begins no step was spent on it
+abbrev pub opened_at : Stage → Running → Running
+opened_at stage.Finished run = told 0 run
+opened_at stage.Pending run = told 0 run
+opened_at stage.Partial run = run
+
+-- the same, where there is a run
 abbrev pub opened : Run → Option Running
 opened its.New = None
-opened (its.Kept run stage.Finished) = Some (told 0 run)
-opened (its.Kept run stage.Pending) = Some (told 0 run)
-opened (its.Kept run stage.Partial) = Some run
+opened (its.Kept run s) = Some (opened_at s run)
 opened its.Dropped = None
 
 -- a run whose nodes, heap and work are those of another

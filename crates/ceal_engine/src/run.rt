@@ -1,12 +1,11 @@
 // The run of an engine, and what edits and new inputs do to it.
 
-ghost use Rattle.std.specs.Prelude.{◌≡◌, ℕ, [], pos, true, None, Some, IfSome, OnOk, OnErr};
+ghost use Rattle.std.specs.Prelude.{◌≡◌, ℕ, [], pos, None, Some, IfSome, OnOk, OnErr};
 ghost use Rattle.ceal_base.specs.declared.word.BlockId.TheVariants.{Input};
 ghost use Rattle.ceal_base.specs.declared.word.Word.TheVariants.{Num};
 ghost use Rattle.ceal_code.specs.Value.{field_kind};
-ghost use Rattle.ceal_engine.specs.Engine.{has_run};
 ghost use Rattle.ceal_engine.specs.Keeping.{phase_at, phase_of, running_in};
-ghost use Rattle.ceal_engine.specs.Runs.{LeavesCells, OfRuns, SetsBase, SetsInput, edited_at, opened, same_stage, told_of};
+ghost use Rattle.ceal_engine.specs.Runs.{LeavesCells, OfRuns, SetsBase, SetsInput, edited_at, opened_at, same_stage, told_of};
 ghost use Rattle.ceal_engine.specs.declared.phase.Phase.TheVariants.{Finished as IsFinished};
 ghost use Rattle.ceal_engine.specs.declared.run.Run.TheVariants.{Kept as IsKept, Dropped as IsDropped};
 ghost use Rattle.ceal_mods.specs.Mods.{cell_of};
@@ -55,6 +54,17 @@ impl Stage {
         }
     }
 
+    /// Before a repair of a run at this stage: where it begins no step was spent on it.
+    pub fn open(self, run: &mut Running)
+        ensures { run.new ≡ opened_at self run.old }
+    {
+        match self {
+            Stage::Finished => run.spent = 0,
+            Stage::Pending => run.spent = 0,
+            Stage::Partial => {}
+        }
+    }
+
     /// The stage after an edit.
     fn edited(self) -> Stage
         ensures { result ≡ edited_at self }
@@ -98,28 +108,11 @@ impl Run {
         drop(mem::replace(self, Run::Kept(run, stage)));
     }
 
-    /// Hands out the run, to continue its repair or to begin one: then no step was spent on it. It is dropped until it is
-    /// kept again.
-    pub fn open(&mut self) -> Running
-        requires { has_run (phase_of self.old) ≡ true }
-        ensures run { opened self.old ≡ Some result }
-        ensures dropped { self.new ≡ IsDropped }
+    /// The run is given up.
+    pub fn give_up(&mut self)
+        ensures { self.new ≡ IsDropped }
     {
-        match mem::replace(self, Run::Dropped) {
-            Run::New => unreachable!(),
-            Run::Kept(mut run, stage) => match stage {
-                Stage::Partial => run,
-                Stage::Finished => {
-                    run.spent = 0;
-                    run
-                }
-                Stage::Pending => {
-                    run.spent = 0;
-                    run
-                }
-            },
-            Run::Dropped => unreachable!(),
-        }
+        drop(mem::replace(self, Run::Dropped));
     }
 
     /// From now on this much work is told of the run.

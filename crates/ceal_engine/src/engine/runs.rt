@@ -22,7 +22,6 @@ use ceal_base::word::Word;
 use ceal_repair::advance::{Progress as Repaired, advance};
 use ceal_repair::first::first;
 use ceal_repair::running::{Outcome, Running};
-use std::mem;
 
 impl Engine {
     /// The first trace of the call, as a run.
@@ -77,7 +76,7 @@ impl Engine {
         ensures looks { OnOk result (LooksOfRun self.new) }
     {
         self.call.set(function, args);
-        drop(mem::replace(&mut self.run, Run::Dropped));
+        self.run.give_up();
         self.run_anew()
     }
 
@@ -153,30 +152,36 @@ impl Engine {
             KeepsWords self.old.heap self.new.heap) }
     {
         let before = self.run.phase();
-        let mut run = self.run.open();
         let room = &mut self.room;
-        match advance(room, &self.code, &self.inputs, reads, self.fuel, &mut run) {
-            Ok(Repaired::More) => {
-                self.run.keep(run, Stage::Partial);
-                Ok(Came::More)
+        match &mut self.run {
+            Run::New => unreachable!(),
+            Run::Kept(run, stage) => {
+                stage.open(run);
+                match advance(room, &self.code, &self.inputs, reads, self.fuel, run) {
+                    Ok(Repaired::More) => {
+                        *stage = Stage::Partial;
+                        Ok(Came::More)
+                    }
+                    Ok(Repaired::Done) => {
+                        *stage = Stage::Finished;
+                        Ok(Came::Done)
+                    }
+                    Ok(Repaired::Spent) => {
+                        self.run.give_up();
+                        self.run_again(before)?;
+                        Ok(Came::Anew)
+                    }
+                    Ok(Repaired::OutOfFuel) => {
+                        self.run.give_up();
+                        Err(RunError::OutOfFuel)
+                    }
+                    Err(error) => {
+                        self.run.give_up();
+                        Err(RunError::from(error))
+                    }
+                }
             }
-            Ok(Repaired::Done) => {
-                self.run.keep(run, Stage::Finished);
-                Ok(Came::Done)
-            }
-            Ok(Repaired::Spent) => {
-                drop(run);
-                self.run_again(before)?;
-                Ok(Came::Anew)
-            }
-            Ok(Repaired::OutOfFuel) => {
-                drop(run);
-                Err(RunError::OutOfFuel)
-            }
-            Err(error) => {
-                drop(run);
-                Err(RunError::from(error))
-            }
+            Run::Dropped => unreachable!(),
         }
     }
 

@@ -6,7 +6,7 @@ use Rattle.ceal_engine.proofs.NoneStale.{done-within, part-honest, honest-ends, 
 use Rattle.ceal_engine.proofs.Keeping.{sound-with, sound-dropped}
 use Rattle.ceal_engine.specs.Calls.{Advances}
 use Rattle.ceal_engine.specs.Keeping.{phase_of, state_of}
-use Rattle.ceal_engine.specs.Runs.{finished, under_way}
+use Rattle.ceal_engine.specs.Runs.{finished, opened, under_way}
 use Rattle.ceal_code.specs.Replay.{IsHonest}
 use Rattle.ceal_engine.specs.Engine.{IsWhole, has_run, trace}
 use Rattle.ceal_engine.proofs.LooksOfCalls.{looks-repair}
@@ -29,140 +29,132 @@ use Rattle.ceal_engine.proofs.engine.Engine.advance.Goals as goal
 pub advance-requires-clause-part : goal.advance-requires-clause-part
 advance-requires-clause-part c =
     let v = c.self.inside in
-    open-part v.code v.fuel v.inputs v.run v.call.call c.self.invariant.keeps c.open-run.result c.open-run.ensures.run
+    open-part v.code v.fuel v.inputs v.run v.call.call c.self.invariant.keeps c.open.new.run (ap opened c.in-Kept.is ∙ ap Some (sym c.open.ensures))
 
 pub invariant_of-self : goal.invariant_of-self
 invariant_of-self c =
     let v = c.self.inside in
     let run = c.advance.new.running in
-    rw c.keep.ensures
     (sound-with v.code v.fuel v.inputs v.call v.run (its.Kept run stage.Partial) c.self.invariant
-    (keeps-more v.code v.fuel v.inputs v.run v.call.call c.self.invariant.keeps c.open-run.result c.open-run.ensures.run c.args.reads run c.in-Ok-More.field-0 c.in-Ok-More.ensures.sliced c.in-Ok-More.field-0-is))
+    (keeps-more v.code v.fuel v.inputs v.run v.call.call c.self.invariant.keeps c.open.new.run (ap opened c.in-Kept.is ∙ ap Some (sym c.open.ensures)) c.args.reads run c.in-Ok-More.field-0 c.in-Ok-More.ensures.sliced c.in-Ok-More.field-0-is))
 
 pub invariant_of-self-in-Ok-Done : goal.invariant_of-self-in-Ok-Done
 invariant_of-self-in-Ok-Done c =
     let v = c.self.inside in
     let run = c.advance.new.running in
-    rw c.keep-in-Ok-Done.ensures
     (sound-with v.code v.fuel v.inputs v.call v.run (its.Kept run stage.Finished) c.self.invariant
-    (keeps-done v.code v.fuel v.inputs v.run v.call.call c.self.invariant.keeps c.open-run.result c.open-run.ensures.run c.args.reads run c.in-Ok-Done.field-0 c.in-Ok-Done.ensures.sliced c.in-Ok-Done.field-0-is))
+    (keeps-done v.code v.fuel v.inputs v.run v.call.call c.self.invariant.keeps c.open.new.run (ap opened c.in-Kept.is ∙ ap Some (sym c.open.ensures)) c.args.reads run c.in-Ok-Done.field-0 c.in-Ok-Done.ensures.sliced c.in-Ok-Done.field-0-is))
 
 pub invariant_of-self-in-Ok-Spent : goal.invariant_of-self-in-Ok-Spent
 invariant_of-self-in-Ok-Spent c =
     let v = c.self.inside in
-    rw c.open-run.ensures.dropped (sound-dropped v.code v.fuel v.inputs v.call v.run (subst (λ e. has_run e.phase ≡ true) (sym c.self.view_is) c.requires.run) c.self.invariant)
+    rw c.give_up.ensures (sound-dropped v.code v.fuel v.inputs v.call v.run (subst (λ e. has_run e.phase ≡ true) (sym c.self.view_is) c.requires.run) c.self.invariant)
 
 pub invariant_of-self-in-Ok-OutOfFuel : goal.invariant_of-self-in-Ok-OutOfFuel
 invariant_of-self-in-Ok-OutOfFuel c =
     let v = c.self.inside in
-    rw c.open-run.ensures.dropped (sound-dropped v.code v.fuel v.inputs v.call v.run (subst (λ e. has_run e.phase ≡ true) (sym c.self.view_is) c.requires.run) c.self.invariant)
+    rw c.give_up-in-Ok-OutOfFuel.ensures (sound-dropped v.code v.fuel v.inputs v.call v.run (subst (λ e. has_run e.phase ≡ true) (sym c.self.view_is) c.requires.run) c.self.invariant)
 
 pub invariant_of-self-in-Err : goal.invariant_of-self-in-Err
 invariant_of-self-in-Err c =
     let v = c.self.inside in
-    rw c.open-run.ensures.dropped (sound-dropped v.code v.fuel v.inputs v.call v.run (subst (λ e. has_run e.phase ≡ true) (sym c.self.view_is) c.requires.run) c.self.invariant)
+    rw c.give_up-in-Err.ensures (sound-dropped v.code v.fuel v.inputs v.call v.run (subst (λ e. has_run e.phase ≡ true) (sym c.self.view_is) c.requires.run) c.self.invariant)
 
 pub returns-in-Ok-More-clause-comes : goal.returns-in-Ok-More-clause-comes
 returns-in-Ok-More-clause-comes c = λ next r carries.
     let v = c.self.inside in
-    let is = c.open-run.ensures.run in
+    let is = ap opened c.in-Kept.is ∙ ap Some (sym c.open.ensures) in
     let run = c.advance.new.running in
     let sliced = c.in-Ok-More.ensures.sliced in
-    rw c.keep.ensures
     (subst (λ e. (CarriesFrom e next r → GoesOn e (under_way v.code v.fuel v.inputs v.call.call run) c.args.reads next r)) c.self.view_is
-    (goes-on v.code v.fuel v.inputs v.run v.call.call c.self.invariant.keeps c.open-run.result is c.args.reads run c.in-Ok-More.field-0 sliced c.in-Ok-More.field-0-is next r) carries)
+    (goes-on v.code v.fuel v.inputs v.run v.call.call c.self.invariant.keeps c.open.new.run is c.args.reads run c.in-Ok-More.field-0 sliced c.in-Ok-More.field-0-is next r) carries)
 
 pub returns-in-Ok-More-clause-more : goal.returns-in-Ok-More-clause-more
 returns-in-Ok-More-clause-more c = λ e.
     let v = c.self.inside in
-    let is = c.open-run.ensures.run in
+    let is = ap opened c.in-Kept.is ∙ ap Some (sym c.open.ensures) in
     let run = c.advance.new.running in
     let sliced = c.in-Ok-More.ensures.sliced in
-    some-reads v.code v.fuel v.inputs v.run v.call.call c.self.invariant.keeps c.open-run.result is c.args.reads run c.in-Ok-More.field-0 sliced c.in-Ok-More.field-0-is
+    some-reads v.code v.fuel v.inputs v.run v.call.call c.self.invariant.keeps c.open.new.run is c.args.reads run c.in-Ok-More.field-0 sliced c.in-Ok-More.field-0-is
 
 pub returns-in-Ok-More-clause-revoked_stay : goal.returns-in-Ok-More-clause-revoked_stay
 returns-in-Ok-More-clause-revoked_stay c = λ e.
     let v = c.self.inside in
-    let is = c.open-run.ensures.run in
+    let is = ap opened c.in-Kept.is ∙ ap Some (sym c.open.ensures) in
     let run = c.advance.new.running in
     let sliced = c.in-Ok-More.ensures.sliced in
-    rw c.keep.ensures
-    (subst (λ e. KeepsWords e.heap (Some run.heap)) c.self.view_is (keeps-words v.code v.fuel v.inputs v.run v.call.call c.self.invariant.keeps c.open-run.result is c.args.reads run c.in-Ok-More.field-0 sliced c.in-Ok-More.field-0-is))
+    (subst (λ e. KeepsWords e.heap (Some run.heap)) c.self.view_is (keeps-words v.code v.fuel v.inputs v.run v.call.call c.self.invariant.keeps c.open.new.run is c.args.reads run c.in-Ok-More.field-0 sliced c.in-Ok-More.field-0-is))
 
 pub returns-in-Ok-Done-clause-comes : goal.returns-in-Ok-Done-clause-comes
 returns-in-Ok-Done-clause-comes c = λ next r carries.
     let v = c.self.inside in
-    let is = c.open-run.ensures.run in
+    let is = ap opened c.in-Kept.is ∙ ap Some (sym c.open.ensures) in
     let run = c.advance.new.running in
     let sliced = c.in-Ok-Done.ensures.sliced in
-    rw c.keep-in-Ok-Done.ensures
     (subst (λ e. (CarriesFrom e next r → Ends e (finished v.code v.fuel v.inputs v.call.call run) c.args.reads next r)) c.self.view_is
-    (ends v.code v.fuel v.inputs v.run v.call.call c.self.invariant.keeps c.open-run.result is c.args.reads run c.in-Ok-Done.field-0 sliced c.in-Ok-Done.field-0-is next r) carries)
+    (ends v.code v.fuel v.inputs v.run v.call.call c.self.invariant.keeps c.open.new.run is c.args.reads run c.in-Ok-Done.field-0 sliced c.in-Ok-Done.field-0-is next r) carries)
 
 pub returns-in-Ok-Done-clause-present : goal.returns-in-Ok-Done-clause-present
 returns-in-Ok-Done-clause-present c = λ e.
     let v = c.self.inside in
-    let is = c.open-run.ensures.run in
+    let is = ap opened c.in-Kept.is ∙ ap Some (sym c.open.ensures) in
     let run = c.advance.new.running in
     let sliced = c.in-Ok-Done.ensures.sliced in
-    rw c.keep-in-Ok-Done.ensures
     (sound-present v.code v.fuel v.inputs v.call (its.Kept run stage.Finished)
     (sound-with v.code v.fuel v.inputs v.call v.run (its.Kept run stage.Finished) c.self.invariant
-    (keeps-done v.code v.fuel v.inputs v.run v.call.call c.self.invariant.keeps c.open-run.result is c.args.reads run c.in-Ok-Done.field-0 sliced c.in-Ok-Done.field-0-is)) refl)
+    (keeps-done v.code v.fuel v.inputs v.run v.call.call c.self.invariant.keeps c.open.new.run is c.args.reads run c.in-Ok-Done.field-0 sliced c.in-Ok-Done.field-0-is)) refl)
 
 pub returns-in-Ok-OutOfFuel-clause-comes : goal.returns-in-Ok-OutOfFuel-clause-comes
 returns-in-Ok-OutOfFuel-clause-comes c = λ next r carries.
     let v = c.self.inside in
-    let is = c.open-run.ensures.run in
+    let is = ap opened c.in-Kept.is ∙ ap Some (sym c.open.ensures) in
     let run = c.advance.new.running in
     let sliced = c.in-Ok-OutOfFuel.ensures.sliced in
-    subst (λ e. (CarriesFrom e next r → IsOut e c.args.reads r)) c.self.view_is (is-out v.code v.fuel v.inputs v.run v.call.call c.self.invariant.keeps c.open-run.result is c.args.reads run c.in-Ok-OutOfFuel.field-0 sliced c.in-Ok-OutOfFuel.field-0-is next r) carries
+    subst (λ e. (CarriesFrom e next r → IsOut e c.args.reads r)) c.self.view_is (is-out v.code v.fuel v.inputs v.run v.call.call c.self.invariant.keeps c.open.new.run is c.args.reads run c.in-Ok-OutOfFuel.field-0 sliced c.in-Ok-OutOfFuel.field-0-is next r) carries
 
 pub returns-in-Ok-More-clause-front : goal.returns-in-Ok-More-clause-front
 returns-in-Ok-More-clause-front c = λ n.
     let v = c.self.inside in
-    let is = c.open-run.ensures.run in
+    let is = ap opened c.in-Kept.is ∙ ap Some (sym c.open.ensures) in
     let run = c.advance.new.running in
-    rw c.keep.ensures
     (subst (λ e. KeepsFront e (under_way v.code v.fuel v.inputs v.call.call run)) c.self.view_is
-    (front-kept v.code v.fuel v.inputs v.call.call v.run c.open-run.result run stage.Partial is (c.in-Ok-More.ensures.front (λ s. absurd (let clash = sym c.in-Ok-More.field-0-is ∙ s in cc)))))
+    (front-kept v.code v.fuel v.inputs v.call.call v.run c.open.new.run run stage.Partial is (c.in-Ok-More.ensures.front (λ s. absurd (let clash = sym c.in-Ok-More.field-0-is ∙ s in cc)))))
 
 pub returns-in-Ok-Done-clause-front : goal.returns-in-Ok-Done-clause-front
 returns-in-Ok-Done-clause-front c = λ n.
     let v = c.self.inside in
-    let is = c.open-run.ensures.run in
+    let is = ap opened c.in-Kept.is ∙ ap Some (sym c.open.ensures) in
     let run = c.advance.new.running in
-    rw c.keep-in-Ok-Done.ensures
     (subst (λ e. KeepsFront e (finished v.code v.fuel v.inputs v.call.call run)) c.self.view_is
-    (front-kept v.code v.fuel v.inputs v.call.call v.run c.open-run.result run stage.Finished is (c.in-Ok-Done.ensures.front (λ s. absurd (let clash = sym c.in-Ok-Done.field-0-is ∙ s in cc)))))
+    (front-kept v.code v.fuel v.inputs v.call.call v.run c.open.new.run run stage.Finished is (c.in-Ok-Done.ensures.front (λ s. absurd (let clash = sym c.in-Ok-Done.field-0-is ∙ s in cc)))))
 
 -- where more steps were spent than the fuel, no slice is there
 pub returns-in_ok-run_again-in-Ok-Spent-clause-comes : goal.returns-in_ok-run_again-in-Ok-Spent-clause-comes
 returns-in_ok-run_again-in-Ok-Spent-clause-comes c = λ next r carries.
     let v = c.self.inside in
-    let is = c.open-run.ensures.run in
+    let is = ap opened c.in-Kept.is ∙ ap Some (sym c.open.ensures) in
     let run = c.advance.new.running in
     let sliced = c.in-Ok-Spent.ensures.sliced in
     record {
-      none = subst (λ e. (CarriesFrom e next r → sliced_repair e.code own e.inputs c.args.reads e.fuel r ≡ None)) c.self.view_is (no-slice v.code v.fuel v.inputs v.run v.call.call c.self.invariant.keeps c.open-run.result is c.args.reads run c.in-Ok-Spent.field-0 sliced c.in-Ok-Spent.field-0-is next r) carries;
+      none = subst (λ e. (CarriesFrom e next r → sliced_repair e.code own e.inputs c.args.reads e.fuel r ≡ None)) c.self.view_is (no-slice v.code v.fuel v.inputs v.run v.call.call c.self.invariant.keeps c.open.new.run is c.args.reads run c.in-Ok-Spent.field-0 sliced c.in-Ok-Spent.field-0-is next r) carries;
       first = c.in_ok-run_again-in-Ok-Spent.ensures.anew.first;
     }
 
 pub returns-in_err-run_again-in-Ok-Spent-clause-comes : goal.returns-in_err-run_again-in-Ok-Spent-clause-comes
 returns-in_err-run_again-in-Ok-Spent-clause-comes c = λ next r carries.
     let v = c.self.inside in
-    let is = c.open-run.ensures.run in
+    let is = ap opened c.in-Kept.is ∙ ap Some (sym c.open.ensures) in
     let run = c.advance.new.running in
     let sliced = c.in-Ok-Spent.ensures.sliced in
     let error = err_from_is_err_and c.from_residual.result c.from_residual.ensures.1 in
     rw error.1
-    (anew-comes c.args.self.now c.run_again.new.self c.args.reads next r (subst (λ e. (CarriesFrom e next r → sliced_repair e.code own e.inputs c.args.reads e.fuel r ≡ None)) c.self.view_is (no-slice v.code v.fuel v.inputs v.run v.call.call c.self.invariant.keeps c.open-run.result is c.args.reads run c.in-Ok-Spent.field-0 sliced c.in-Ok-Spent.field-0-is next r) carries) error.0)
+    (anew-comes c.args.self.now c.run_again.new.self c.args.reads next r (subst (λ e. (CarriesFrom e next r → sliced_repair e.code own e.inputs c.args.reads e.fuel r ≡ None)) c.self.view_is (no-slice v.code v.fuel v.inputs v.run v.call.call c.self.invariant.keeps c.open.new.run is c.args.reads run c.in-Ok-Spent.field-0 sliced c.in-Ok-Spent.field-0-is next r) carries) error.0)
 
 pub run_again-requires-clause-out : goal.run_again-requires-clause-out
 run_again-requires-clause-out c = λ other.
     let v = c.self.inside in
-    let is = c.open-run.ensures.run in
-    spent-fresh v.code v.fuel v.inputs v.run (other-whole (phase_of v.run) (subst (λ e. has_run e.phase ≡ true) (sym c.self.view_is) c.requires.run) (λ e. other (c.phase-before.ensures ∙ e))) v.call.call c.self.invariant.keeps c.open-run.result is c.advance.new.running
+    let is = ap opened c.in-Kept.is ∙ ap Some (sym c.open.ensures) in
+    spent-fresh v.code v.fuel v.inputs v.run (other-whole (phase_of v.run) (subst (λ e. has_run e.phase ≡ true) (sym c.self.view_is) c.requires.run) (λ e. other (c.phase-before.ensures ∙ e))) v.call.call c.self.invariant.keeps c.open.new.run is c.advance.new.running
     c.in-Ok-Spent.field-0 c.in-Ok-Spent.ensures.repaired c.in-Ok-Spent.field-0-is
 
 pub returns-in_ok-run_again-in-Ok-Spent-clause-front : goal.returns-in_ok-run_again-in-Ok-Spent-clause-front
@@ -181,28 +173,25 @@ returns-in_ok-run_again-in-Ok-Spent-clause-repaired c = λ w l e.
 pub returns-in-Ok-Done-clause-repaired : goal.returns-in-Ok-Done-clause-repaired
 returns-in-Ok-Done-clause-repaired c = λ w l e.
     let v = c.self.inside in
-    let is = c.open-run.ensures.run in
+    let is = ap opened c.in-Kept.is ∙ ap Some (sym c.open.ensures) in
     let run = c.advance.new.running in
-    rw c.keep-in-Ok-Done.ensures
     (subst (λ s. IsRepairSoFar s (finished v.code v.fuel v.inputs v.call.call run) l came.Done) c.self.view_is
-    (done-so-far v.code v.fuel v.inputs v.run (subst (λ s. IsWhole s.phase) (sym c.self.view_is) w) v.call.call c.self.invariant.keeps c.open-run.result is run c.in-Ok-Done.field-0 c.in-Ok-Done.ensures.repaired c.in-Ok-Done.field-0-is l
+    (done-so-far v.code v.fuel v.inputs v.run (subst (λ s. IsWhole s.phase) (sym c.self.view_is) w) v.call.call c.self.invariant.keeps c.open.new.run is run c.in-Ok-Done.field-0 c.in-Ok-Done.ensures.repaired c.in-Ok-Done.field-0-is l
     (ap trace c.self.view_is ∙ e)))
 
 pub returns-in-Ok-Done-clause-looks : goal.returns-in-Ok-Done-clause-looks
 returns-in-Ok-Done-clause-looks c = λ n.
     let v = c.self.inside in
-    let is = c.open-run.ensures.run in
-    rw c.keep-in-Ok-Done.ensures
+    let is = ap opened c.in-Kept.is ∙ ap Some (sym c.open.ensures) in
     (subst (λ s. LooksOfRepair s (finished v.code v.fuel v.inputs v.call.call c.advance.new.running)) c.self.view_is
-    (looks-repair v.code v.fuel v.inputs v.call.call v.run c.open-run.result c.advance.new.running is c.in-Ok-Done.ensures.pays stage.Finished))
+    (looks-repair v.code v.fuel v.inputs v.call.call v.run c.open.new.run c.advance.new.running is c.in-Ok-Done.ensures.pays stage.Finished))
 
 pub returns-in-Ok-More-clause-looks : goal.returns-in-Ok-More-clause-looks
 returns-in-Ok-More-clause-looks c = λ n.
     let v = c.self.inside in
-    let is = c.open-run.ensures.run in
-    rw c.keep.ensures
+    let is = ap opened c.in-Kept.is ∙ ap Some (sym c.open.ensures) in
     (subst (λ s. LooksOfRepair s (under_way v.code v.fuel v.inputs v.call.call c.advance.new.running)) c.self.view_is
-    (looks-repair v.code v.fuel v.inputs v.call.call v.run c.open-run.result c.advance.new.running is c.in-Ok-More.ensures.pays stage.Partial))
+    (looks-repair v.code v.fuel v.inputs v.call.call v.run c.open.new.run c.advance.new.running is c.in-Ok-More.ensures.pays stage.Partial))
 
 pub returns-in-Ok-More-clause-repaired : goal.returns-in-Ok-More-clause-repaired
 returns-in-Ok-More-clause-repaired c = λ w l e. tt
@@ -210,8 +199,8 @@ returns-in-Ok-More-clause-repaired c = λ w l e. tt
 pub returns-in-Ok-OutOfFuel-clause-keeps : goal.returns-in-Ok-OutOfFuel-clause-keeps
 returns-in-Ok-OutOfFuel-clause-keeps c =
     let v = c.self.inside in
-    let fresh = fresh-out v.code v.fuel v.inputs v.run v.call.call c.self.invariant.keeps c.open-run.result c.open-run.ensures.run c.args.reads c.advance.new.running c.in-Ok-OutOfFuel.field-0 c.in-Ok-OutOfFuel.ensures.sliced c.in-Ok-OutOfFuel.field-0-is in
-    rw c.open-run.ensures.dropped
+    let fresh = fresh-out v.code v.fuel v.inputs v.run v.call.call c.self.invariant.keeps c.open.new.run (ap opened c.in-Kept.is ∙ ap Some (sym c.open.ensures)) c.args.reads c.advance.new.running c.in-Ok-OutOfFuel.field-0 c.in-Ok-OutOfFuel.ensures.sliced c.in-Ok-OutOfFuel.field-0-is in
+    rw c.give_up-in-Ok-OutOfFuel.ensures
     (subst (λ e. Advances {A = Came} e (state_of v.code v.fuel v.inputs v.call.call its.Dropped) (Err OutOfFuel)) c.self.view_is
     (record {
       code = refl;
@@ -230,9 +219,9 @@ returns-in-Err-clause-keeps c =
     let v = c.self.inside in
     let before = state_of v.code v.fuel v.inputs v.call.call v.run in
     let sure : (l : Trace) → trace before ≡ Some l → IsHonest v.code v.inputs l → ⊥ = λ l e h.
-    let p = part-honest v.code v.fuel v.inputs v.run v.call.call c.self.invariant.keeps c.open-run.result c.open-run.ensures.run l e h in
+    let p = part-honest v.code v.fuel v.inputs v.run v.call.call c.self.invariant.keeps c.open.new.run (ap opened c.in-Kept.is ∙ ap Some (sym c.open.ensures)) l e h in
     absurd (let no : false ≡ true = c.in-Err.ensures.sure p.0 p.1 p.2 p.3 p.4 in cc) in
-    rw (c.open-run.ensures.dropped, c.from.ensures)
+    rw (c.give_up-in-Err.ensures, c.from.ensures)
     (subst (λ e. Advances {A = Came} e (state_of v.code v.fuel v.inputs v.call.call its.Dropped) (Err Memory)) c.self.view_is
     (record { code = refl; fuel = refl; inputs = refl; call = refl; sure_where_honest = λ w l e h. absurd (sure l e h); sure_in_part = λ l e h. absurd (sure l e h); out_of_fuel = tt; dropped = refl }))
 
@@ -241,8 +230,8 @@ returns-in_err-run_again-in-Ok-Spent-clause-keeps c =
     let v = c.self.inside in
     let before = state_of v.code v.fuel v.inputs v.call.call v.run in
     let sure : (l : Trace) → trace before ≡ Some l → IsHonest v.code v.inputs l → ⊥ = λ l e h.
-    let p = part-honest v.code v.fuel v.inputs v.run v.call.call c.self.invariant.keeps c.open-run.result c.open-run.ensures.run l e h in
-    done-within v.code v.inputs p.0 p.1 v.fuel p.2 c.open-run.result p.3 p.4 c.args.reads c.requires.some (subst (IsSliced v.code v.inputs p.0 p.1 c.args.reads v.fuel p.2 c.advance.new.running) c.in-Ok-Spent.field-0-is (c.in-Ok-Spent.ensures.sliced p.0 p.1 p.2 p.3)) in
+    let p = part-honest v.code v.fuel v.inputs v.run v.call.call c.self.invariant.keeps c.open.new.run (ap opened c.in-Kept.is ∙ ap Some (sym c.open.ensures)) l e h in
+    done-within v.code v.inputs p.0 p.1 v.fuel p.2 c.open.new.run p.3 p.4 c.args.reads c.requires.some (subst (IsSliced v.code v.inputs p.0 p.1 c.args.reads v.fuel p.2 c.advance.new.running) c.in-Ok-Spent.field-0-is (c.in-Ok-Spent.ensures.sliced p.0 p.1 p.2 p.3)) in
     let error = err_from_is_err_and c.from_residual.result c.from_residual.ensures.1 in
     let k = on-error {B = Came} _ c.run_again.new.self _ c.in_err-run_again-in-Ok-Spent.ensures.keeps in
     rw (error.1, error.2)
