@@ -14,12 +14,12 @@ use Rattle.ceal_code.specs.Alike.{Pairs, Tied, TraceAlike, OneToOne}
 use Rattle.ceal_code.specs.Program.{Code}
 use Rattle.ceal_code.specs.Replay.{IsHonest}
 use Rattle.ceal_engine.proofs.Inputs.{extended-refl}
-use Rattle.ceal_engine.proofs.Present.{part-kept, part-trace}
+use Rattle.ceal_engine.proofs.Present.{part-trace}
 use Rattle.ceal_engine.proofs.Repairs.{kept-as, trace-is}
 use Rattle.ceal_engine.proofs.RunMemory.{low-numbers}
-use Rattle.ceal_engine.specs.Completed.{finished, under_way, idle, opened, IsOpenRun, IsSliceOf as IsSliceFor}
-use Rattle.ceal_engine.specs.Engine.{EngineState, IsWhole, has_run, trace}
-use Rattle.ceal_engine.specs.Keeping.{IsPartKept, KeepsRun, Keeps, heap_in, state_of}
+use Rattle.ceal_engine.specs.Engine.{EngineState, IsWhole, fresh_call, trace}
+use Rattle.ceal_engine.specs.Keeping.{IsPartKept, Keeps, heap_in, phase_at, phase_of, running_in, state_of}
+use Rattle.ceal_engine.specs.Runs.{finished, under_way, told, opened}
 use Rattle.ceal_engine.specs.Partial.{spent_in, carried_by, CarriesFrom, IsUnderWay, RenamedFrom, progress_of, GoesOn, Ends, IsAnew, IsOut, IsRepairSoFar, Comes, ComesSo, KeepsWords}
 use Rattle.ceal_engine.specs.declared.phase.Came.{Came}
 use Rattle.ceal_engine.specs.declared.phase.Came.TheVariants as came
@@ -27,7 +27,11 @@ use Rattle.ceal_engine.specs.declared.phase.Progress.{Progress}
 use Rattle.ceal_engine.specs.declared.phase.Progress.TheVariants.{Done as Ended}
 use Rattle.ceal_engine.specs.Repaired.{IsRepaired}
 use Rattle.ceal_engine.specs.declared.phase.Phase.{Phase}
-use Rattle.ceal_engine.specs.declared.phase.Phase.TheVariants.{New, Finished as IsFinished, Pending, Partial, Dropped}
+use Rattle.ceal_engine.specs.declared.phase.Phase.TheVariants.{Finished as IsFinished, Pending, Partial}
+use Rattle.ceal_engine.specs.declared.run.Run.{Run}
+use Rattle.ceal_engine.specs.declared.run.Run.TheVariants as its
+use Rattle.ceal_engine.specs.declared.run.Stage.{Stage}
+use Rattle.ceal_engine.specs.declared.run.Stage.TheVariants as stage
 use Rattle.ceal_engine.specs.declared.run_error.RunError.{RunError}
 use Rattle.ceal_engine.specs.declared.run_error.RunError.TheVariants.{Memory, OutOfFuel as RanOut}
 use Rattle.ceal_heap.specs.Heap.{Contents, next, plain_of}
@@ -59,7 +63,7 @@ module _ (code : Code) (fuel : ℕ) (inputs : List Block) (call : Call) (l : Tra
   few-readable : HasFew fuel run.heap
   few-readable = kept-few code inputs call.function call.args fuel l run kept
 
-  begun : IsPartRun code inputs call.function call.args fuel (beginning code inputs l 0) (idle run)
+  begun : IsPartRun code inputs call.function call.args fuel (beginning code inputs l 0) (told 0 run)
   begun = record {
     fits = kept.fits;
     stands = record {
@@ -81,7 +85,7 @@ module _ (code : Code) (fuel : ℕ) (inputs : List Block) (call : Call) (l : Tra
     numbers = kept.numbers;
   }
 
-  pub begun-kept : IsPartKept code fuel inputs call (idle run)
+  pub begun-kept : IsPartKept code fuel inputs call (told 0 run)
   begun-kept = record {
     repair = beginning code inputs l 0;
     of = begun;
@@ -93,38 +97,23 @@ module _ (code : Code) (fuel : ℕ) (inputs : List Block) (call : Call) (l : Tra
 
 -- ---- the run with which a repair is in progress
 
-pub opened-whole : (phase : Phase) (run : Running) → IsWhole phase → opened phase (Some run) ≡ Some (idle run)
-opened-whole New run h = absurd (grind (arith, h))
-opened-whole IsFinished run h = refl
-opened-whole Pending run h = refl
-opened-whole Partial run h = absurd (grind (arith, h))
-opened-whole Dropped run h = absurd (grind (arith, h))
+pub opened-whole : (s : Stage) (run : Running) → IsWhole (phase_at s) → opened (its.Kept run s) ≡ Some (told 0 run)
+opened-whole stage.Finished run h = refl
+opened-whole stage.Pending run h = refl
+opened-whole stage.Partial run h = absurd (grind (arith, h))
 
-opened-part : (phase : Phase) (run : Option Running) → phase ≡ Partial → opened phase run ≡ run
-opened-part phase run e = rw e refl
+-- a run with which a repair continues
+abbrev pub IsOpenRun : Code → ℕ → List Block → Option Call → Running → Type 0
+IsOpenRun code fuel inputs None run = ⊥
+IsOpenRun code fuel inputs (Some call) run = IsPartKept code fuel inputs call run
 
-pub opened-none : (phase : Phase) → opened phase None ≡ None
-opened-none New = refl
-opened-none IsFinished = refl
-opened-none Pending = refl
-opened-none Partial = refl
-opened-none Dropped = refl
-
-module _ (code : Code) (fuel : ℕ) (inputs : List Block) (phase : Phase) where
-  pub open-run : (call : Option Call) (run : Option Running) → Keeps code fuel inputs phase call run → (old : Running) → opened phase run ≡ Some old → IsOpenRun code fuel inputs call old
-  open-run call None h old e = none-some old (sym (opened-none phase) ∙ e)
-  open-run None (Some run) h old e = elim h [ ]
-  open-run (Some call) (Some run) (KeepsRun.whole k) old e =
-      subst (IsPartKept code fuel inputs call) (some-same (idle run) old (sym (opened-whole phase run k.whole) ∙ e)) (begun-kept code fuel inputs call k.trace run k.of)
-  open-run (Some call) (Some run) (KeepsRun.part p k) old e =
-      subst (IsPartKept code fuel inputs call) (some-same run old (sym (opened-part phase (Some run) p) ∙ e)) k
-
-  -- where there is a run, there is one to continue with
-  pub some-open : (call : Option Call) (run : Option Running) → Keeps code fuel inputs phase call run → has_run phase ≡ true → opened phase run ≡ None → ⊥
-  some-open call None h there e = absurd (grind (arith, h, there))
-  some-open None (Some run) h there e = elim h [ ]
-  some-open (Some call) (Some run) (KeepsRun.whole k) there e = none-some (idle run) (sym e ∙ opened-whole phase run k.whole)
-  some-open (Some call) (Some run) (KeepsRun.part p k) there e = none-some run (sym e ∙ opened-part phase (Some run) p)
+pub open-run : (code : Code) (fuel : ℕ) (inputs : List Block) (before : Run) (call : Option Call) → Keeps code fuel inputs before call → (run : Running) → opened before ≡ Some run → IsOpenRun code fuel inputs call run
+open-run code fuel inputs its.New call k run e = none-some run e
+open-run code fuel inputs (its.Kept old s) None k run e = elim k [ ]
+open-run code fuel inputs (its.Kept old stage.Finished) (Some call) k run e = subst (IsPartKept code fuel inputs call) (some-same (told 0 old) run e) (begun-kept code fuel inputs call k.trace old k.of)
+open-run code fuel inputs (its.Kept old stage.Pending) (Some call) k run e = subst (IsPartKept code fuel inputs call) (some-same (told 0 old) run e) (begun-kept code fuel inputs call k.0 old k.1)
+open-run code fuel inputs (its.Kept old stage.Partial) (Some call) k run e = subst (IsPartKept code fuel inputs call) (some-same old run e) k
+open-run code fuel inputs its.Dropped call k run e = none-some run e
 
 -- what of it is that of the run before
 pub record SameAs (phase : Phase) (before run : Running) : Type 0 where
@@ -133,12 +122,10 @@ pub record SameAs (phase : Phase) (before run : Running) : Type 0 where
   pub heap : run.heap ≡ before.heap
   pub spent : run.spent ≡ spent_in phase before.spent
 
-pub same-as : (phase : Phase) (before run : Running) → opened phase (Some before) ≡ Some run → SameAs phase before run
-same-as New before run e = subst (SameAs New before) (some-same (idle before) run e) (record { tables = refl; trace = refl; heap = refl; spent = refl })
-same-as IsFinished before run e = subst (SameAs IsFinished before) (some-same (idle before) run e) (record { tables = refl; trace = refl; heap = refl; spent = refl })
-same-as Pending before run e = subst (SameAs Pending before) (some-same (idle before) run e) (record { tables = refl; trace = refl; heap = refl; spent = refl })
-same-as Partial before run e = subst (SameAs Partial before) (some-same before run e) (record { tables = refl; trace = refl; heap = refl; spent = refl })
-same-as Dropped before run e = subst (SameAs Dropped before) (some-same (idle before) run e) (record { tables = refl; trace = refl; heap = refl; spent = refl })
+pub same-as : (s : Stage) (before run : Running) → opened (its.Kept before s) ≡ Some run → SameAs (phase_at s) before run
+same-as stage.Finished before run e = subst (SameAs IsFinished before) (some-same (told 0 before) run e) (record { tables = refl; trace = refl; heap = refl; spent = refl })
+same-as stage.Pending before run e = subst (SameAs Pending before) (some-same (told 0 before) run e) (record { tables = refl; trace = refl; heap = refl; spent = refl })
+same-as stage.Partial before run e = subst (SameAs Partial before) (some-same before run e) (record { tables = refl; trace = refl; heap = refl; spent = refl })
 
 -- ---- the definition's repair
 
@@ -246,12 +233,12 @@ not-done-of code inputs r stale = go (is_done code inputs r) refl
 
 -- ---- an engine whose repair is in progress
 
-module _ (code : Code) (fuel : ℕ) (inputs : List Block) (phase : Phase) (call : Call) (before run : Running) (is : opened phase (Some before) ≡ Some run) (k : IsPartKept code fuel inputs call run) where
+module _ (code : Code) (fuel : ℕ) (inputs : List Block) (call : Call) (g : Stage) (before run : Running) (is : opened (its.Kept before g) ≡ Some run) (k : IsPartKept code fuel inputs call run) where
   abbrev e : EngineState
-  e = state_of code fuel inputs (Some call) phase (Some before)
+  e = state_of code fuel inputs (Some call) (its.Kept before g)
 
-  same : SameAs phase before run
-  same = same-as phase before run is
+  same : SameAs (phase_at g) before run
+  same = same-as g before run is
 
   -- the engine's repair is carried to that of the run
   pub here : (next' : ℕ) (r : Repair) → (c : CarriesFrom e next' r) → RepairHolds code own inputs call.function call.args r × Carried code inputs next' r k.repair
@@ -369,87 +356,84 @@ comes-so before after k next' r came.Anew c p is = subst (λ q. ComesSo before a
 
 -- ---- in the words of the engine's functions
 
-module _ (code : Code) (fuel : ℕ) (inputs : List Block) (phase : Phase) (call : Option Call) (before : Option Running) (keeps : Keeps code fuel inputs phase call before) (run : Running) (is : opened phase before ≡ Some run)
-    (reads : Option ℕ) (run' : Running) (s : Far) (slice : IsSliceFor code fuel inputs call reads run run' s) where
-  -- what is true of a call that is there, of the run before it, and of what the slice comes to
-  by-parts : (P : Option Call → Option Running → Type 0)
-      → ((c : Call) (b : Running) → call ≡ Some c → before ≡ Some b → opened phase (Some b) ≡ Some run → (k : IsPartKept code fuel inputs c run) → IsSliced code inputs c.function c.args reads fuel k.repair run' s → P (Some c) (Some b)) → P call before
-  by-parts P f = go call before refl refl (open-run code fuel inputs phase call before keeps run is) slice
+module _ (code : Code) (fuel : ℕ) (inputs : List Block) (before : Run) (call : Option Call) (keeps : Keeps code fuel inputs before call) (run : Running) (is : opened before ≡ Some run) where
+  -- it is a part of a repair
+  pub open-part : (f : ℕ) × (args : List Word) × (r : Repair) × IsPartRun code inputs f args fuel r run
+  open-part = go call (open-run code fuel inputs before call keeps run is)
     where
-      go : (c : Option Call) (b : Option Running) → call ≡ c → before ≡ b → IsOpenRun code fuel inputs c run → IsSliceFor code fuel inputs c reads run run' s → P c b
-      go None b i j k s = elim k [ ]
-      go (Some c) None i j k s = none-some run (sym (opened-none phase) ∙ (ap (opened phase) (sym j) ∙ is))
-      go (Some c) (Some b) i j k s = f c b i j (ap (opened phase) (sym j) ∙ is) k (s k.repair k.of)
+      go : (c : Option Call) → IsOpenRun code fuel inputs c run → (f : ℕ) × (args : List Word) × (r : Repair) × IsPartRun code inputs f args fuel r run
+      go None k = elim k [ ]
+      go (Some c) k = (c.function, c.args, k.repair, k.of)
 
-  abbrev old : Option Call → Option Running → EngineState
-  old c b = state_of code fuel inputs c phase b
+  module _ (reads : Option ℕ) (run' : Running) (s : Far) (slice : (f : ℕ) (args : List Word) (r : Repair) → IsPartRun code inputs f args fuel r run → IsSliced code inputs f args reads fuel r run' s) where
+    -- what is true of a call that is there, of the run before it, and of what the slice comes to
+    by-parts : (P : Option Call → Run → Type 0)
+        → ((c : Call) (b : Running) (g : Stage) → opened (its.Kept b g) ≡ Some run → (k : IsPartKept code fuel inputs c run) → IsSliced code inputs c.function c.args reads fuel k.repair run' s → P (Some c) (its.Kept b g)) → P call before
+    by-parts P f = go call before refl (open-run code fuel inputs before call keeps run is)
+      where
+        go : (c : Option Call) (b : Run) → before ≡ b → IsOpenRun code fuel inputs c run → P c b
+        go None b j k = elim k [ ]
+        go (Some c) its.New j k = none-some run (ap opened (sym j) ∙ is)
+        go (Some c) (its.Kept b g) j k = f c b g (ap opened (sym j) ∙ is) k (slice c.function c.args k.repair k.of)
+        go (Some c) its.Dropped j k = none-some run (ap opened (sym j) ∙ is)
 
-  pub keeps-more : s ≡ More → Keeps code fuel inputs Partial call (Some run')
-  keeps-more h = by-parts (λ c b. Keeps code fuel inputs Partial c (Some run'))
-      (λ c b i j o k t. KeepsRun.part refl (more-kept code fuel inputs phase c b run o k reads run' (subst (IsSliced code inputs c.function c.args reads fuel k.repair run') h t)))
+    abbrev old : Option Call → Run → EngineState
+    old c b = state_of code fuel inputs c b
 
-  pub keeps-done : s ≡ Done → Keeps code fuel inputs IsFinished call (Some run')
-  keeps-done h = by-parts (λ c b. Keeps code fuel inputs IsFinished c (Some run'))
-      (λ c b i j o k t. let d = subst (IsSliced code inputs c.function c.args reads fuel k.repair run') h t in KeepsRun.whole (kept-as code fuel inputs c k.of.fits d.0.items run' d.2))
+    pub keeps-more : s ≡ More → Keeps code fuel inputs (its.Kept run' stage.Partial) call
+    keeps-more h = by-parts (λ c b. Keeps code fuel inputs (its.Kept run' stage.Partial) c)
+        (λ c b g o k t. more-kept code fuel inputs c g b run o k reads run' (subst (IsSliced code inputs c.function c.args reads fuel k.repair run') h t))
 
-  pub goes-on : s ≡ More → (next' : ℕ) (r : Repair) → CarriesFrom (old call before) next' r → GoesOn (old call before) (under_way code fuel inputs call run') reads next' r
-  goes-on h = by-parts (λ c b. (next' : ℕ) (r : Repair) → CarriesFrom (old c b) next' r → GoesOn (old c b) (under_way code fuel inputs c run') reads next' r)
-      (λ c b i j o k t next' r m. comes-more code fuel inputs phase c b run o k reads next' r m run' (subst (IsSliced code inputs c.function c.args reads fuel k.repair run') h t))
+    pub keeps-done : s ≡ Done → Keeps code fuel inputs (its.Kept run' stage.Finished) call
+    keeps-done h = by-parts (λ c b. Keeps code fuel inputs (its.Kept run' stage.Finished) c)
+        (λ c b g o k t. let d = subst (IsSliced code inputs c.function c.args reads fuel k.repair run') h t in kept-as code fuel inputs c k.of.fits d.0.items run' d.2)
 
-  pub ends : s ≡ Done → (next' : ℕ) (r : Repair) → CarriesFrom (old call before) next' r → Ends (old call before) (finished code fuel inputs call run') reads next' r
-  ends h = by-parts (λ c b. (next' : ℕ) (r : Repair) → CarriesFrom (old c b) next' r → Ends (old c b) (finished code fuel inputs c run') reads next' r)
-      (λ c b i j o k t next' r m. comes-done code fuel inputs phase c b run o k reads next' r m run' (subst (IsSliced code inputs c.function c.args reads fuel k.repair run') h t))
+    pub goes-on : s ≡ More → (next' : ℕ) (r : Repair) → CarriesFrom (old call before) next' r → GoesOn (old call before) (under_way code fuel inputs call run') reads next' r
+    goes-on h = by-parts (λ c b. (next' : ℕ) (r : Repair) → CarriesFrom (old c b) next' r → GoesOn (old c b) (under_way code fuel inputs c run') reads next' r)
+        (λ c b g o k t next' r m. comes-more code fuel inputs c g b run o k reads next' r m run' (subst (IsSliced code inputs c.function c.args reads fuel k.repair run') h t))
 
-  pub some-reads : s ≡ More → IsSome reads
-  some-reads h = by-parts (λ c b. IsSome reads)
-      (λ c b i j o k t. more-some code fuel inputs phase c b run o k reads run' (subst (IsSliced code inputs c.function c.args reads fuel k.repair run') h t))
+    pub ends : s ≡ Done → (next' : ℕ) (r : Repair) → CarriesFrom (old call before) next' r → Ends (old call before) (finished code fuel inputs call run') reads next' r
+    ends h = by-parts (λ c b. (next' : ℕ) (r : Repair) → CarriesFrom (old c b) next' r → Ends (old c b) (finished code fuel inputs c run') reads next' r)
+        (λ c b g o k t next' r m. comes-done code fuel inputs c g b run o k reads next' r m run' (subst (IsSliced code inputs c.function c.args reads fuel k.repair run') h t))
 
-  pub keeps-words : s ≡ More → KeepsWords (heap_in before) (Some run'.heap)
-  keeps-words h = by-parts (λ c b. KeepsWords (heap_in b) (Some run'.heap))
-      (λ c b i j o k t. words-stay code fuel inputs phase c b run o k reads run' (subst (IsSliced code inputs c.function c.args reads fuel k.repair run') h t))
+    pub some-reads : s ≡ More → IsSome reads
+    some-reads h = by-parts (λ c b. IsSome reads)
+        (λ c b g o k t. more-some code fuel inputs c g b run o k reads run' (subst (IsSliced code inputs c.function c.args reads fuel k.repair run') h t))
 
-  pub no-slice : s ≡ Spent → (next' : ℕ) (r : Repair) → CarriesFrom (old call before) next' r → sliced code own inputs reads fuel r ≡ None
-  no-slice h = by-parts (λ c b. (next' : ℕ) (r : Repair) → CarriesFrom (old c b) next' r → sliced code own inputs reads fuel r ≡ None)
-      (λ c b i j o k t next' r m. comes-none code fuel inputs phase c b run o k reads next' r m run' (subst (IsSliced code inputs c.function c.args reads fuel k.repair run') h t))
+    pub keeps-words : s ≡ More → KeepsWords (heap_in (running_in before)) (Some run'.heap)
+    keeps-words h = by-parts (λ c b. KeepsWords (heap_in (running_in b)) (Some run'.heap))
+        (λ c b g o k t. words-stay code fuel inputs c g b run o k reads run' (subst (IsSliced code inputs c.function c.args reads fuel k.repair run') h t))
 
-  pub is-out : s ≡ OutOfFuel → (next' : ℕ) (r : Repair) → CarriesFrom (old call before) next' r → IsOut (old call before) reads r
-  is-out h = by-parts (λ c b. (next' : ℕ) (r : Repair) → CarriesFrom (old c b) next' r → IsOut (old c b) reads r)
-      (λ c b i j o k t next' r m. comes-out code fuel inputs phase c b run o k reads next' r m run' (subst (IsSliced code inputs c.function c.args reads fuel k.repair run') h t))
+    pub no-slice : s ≡ Spent → (next' : ℕ) (r : Repair) → CarriesFrom (old call before) next' r → sliced code own inputs reads fuel r ≡ None
+    no-slice h = by-parts (λ c b. (next' : ℕ) (r : Repair) → CarriesFrom (old c b) next' r → sliced code own inputs reads fuel r ≡ None)
+        (λ c b g o k t next' r m. comes-none code fuel inputs c g b run o k reads next' r m run' (subst (IsSliced code inputs c.function c.args reads fuel k.repair run') h t))
 
-  -- then the run from scratch is out of fuel, too
-  pub fresh-out : s ≡ OutOfFuel → Rattle.ceal_engine.specs.Engine.fresh_call code inputs fuel call ≡ None
-  fresh-out h = by-parts (λ c b. Rattle.ceal_engine.specs.Engine.fresh_call code inputs fuel c ≡ None)
-      (λ c b i j o k t. (subst (IsSliced code inputs c.function c.args reads fuel k.repair run') h t).3)
+    pub is-out : s ≡ OutOfFuel → (next' : ℕ) (r : Repair) → CarriesFrom (old call before) next' r → IsOut (old call before) reads r
+    is-out h = by-parts (λ c b. (next' : ℕ) (r : Repair) → CarriesFrom (old c b) next' r → IsOut (old c b) reads r)
+        (λ c b g o k t next' r m. comes-out code fuel inputs c g b run o k reads next' r m run' (subst (IsSliced code inputs c.function c.args reads fuel k.repair run') h t))
 
--- an open run is a part run
-pub open-part : (code : Code) (fuel : ℕ) (inputs : List Block) (call : Option Call) (run : Running) → IsOpenRun code fuel inputs call run → (f : ℕ) × (args : List Word) × (r : Repair) × IsPartRun code inputs f args fuel r run
-open-part code fuel inputs None run k = elim k [ ]
-open-part code fuel inputs (Some call) run k = (call.function, call.args, k.repair, k.of)
-
--- what the slice promises of each call is so of this one
-pub slice-for : (code : Code) (fuel : ℕ) (inputs : List Block) (call : Option Call) (reads : Option ℕ) (run run' : Running) (s : Far)
-    → ((f : ℕ) (args : List Word) (r : Repair) → IsPartRun code inputs f args fuel r run → IsSliced code inputs f args reads fuel r run' s) → IsSliceFor code fuel inputs call reads run run' s
-slice-for code fuel inputs None reads run run' s h = tt
-slice-for code fuel inputs (Some call) reads run run' s h = h call.function call.args
+    -- then the run from scratch is out of fuel, too
+    pub fresh-out : s ≡ OutOfFuel → fresh_call code inputs fuel call ≡ None
+    fresh-out h = by-parts (λ c b. fresh_call code inputs fuel c ≡ None) (λ c b g o k t. (subst (IsSliced code inputs c.function c.args reads fuel k.repair run') h t).3)
 
 -- ---- a repair of the call is in progress
 
-pub is-under-way : (code : Code) (fuel : ℕ) (inputs : List Block) (phase : Phase) (call : Option Call) (run : Option Running) → Keeps code fuel inputs phase call run → phase ≡ Partial → IsUnderWay (state_of code fuel inputs call phase run)
-is-under-way code fuel inputs phase call None h e = absurd (grind (arith, rw e at h))
-is-under-way code fuel inputs phase None (Some run) h e = elim h [ ]
-is-under-way code fuel inputs phase (Some call) (Some run) h e =
-    let k = part-kept code fuel inputs phase call run h e in
-    record {
-      next = k.next;
-      repair = k.ordered;
-      carries = record {
-        call = call;
-        called = refl;
-        items = k.repair.items;
-        is = part-trace code fuel inputs call run k;
-        sound = k.sound;
-        carried = carried-same-law code inputs k.next k.ordered k.repair (carried_by (state_of code fuel inputs (Some call) phase (Some run)) k.repair.items) k.carried refl (λ b. sym (k.of.stands.known b))
-            (ap (λ p. spent_in p run.spent) e ∙ sym k.of.stands.spent);
-      };
-      few = k.of.few;
-    }
+pub is-under-way : (code : Code) (fuel : ℕ) (inputs : List Block) (run : Run) (call : Option Call) → Keeps code fuel inputs run call → phase_of run ≡ Partial → IsUnderWay (state_of code fuel inputs call run)
+is-under-way code fuel inputs its.New call k e = absurd (grind (arith, e))
+is-under-way code fuel inputs (its.Kept run s) None k e = elim k [ ]
+is-under-way code fuel inputs (its.Kept run stage.Finished) (Some call) k e = absurd (grind (arith, e))
+is-under-way code fuel inputs (its.Kept run stage.Pending) (Some call) k e = absurd (grind (arith, e))
+is-under-way code fuel inputs (its.Kept run stage.Partial) (Some call) k e = record {
+  next = k.next;
+  repair = k.ordered;
+  carries = record {
+    call = call;
+    called = refl;
+    items = k.repair.items;
+    is = part-trace code fuel inputs call run k;
+    sound = k.sound;
+    carried = carried-same-law code inputs k.next k.ordered k.repair (carried_by (under_way code fuel inputs (Some call) run) k.repair.items) k.carried refl (λ b. sym (k.of.stands.known b)) (sym k.of.stands.spent);
+  };
+  few = k.of.few;
+}
+is-under-way code fuel inputs its.Dropped call k e = absurd (grind (arith, e))

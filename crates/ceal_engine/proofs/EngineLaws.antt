@@ -16,12 +16,15 @@ use Rattle.ceal_code.specs.Program.{Code}
 use Rattle.ceal_code.specs.Replay.{Replays, plain_of}
 use Rattle.ceal_engine.proofs.Inputs.{extended-refl}
 use Rattle.ceal_engine.proofs.Present.{sound-engine, whole-run}
-use Rattle.ceal_engine.specs.Completed.{OfRuns, SameRun, SetsBase, SetsInput}
-use Rattle.ceal_engine.specs.Keeping.{Kept, Sound as SoundInside, state_of}
+use Rattle.ceal_engine.specs.Keeping.{Kept, Sound as SoundInside, phase_at, state_of}
 use Rattle.ceal_engine.specs.Engine.{EngineState, IsWhole, IsHeapOf, ReplaysCall, is_whole, stands_for}
 use Rattle.ceal_engine.specs.Partial.{spent_in, words_in, carried_by, CarriesFrom, SameRepair, BeginsLaw, KeptLaw}
+use Rattle.ceal_engine.specs.Runs.{OfRuns, SameRun, SetsBase, SetsInput, edited_at, same_stage}
 use Rattle.ceal_engine.specs.declared.phase.Phase.{Phase}
 use Rattle.ceal_engine.specs.declared.phase.Phase.TheVariants.{New, Finished, Pending, Partial, Dropped}
+use Rattle.ceal_engine.specs.declared.run.Run.{Run}
+use Rattle.ceal_engine.specs.declared.run.Run.TheVariants as its
+use Rattle.ceal_engine.specs.declared.run.Stage.{Stage}
 use Rattle.ceal_heap.specs.Heap.{Contents}
 use Rattle.ceal_theory.proofs.SlicedRepair.CarriedLaws.{carried-begin-law, carried-more-law, carried-same-law}
 use Rattle.ceal_theory.proofs.SlicedRepair.SliceLaws.{begin-law, more-law}
@@ -96,39 +99,42 @@ kept-law e n k m same next' r c = record {
 
 -- ---- after an edit and a new input
 
-module _ (code : Code) (fuel : ℕ) (inputs more : List Block) (kept : Kept) (phase after : Phase) (old run : Option Running) (before : SoundInside code fuel inputs kept phase old) (now : SoundInside code fuel more kept after run)
-    (extended : Extended code inputs more) (spent : (work : ℕ) → spent_in after work ≡ spent_in phase work) where
-  abbrev old_state : EngineState
-  old_state = state_of code fuel inputs kept.call phase old
+module _ (code : Code) (fuel : ℕ) (inputs more : List Block) (call : Option Call) (extended : Extended code inputs more) (f : Stage → Stage) (spent : (g : Stage) (work : ℕ) → spent_in (phase_at (f g)) work ≡ spent_in (phase_at g) work) where
+  abbrev state : List Block → Run → EngineState
+  state inputs run = state_of code fuel inputs call run
 
-  abbrev new_state : EngineState
-  new_state = state_of code fuel more kept.call after run
+  same-repair : (old run : Run) → OfRuns SameRun f old run → SameRepair (state inputs old) (state more run)
+  same-repair its.New run o = subst (λ r. SameRepair (state inputs its.New) (state more r)) (sym o) (record { code = refl; call = refl; forest = refl; heap = refl; spent = refl; inputs = extended })
+  same-repair (its.Kept old g) its.New o = elim o [ ]
+  same-repair (its.Kept old g) (its.Kept run h) o = record {
+    code = refl;
+    call = refl;
+    forest = ap (λ (t : Timeline). Some (forest_of t.nodes)) o.0.trace;
+    heap = ap Some o.0.heap;
+    spent = ap (λ h. spent_in (phase_at h) run.spent) o.1 ∙ (ap (spent_in (phase_at (f g))) o.0.spent ∙ spent g old.spent);
+    inputs = extended;
+  }
+  same-repair (its.Kept old g) its.Dropped o = elim o [ ]
+  same-repair its.Dropped run o = subst (λ r. SameRepair (state inputs its.Dropped) (state more r)) (sym o) (record { code = refl; call = refl; forest = refl; heap = refl; spent = refl; inputs = extended })
 
-  -- the repair that is carried is the same
-  pub carries-still : OfRuns SameRun old run → (next' : ℕ) (r : Repair) → CarriesFrom old_state next' r → CarriesFrom new_state next' r
-  carries-still o = kept-law old_state new_state (sound-engine code fuel inputs kept phase old before) (sound-engine code fuel more kept after run now) (same old run o)
-    where
-      same : (old run : Option Running) → OfRuns SameRun old run → SameRepair (state_of code fuel inputs kept.call phase old) (state_of code fuel more kept.call after run)
-      same None None o = record { code = refl; call = refl; forest = refl; heap = refl; spent = spent 0; inputs = extended }
-      same None (Some run) o = elim o [ ]
-      same (Some old) None o = elim o [ ]
-      same (Some old) (Some run) o = record {
-        code = refl;
-        call = refl;
-        forest = ap (λ (t : Timeline). Some (forest_of t.nodes)) o.trace;
-        heap = ap Some o.heap;
-        spent = ap (spent_in after) o.spent ∙ spent old.spent;
-        inputs = extended;
-      }
+-- the repair that is carried is the same
+pub carries-still : (code : Code) (fuel : ℕ) (inputs more : List Block) (kept : Kept) (extended : Extended code inputs more) (f : Stage → Stage) (spent : (g : Stage) (work : ℕ) → spent_in (phase_at (f g)) work ≡ spent_in (phase_at g) work)
+    → (old run : Run) → SoundInside code fuel inputs kept old → SoundInside code fuel more kept run → OfRuns SameRun f old run → (next' : ℕ) (r : Repair)
+    → CarriesFrom (state_of code fuel inputs kept.call old) next' r → CarriesFrom (state_of code fuel more kept.call run) next' r
+carries-still code fuel inputs more kept extended f spent old run before now o =
+    kept-law (state_of code fuel inputs kept.call old) (state_of code fuel more kept.call run) (sound-engine code fuel inputs kept old before) (sound-engine code fuel more kept run now)
+    (same-repair code fuel inputs more kept.call extended f spent old run o)
 
-pub same-base : (p : Place) (w : Word) (old run : Option Running) → OfRuns (SetsBase p w) old run → OfRuns SameRun old run
-same-base p w None None o = tt
-same-base p w None (Some run) o = elim o [ ]
-same-base p w (Some old) None o = elim o [ ]
-same-base p w (Some old) (Some run) o = o.same
+-- what is true of both runs
+of-both : (P Q : Running → Running → Type 0) (f : Stage → Stage) → ((old run : Running) → P old run → Q old run) → (old run : Run) → OfRuns P f old run → OfRuns Q f old run
+of-both P Q f h its.New run o = o
+of-both P Q f h (its.Kept old g) its.New o = elim o [ ]
+of-both P Q f h (its.Kept old g) (its.Kept run t) o = (h old run o.0, o.1)
+of-both P Q f h (its.Kept old g) its.Dropped o = elim o [ ]
+of-both P Q f h its.Dropped run o = o
 
-pub same-input : (structs : List StructInfo) (input : ℕ) (shape : Shape) (words : List Word) (old run : Option Running) → OfRuns (SetsInput structs input shape words) old run → OfRuns SameRun old run
-same-input structs input shape words None None o = tt
-same-input structs input shape words None (Some run) o = elim o [ ]
-same-input structs input shape words (Some old) None o = elim o [ ]
-same-input structs input shape words (Some old) (Some run) o = o.same
+pub same-base : (p : Place) (w : Word) (old run : Run) → OfRuns (SetsBase p w) edited_at old run → OfRuns SameRun edited_at old run
+same-base p w = of-both (SetsBase p w) SameRun edited_at (λ old run o. o.same)
+
+pub same-input : (structs : List StructInfo) (input : ℕ) (shape : Shape) (words : List Word) (old run : Run) → OfRuns (SetsInput structs input shape words) same_stage old run → OfRuns SameRun same_stage old run
+same-input structs input shape words = of-both (SetsInput structs input shape words) SameRun same_stage (λ old run o. o.same)

@@ -1,7 +1,7 @@
 -- What an engine keeps stays sound.
 use Rattle.std.proofs.Common.{◌≡◌, ℕ, zero, suc, if◌then◌else◌, ◌≤◌, ◌+◌, ◌*◌, ◌&&◌, true, false, Option, Some, None, List, [], ◌∷◌, length, slice_get, refl, sym, ap, ◌∙◌, subst, arith}
 use Rattle.std.specs.Option.{option_map}
-use Rattle.std.specs.Prelude.{IfSome, Result, Ok, Err, OnErr}
+use Rattle.std.specs.Prelude.{IfSome, is_some, Result, Ok, Err, OnErr}
 use Rattle.std.proofs.Math.Path.{fun_ext}
 use Rattle.ceal_base.specs.Block.{Block, block_at}
 use Rattle.ceal_base.specs.Fitting.{kind_in, kind_at, block_fits, fields_fit, fits_field, inputs_fit}
@@ -19,16 +19,18 @@ use Rattle.ceal_code.proofs.Replay.MemoryChanges.{CellThere, contents, written-c
 use Rattle.ceal_code.proofs.Words.SameIsEqual.{both, some-same, none-some}
 use Rattle.ceal_code.specs.Fitting.{Fits}
 use Rattle.ceal_code.specs.Program.{Code}
-use Rattle.ceal_code.specs.Replay.{IsHonest, stored}
+use Rattle.ceal_code.specs.Replay.{stored}
 use Rattle.ceal_code.specs.Value.{is_cell}
 use Rattle.ceal_engine.proofs.Inputs.{all-get, fit-all, edit-fits, call-kept, extended-edit, extended-refl}
 use Rattle.ceal_engine.proofs.MoreMemory.{core-plain}
 use Rattle.ceal_engine.proofs.Repairs.{first-of}
-use Rattle.ceal_engine.specs.Completed.{IsFirstOf, SameRun, SetsBase, LeavesCells, OfRuns}
-use Rattle.ceal_engine.specs.Engine.{alone, fits_in, with_base, edited, has_run, IsWhole}
-use Rattle.ceal_engine.specs.Keeping.{contents as cell_contents, Kept, state_of, IsPartKept, KeepsRun, Keeps, Sound}
-use Rattle.ceal_engine.specs.declared.phase.Phase.{Phase}
-use Rattle.ceal_engine.specs.declared.phase.Phase.TheVariants.{New, Finished as IsFinished, Pending, Partial, Dropped}
+use Rattle.ceal_engine.specs.Engine.{alone, fits_in, with_base, has_run}
+use Rattle.ceal_engine.specs.Keeping.{contents as cell_contents, Kept, state_of, phase_of, running_in, IsPartKept, KeepsRun, Keeps, Sound}
+use Rattle.ceal_engine.specs.Runs.{IsFirstOf, SameRun, SetsBase, LeavesCells, OfRuns, edited_at, same_stage}
+use Rattle.ceal_engine.specs.declared.run.Run.{Run}
+use Rattle.ceal_engine.specs.declared.run.Run.TheVariants as its
+use Rattle.ceal_engine.specs.declared.run.Stage.{Stage}
+use Rattle.ceal_engine.specs.declared.run.Stage.TheVariants as stage
 use Rattle.ceal_heap.specs.Heap.{Contents, next, standing, plain_of as heap_words}
 use Rattle.ceal_mods.specs.Cell.{latest_value}
 use Rattle.ceal_mods.specs.declared.cell.Cell.{Cell}
@@ -173,55 +175,28 @@ module _ (code : Code) (inputs : List Block) (p : Place) (w : Word) (fit : input
         ∙ sym (written-contents code (alone inputs) p cell-there w (record { block = Input i; field = f }) ∙ refl));
   }
 
-  not-finished : (phase : Phase) → edited phase ≡ IsFinished → ⊥
-  not-finished New e = absurd (grind (arith, e))
-  not-finished IsFinished e = absurd (grind (arith, e))
-  not-finished Pending e = absurd (grind (arith, e))
-  not-finished Partial e = absurd (grind (arith, e))
-  not-finished Dropped e = absurd (grind (arith, e))
+  module _ (fuel : ℕ) (fits : inputs_fit code.structs (with_base inputs p w) ≡ true) (long : length (with_base inputs p w) ≡ length inputs) where
+    on-edited : (call : Call) (old run : Running) → SetsBase p w old run → (l : Trace) → IsKeptRun code inputs call.function call.args fuel l old → IsKeptRun code (with_base inputs p w) call.function call.args fuel l run
+    on-edited call old run o l k =
+        kept-on code inputs (with_base inputs p w) call.function call.args fuel l old run k (extended-edit code inputs p w cell-at) fits (omega (arith, long)) o.same (bases-edited old run o k.stands.blocks.bases)
 
-  still-new : (phase : Phase) → edited phase ≡ New → phase ≡ New
-  still-new New e = refl
-  still-new IsFinished e = absurd (grind (arith, e))
-  still-new Pending e = absurd (grind (arith, e))
-  still-new Partial e = absurd (grind (arith, e))
-  still-new Dropped e = absurd (grind (arith, e))
+    -- a finished run is pending then
+    run-edited : (call : Call) (old run : Running) → SetsBase p w old run → (s : Stage) → KeepsRun code fuel inputs call old s → KeepsRun code fuel (with_base inputs p w) call run (edited_at s)
+    run-edited call old run o stage.Finished k = (k.trace, on-edited call old run o k.trace k.of)
+    run-edited call old run o stage.Pending k = (k.0, on-edited call old run o k.0 k.1)
+    run-edited call old run o stage.Partial k =
+        part-kept-on code fuel inputs (with_base inputs p w) call old run k (extended-edit code inputs p w cell-at) fits (omega (arith, long)) o.same (bases-edited old run o)
 
-  still-run : (phase : Phase) → has_run (edited phase) ≡ has_run phase
-  still-run New = refl
-  still-run IsFinished = refl
-  still-run Pending = refl
-  still-run Partial = refl
-  still-run Dropped = refl
+    keeps-edited : (call : Option Call) (old run : Run) → OfRuns (SetsBase p w) edited_at old run → Keeps code fuel inputs old call → Keeps code fuel (with_base inputs p w) run call
+    keeps-edited call its.New run o k = subst (λ r. Keeps code fuel (with_base inputs p w) r call) (sym o) k
+    keeps-edited call (its.Kept old s) its.New o k = elim o [ ]
+    keeps-edited None (its.Kept old s) (its.Kept run t) o k = elim k [ ]
+    keeps-edited (Some call) (its.Kept old s) (its.Kept run t) o k = subst (KeepsRun code fuel (with_base inputs p w) call run) (sym o.1) (run-edited call old run o.0 s k)
+    keeps-edited call (its.Kept old s) its.Dropped o k = elim o [ ]
+    keeps-edited call its.Dropped run o k = subst (λ r. Keeps code fuel (with_base inputs p w) r call) (sym o) k
 
-  still-whole : (phase : Phase) → IsWhole phase → IsWhole (edited phase)
-  still-whole New h = h
-  still-whole IsFinished h = refl
-  still-whole Pending h = refl
-  still-whole Partial h = h
-  still-whole Dropped h = h
-
-  still-part : (phase : Phase) → phase ≡ Partial → edited phase ≡ Partial
-  still-part phase e = rw e refl
-
-  keeps-edited : (fuel : ℕ) (phase : Phase) → inputs_fit code.structs (with_base inputs p w) ≡ true → length (with_base inputs p w) ≡ length inputs → (call : Option Call) (old run : Option Running) → OfRuns (SetsBase p w) old run
-      → Keeps code fuel inputs phase call old → Keeps code fuel (with_base inputs p w) (edited phase) call run
-  keeps-edited fuel phase fits long call None None o k = still-run phase ∙ k
-  keeps-edited fuel phase fits long call None (Some run) o k = elim o [ ]
-  keeps-edited fuel phase fits long call (Some old) None o k = elim o [ ]
-  keeps-edited fuel phase fits long None (Some old) (Some run) o k = k
-  keeps-edited fuel phase fits long (Some call) (Some old) (Some run) o (KeepsRun.whole k) = KeepsRun.whole (record {
-    whole = still-whole phase k.whole;
-    trace = k.trace;
-    of = kept-on code inputs (with_base inputs p w) call.function call.args fuel k.trace old run k.of (extended-edit code inputs p w cell-at) fits (omega (arith, long)) o.same (bases-edited old run o k.of.stands.blocks.bases);
-    present = λ e. absurd (not-finished phase e);
-    idle = λ e. absurd (not-finished phase e);
-  })
-  keeps-edited fuel phase fits long (Some call) (Some old) (Some run) o (KeepsRun.part e k) = KeepsRun.part (still-part phase e)
-      (part-kept-on code fuel inputs (with_base inputs p w) call old run k (extended-edit code inputs p w cell-at) fits (omega (arith, long)) o.same (bases-edited old run o))
-
-  pub sound-edited : (fuel : ℕ) (kept : Kept) (phase : Phase) (old run : Option Running) → OfRuns (SetsBase p w) old run → Sound code fuel inputs kept phase old → Sound code fuel (with_base inputs p w) kept (edited phase) run
-  sound-edited fuel kept phase old run o s =
+  pub sound-edited : (fuel : ℕ) (kept : Kept) (old run : Run) → OfRuns (SetsBase p w) edited_at old run → Sound code fuel inputs kept old → Sound code fuel (with_base inputs p w) kept run
+  sound-edited fuel kept old run o s =
       let k = edit-fits code.structs inputs p w s.fit t in
       record {
         is_valid = s.is_valid;
@@ -229,10 +204,8 @@ module _ (code : Code) (inputs : List Block) (p : Place) (w : Word) (fit : input
         fit = k.fits;
         count = omega (arith, s.count, k.count);
         calls = call-kept code inputs (with_base inputs p w) k.kept k.fits kept.call s.calls;
-        uncalled = λ e. s.uncalled (still-new phase e);
-        new = λ e. ap edited (s.new e);
         room = s.room;
-        keeps = keeps-edited fuel phase k.fits k.count kept.call old run o s.keeps;
+        keeps = keeps-edited fuel k.fits k.count kept.call old run o s.keeps;
       }
 
 -- ---- where nothing is seen to change
@@ -243,112 +216,69 @@ bases-left structs inputs old run o has = record {
   of_inputs = λ i f. ap (λ (c : Cell). c.base) (o.cells (record { block = Input i; field = f })) ∙ has.of_inputs i f;
 }
 
--- a run whose nodes, heap and cells are as they were
-keeps-same : (code : Code) (fuel : ℕ) (inputs : List Block) (phase : Phase) (call : Call) (old run : Running) → LeavesCells old run → KeepsRun code fuel inputs phase call old → KeepsRun code fuel inputs phase call run
-keeps-same code fuel inputs phase call old run o (KeepsRun.whole k) = KeepsRun.whole (record {
-  whole = k.whole;
-  trace = k.trace;
-  of = kept-on code inputs inputs call.function call.args fuel k.trace old run k.of (extended-refl code inputs) k.of.fits.blocks (omega arith) o.same (bases-left code.structs inputs old run o k.of.stands.blocks.bases);
-  present = k.present;
-  idle = λ e. o.looks.queue ∙ k.idle e;
-})
-keeps-same code fuel inputs phase call old run o (KeepsRun.part e k) = KeepsRun.part e
-    (part-kept-on code fuel inputs inputs call old run k (extended-refl code inputs) k.of.fits.blocks (omega arith) o.same (bases-left code.structs inputs old run o))
+module _ (code : Code) (fuel : ℕ) (inputs : List Block) where
+  on-left : (call : Call) (old run : Running) → LeavesCells old run → (l : Trace) → IsKeptRun code inputs call.function call.args fuel l old → IsKeptRun code inputs call.function call.args fuel l run
+  on-left call old run o l k =
+      kept-on code inputs inputs call.function call.args fuel l old run k (extended-refl code inputs) k.fits.blocks (omega arith) o.same (bases-left code.structs inputs old run o k.stands.blocks.bases)
 
-keeps-left : (code : Code) (fuel : ℕ) (inputs : List Block) (phase : Phase) (call : Option Call) (old run : Option Running) → OfRuns LeavesCells old run → Keeps code fuel inputs phase call old → Keeps code fuel inputs phase call run
-keeps-left code fuel inputs phase call None None o k = k
-keeps-left code fuel inputs phase call None (Some run) o k = elim o [ ]
-keeps-left code fuel inputs phase call (Some old) None o k = elim o [ ]
-keeps-left code fuel inputs phase None (Some old) (Some run) o k = k
-keeps-left code fuel inputs phase (Some call) (Some old) (Some run) o k = keeps-same code fuel inputs phase call old run o k
+  -- a run whose nodes, heap and cells are as they were
+  run-left : (call : Call) (old run : Running) → LeavesCells old run → (s : Stage) → KeepsRun code fuel inputs call old s → KeepsRun code fuel inputs call run s
+  run-left call old run o stage.Finished k = record { trace = k.trace; of = on-left call old run o k.trace k.of; honest = k.honest; idle = o.looks.queue ∙ k.idle }
+  run-left call old run o stage.Pending k = (k.0, on-left call old run o k.0 k.1)
+  run-left call old run o stage.Partial k = part-kept-on code fuel inputs inputs call old run k (extended-refl code inputs) k.of.fits.blocks (omega arith) o.same (bases-left code.structs inputs old run o)
 
-pub sound-left : (code : Code) (fuel : ℕ) (inputs : List Block) (kept : Kept) (phase : Phase) (old run : Option Running) → OfRuns LeavesCells old run → Sound code fuel inputs kept phase old → Sound code fuel inputs kept phase run
-sound-left code fuel inputs kept phase old run o s = record {
-  is_valid = s.is_valid;
-  limits = s.limits;
-  fit = s.fit;
-  count = s.count;
-  calls = s.calls;
-  uncalled = s.uncalled;
-  new = s.new;
-  room = s.room;
-  keeps = keeps-left code fuel inputs phase kept.call old run o s.keeps;
-}
+  keeps-left : (call : Option Call) (old run : Run) → OfRuns LeavesCells same_stage old run → Keeps code fuel inputs old call → Keeps code fuel inputs run call
+  keeps-left call its.New run o k = subst (λ r. Keeps code fuel inputs r call) (sym o) k
+  keeps-left call (its.Kept old s) its.New o k = elim o [ ]
+  keeps-left None (its.Kept old s) (its.Kept run t) o k = elim k [ ]
+  keeps-left (Some call) (its.Kept old s) (its.Kept run t) o k = subst (KeepsRun code fuel inputs call run) (sym o.1) (run-left call old run o.0 s k)
+  keeps-left call (its.Kept old s) its.Dropped o k = elim o [ ]
+  keeps-left call its.Dropped run o k = subst (λ r. Keeps code fuel inputs r call) (sym o) k
 
-pub state-left : (code : Code) (fuel : ℕ) (inputs : List Block) (call : Option Call) (phase : Phase) (old run : Option Running) → OfRuns LeavesCells old run
-    → state_of code fuel inputs call phase run ≡ state_of code fuel inputs call phase old
-state-left code fuel inputs call phase None None o = refl
-state-left code fuel inputs call phase None (Some run) o = elim o [ ]
-state-left code fuel inputs call phase (Some old) None o = elim o [ ]
-state-left code fuel inputs call phase (Some old) (Some run) o =
-    let same : cell_contents run.tables.mods ≡ cell_contents old.tables.mods = fun_ext (λ p. ap latest_value (o.cells p)) in
-    rw (o.same.trace, o.same.heap, o.same.spent, same, o.looks.looked, o.looks.differed, o.looks.queue) refl
+  -- another run is kept, or none
+  pub sound-with : (kept : Kept) (old run : Run) → Sound code fuel inputs kept old → Keeps code fuel inputs run kept.call → Sound code fuel inputs kept run
+  sound-with kept old run s k = record { is_valid = s.is_valid; limits = s.limits; fit = s.fit; count = s.count; calls = s.calls; room = s.room; keeps = k }
 
--- the tables of a run are kept
-pub run-kept : (code : Code) (fuel : ℕ) (inputs : List Block) (phase : Phase) (call : Option Call) (run : Option Running) → Keeps code fuel inputs phase call run → IfSome run (λ r. KeptTables r.tables)
-run-kept code fuel inputs phase call None k = tt
-run-kept code fuel inputs phase None (Some run) k = elim k [ ]
-run-kept code fuel inputs phase (Some call) (Some run) (KeepsRun.whole k) = k.of.stands.kept
-run-kept code fuel inputs phase (Some call) (Some run) (KeepsRun.part e k) = k.of.stands.kept
+  pub sound-left : (kept : Kept) (old run : Run) → OfRuns LeavesCells same_stage old run → Sound code fuel inputs kept old → Sound code fuel inputs kept run
+  sound-left kept old run o s = sound-with kept old run s (keeps-left kept.call old run o s.keeps)
+
+  pub state-left : (call : Option Call) (old run : Run) → OfRuns LeavesCells same_stage old run → state_of code fuel inputs call run ≡ state_of code fuel inputs call old
+  state-left call its.New run o = ap (state_of code fuel inputs call) o
+  state-left call (its.Kept old s) its.New o = elim o [ ]
+  state-left call (its.Kept old s) (its.Kept run t) o =
+      let same : cell_contents run.tables.mods ≡ cell_contents old.tables.mods = fun_ext (λ p. ap latest_value (o.0.cells p)) in
+      rw (o.1, o.0.same.trace, o.0.same.heap, o.0.same.spent, same, o.0.looks.looked, o.0.looks.differed, o.0.looks.queue) refl
+  state-left call (its.Kept old s) its.Dropped o = elim o [ ]
+  state-left call its.Dropped run o = ap (state_of code fuel inputs call) o
+
+  -- the tables of a run are kept
+  pub run-kept : (call : Option Call) (run : Run) → Keeps code fuel inputs run call → IfSome (running_in run) (λ r. KeptTables r.tables)
+  run-kept call its.New k = tt
+  run-kept None (its.Kept run s) k = elim k [ ]
+  run-kept (Some call) (its.Kept run stage.Finished) k = k.of.stands.kept
+  run-kept (Some call) (its.Kept run stage.Pending) k = k.1.stands.kept
+  run-kept (Some call) (its.Kept run stage.Partial) k = k.of.stands.kept
+  run-kept call its.Dropped k = tt
+
+  -- where there is a run there is a call
+  called : (call : Option Call) (run : Run) → Keeps code fuel inputs run call → has_run (phase_of run) ≡ true → is_some call ≡ true
+  called call its.New k there = absurd (grind (arith, there))
+  called None (its.Kept run s) k there = elim k [ ]
+  called (Some call) (its.Kept run s) k there = refl
+  called call its.Dropped k there = k
+
+  -- a run is given up
+  pub sound-dropped : (kept : Kept) (run : Run) → has_run (phase_of run) ≡ true → Sound code fuel inputs kept run → Sound code fuel inputs kept its.Dropped
+  sound-dropped kept run there s = sound-with kept run its.Dropped s (called kept.call run s.keeps there)
 
 -- what holds anyway holds after an error
 pub on-err : {A E : Type 0} (r : Result A E) (P : Type 0) → P → OnErr r P
 on-err (Ok x) P p = tt
 on-err (Err x) P p = p
 
--- ---- a run is taken
+-- ---- the first run
 
 module _ (code : Code) (fuel : ℕ) (inputs : List Block) where
-  called : (call : Option Call) (run : Running) → Keeps code fuel inputs IsFinished call (Some run) → call ≡ None → ⊥
-  called None run k e = k
-  called (Some call) run k e = none-some call (sym e)
-
-  pub sound-kept : (kept : Kept) (phase : Phase) (before : Option Running) (run : Running) → Sound code fuel inputs kept phase before → Keeps code fuel inputs IsFinished kept.call (Some run)
-      → Sound code fuel inputs kept IsFinished (Some run)
-  sound-kept kept phase before run s k = record {
-    is_valid = s.is_valid;
-    limits = s.limits;
-    fit = s.fit;
-    count = s.count;
-    calls = s.calls;
-    uncalled = λ e. absurd (grind (arith, e));
-    new = λ e. absurd (called kept.call run k e);
-    room = s.room;
-    keeps = k;
-  }
-
-  part-called : (call : Option Call) (run : Running) → Keeps code fuel inputs Partial call (Some run) → call ≡ None → ⊥
-  part-called None run k e = k
-  part-called (Some call) run k e = none-some call (sym e)
-
-  pub sound-part : (kept : Kept) (phase : Phase) (before : Option Running) (run : Running) → Sound code fuel inputs kept phase before → Keeps code fuel inputs Partial kept.call (Some run)
-      → Sound code fuel inputs kept Partial (Some run)
-  sound-part kept phase before run s k = record {
-    is_valid = s.is_valid;
-    limits = s.limits;
-    fit = s.fit;
-    count = s.count;
-    calls = s.calls;
-    uncalled = λ e. absurd (grind (arith, e));
-    new = λ e. absurd (part-called kept.call run k e);
-    room = s.room;
-    keeps = k;
-  }
-
-  -- a run is given up
-  pub sound-dropped : (kept : Kept) (phase : Phase) (before : Option Running) → has_run phase ≡ true → Sound code fuel inputs kept phase before → Sound code fuel inputs kept Dropped None
-  sound-dropped kept phase before there s = record {
-    is_valid = s.is_valid;
-    limits = s.limits;
-    fit = s.fit;
-    count = s.count;
-    calls = s.calls;
-    uncalled = λ e. absurd (grind (arith, e));
-    new = λ e. absurd (let none : has_run New ≡ true = subst (λ p. has_run p ≡ true) (s.new e) there in grind (arith, none));
-    room = s.room;
-    keeps = refl;
-  }
-
   -- the call from its parts
   pub the-call : (call : Option Call) (f : ℕ) (args : List Word) → option_map (λ call. call.function) call ≡ Some f → IfSome call (λ call. call.args ≡ args) → call ≡ Some (record { function = f; args = args })
   the-call None f args e h = none-some f e

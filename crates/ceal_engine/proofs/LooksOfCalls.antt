@@ -1,82 +1,88 @@
 -- How many contents the calls of an engine look at.
-use Rattle.std.proofs.Common.{◌≡◌, ◌≢◌, ◌⊎◌, inl, inr, ◌≤◌, ◌<◌, ◌+◌, ◌*◌, ℕ, true, Option, Some, None, List, length, refl, sym, ap, ◌∙◌, subst, arith}
-use Rattle.std.specs.Prelude.{◌^◌, ◌-◌, Result, Ok, Err, OnOk}
-use Rattle.std.specs.Option.{IsSomeAnd, option_map}
+use Rattle.std.proofs.Common.{◌≡◌, ◌≢◌, inl, inr, ◌≤◌, ◌+◌, ◌*◌, ℕ, true, Option, Some, List, length, refl, sym, ap, ◌∙◌, subst, arith}
+use Rattle.std.specs.Prelude.{Result, Ok, Err, OnOk}
+use Rattle.std.specs.Option.{IsSomeAnd}
 use Rattle.ceal_base.specs.Block.{Block}
 use Rattle.ceal_base.specs.declared.call.Call.{Call}
 use Rattle.ceal_base.specs.declared.kind.Shape.{Shape}
 use Rattle.ceal_base.specs.declared.typed.StructInfo.{StructInfo}
 use Rattle.ceal_base.specs.declared.word.Place.{Place}
 use Rattle.ceal_base.specs.declared.word.Word.{Word}
-use Rattle.ceal_code.proofs.Words.SameIsEqual.{some-same, none-some}
+use Rattle.ceal_code.proofs.Words.SameIsEqual.{none-some}
 use Rattle.ceal_code.specs.Program.{Code}
-use Rattle.ceal_engine.proofs.Carrying.{opened-none, same-as}
-use Rattle.ceal_engine.specs.Completed.{idle, opened, OfRuns, SetsBase, SetsInput}
-use Rattle.ceal_engine.specs.Engine.{EngineState, IsWhole, edited, has_run, trace}
-use Rattle.ceal_engine.specs.Keeping.{state_of}
+use Rattle.ceal_engine.proofs.Carrying.{same-as}
+use Rattle.ceal_engine.specs.Calls.{IsRunAnew}
+use Rattle.ceal_engine.specs.Engine.{EngineState, has_run, trace}
+use Rattle.ceal_engine.specs.Keeping.{phase_at, state_of}
 use Rattle.ceal_engine.specs.Looks.{due, IsCounted, LooksOfEdit, LooksAtNothing, LooksOfRepair, LooksOfRun, LooksOfEither, Updates, LooksLaw}
 use Rattle.ceal_engine.specs.Partial.{spent_in}
 use Rattle.ceal_engine.specs.Repaired.{IsFirst}
+use Rattle.ceal_engine.specs.Runs.{opened, edited_at, same_stage, OfRuns, SetsBase, SetsInput}
 use Rattle.ceal_engine.specs.declared.phase.Came.{Came}
 use Rattle.ceal_engine.specs.declared.phase.Came.TheVariants as came
-use Rattle.ceal_engine.specs.declared.phase.Phase.{Phase}
-use Rattle.ceal_engine.specs.declared.phase.Phase.TheVariants.{New, Finished, Pending, Partial, Dropped}
+use Rattle.ceal_engine.specs.declared.phase.Phase.TheVariants.{Finished}
+use Rattle.ceal_engine.specs.declared.run.Run.{Run}
+use Rattle.ceal_engine.specs.declared.run.Run.TheVariants as its
+use Rattle.ceal_engine.specs.declared.run.Stage.{Stage}
+use Rattle.ceal_engine.specs.declared.run.Stage.TheVariants as stage
 use Rattle.ceal_repair.specs.Looks.{Pays, write_count}
 use Rattle.ceal_repair.specs.declared.running.Running.{Running}
 use Rattle.ceal_repair.specs.declared.tables.Tables.{Tables}
 use Rattle.ceal_trace.specs.Nodes.{Timeline}
 
 -- the steps that were spent so far are those of the repair that is under way, which an edit leaves
-pub spent-edited : (phase : Phase) (work : ℕ) → spent_in (edited phase) work ≡ spent_in phase work
-spent-edited New work = refl
-spent-edited Finished work = refl
-spent-edited Pending work = refl
-spent-edited Partial work = refl
-spent-edited Dropped work = refl
+pub spent-edited : (g : Stage) (work : ℕ) → spent_in (phase_at (edited_at g)) work ≡ spent_in (phase_at g) work
+spent-edited stage.Finished work = refl
+spent-edited stage.Pending work = refl
+spent-edited stage.Partial work = refl
 
-module _ (code : Code) (fuel : ℕ) (inputs : List Block) (call : Option Call) (phase : Phase) where
-  pub looks-edit : (p : Place) (value : Word) (more : List Block) (old run : Option Running) → OfRuns (SetsBase p value) old run
-      → LooksOfEdit (state_of code fuel inputs call phase old) (state_of code fuel more call (edited phase) run)
-  looks-edit p value more None None o = record { looked = refl; queued = omega arith; writes = refl; differed = refl; spent = spent-edited phase 0 }
-  looks-edit p value more None (Some run) o = elim o [ ]
-  looks-edit p value more (Some old) None o = elim o [ ]
-  looks-edit p value more (Some old) (Some run) o = record {
-    looked = o.looked;
-    queued = o.queued;
-    writes = ap (λ (t : Timeline). write_count t.nodes) o.same.trace;
-    differed = o.differed;
-    spent = ap (spent_in (edited phase)) o.same.spent ∙ spent-edited phase old.spent;
+module _ (code : Code) (fuel : ℕ) (inputs : List Block) (call : Option Call) where
+  pub looks-edit : (p : Place) (value : Word) (more : List Block) (old run : Run) → OfRuns (SetsBase p value) edited_at old run → LooksOfEdit (state_of code fuel inputs call old) (state_of code fuel more call run)
+  looks-edit p value more its.New run o =
+      subst (λ r. LooksOfEdit (state_of code fuel inputs call its.New) (state_of code fuel more call r)) (sym o) (record { looked = refl; queued = omega arith; writes = refl; differed = refl; spent = refl })
+  looks-edit p value more (its.Kept old g) its.New o = elim o [ ]
+  looks-edit p value more (its.Kept old g) (its.Kept run h) o = record {
+    looked = o.0.looked;
+    queued = o.0.queued;
+    writes = ap (λ (t : Timeline). write_count t.nodes) o.0.same.trace;
+    differed = o.0.differed;
+    spent = ap (λ h. spent_in (phase_at h) run.spent) o.1 ∙ (ap (spent_in (phase_at (edited_at g))) o.0.same.spent ∙ spent-edited g old.spent);
   }
+  looks-edit p value more (its.Kept old g) its.Dropped o = elim o [ ]
+  looks-edit p value more its.Dropped run o =
+      subst (λ r. LooksOfEdit (state_of code fuel inputs call its.Dropped) (state_of code fuel more call r)) (sym o) (record { looked = refl; queued = omega arith; writes = refl; differed = refl; spent = refl })
 
-  pub looks-input : (structs : List StructInfo) (input : ℕ) (shape : Shape) (words : List Word) (more : List Block) (old run : Option Running) → OfRuns (SetsInput structs input shape words) old run
-      → LooksAtNothing (state_of code fuel inputs call phase old) (state_of code fuel more call phase run)
-  looks-input structs input shape words more None None o = record { looked = refl; queued = refl; writes = refl; differed = refl }
-  looks-input structs input shape words more None (Some run) o = elim o [ ]
-  looks-input structs input shape words more (Some old) None o = elim o [ ]
-  looks-input structs input shape words more (Some old) (Some run) o = record {
-    looked = o.looks.looked;
-    queued = ap (λ (q : List ℕ). length q) o.looks.queue;
-    writes = ap (λ (t : Timeline). write_count t.nodes) o.same.trace;
-    differed = o.looks.differed;
+  pub looks-input : (structs : List StructInfo) (input : ℕ) (shape : Shape) (words : List Word) (more : List Block) (old run : Run) → OfRuns (SetsInput structs input shape words) same_stage old run
+      → LooksAtNothing (state_of code fuel inputs call old) (state_of code fuel more call run)
+  looks-input structs input shape words more its.New run o =
+      subst (λ r. LooksAtNothing (state_of code fuel inputs call its.New) (state_of code fuel more call r)) (sym o) (record { looked = refl; queued = refl; writes = refl; differed = refl })
+  looks-input structs input shape words more (its.Kept old g) its.New o = elim o [ ]
+  looks-input structs input shape words more (its.Kept old g) (its.Kept run h) o = record {
+    looked = o.0.looks.looked;
+    queued = ap (λ (q : List ℕ). length q) o.0.looks.queue;
+    writes = ap (λ (t : Timeline). write_count t.nodes) o.0.same.trace;
+    differed = o.0.looks.differed;
   }
+  looks-input structs input shape words more (its.Kept old g) its.Dropped o = elim o [ ]
+  looks-input structs input shape words more its.Dropped run o =
+      subst (λ r. LooksAtNothing (state_of code fuel inputs call its.Dropped) (state_of code fuel more call r)) (sym o) (record { looked = refl; queued = refl; writes = refl; differed = refl })
 
   -- a repair
-  pub looks-repair : (before : Option Running) (run run' : Running) → opened phase before ≡ Some run → Pays run run' → (after : Phase)
-      → LooksOfRepair (state_of code fuel inputs call phase before) (state_of code fuel inputs call after (Some run'))
-  looks-repair None run run' is pays after = none-some run (sym (opened-none phase) ∙ is)
-  looks-repair (Some before) run run' is pays after = λ few.
-      let s = same-as phase before run is in
+  pub looks-repair : (before : Run) (run run' : Running) → opened before ≡ Some run → Pays run run' → (after : Stage) → LooksOfRepair (state_of code fuel inputs call before) (state_of code fuel inputs call (its.Kept run' after))
+  looks-repair its.New run run' is pays after = none-some run is
+  looks-repair (its.Kept before g) run run' is pays after = λ few.
+      let s = same-as g before run is in
       let p = pays few in
       let a = ap (λ (t : Tables). t.mods.differed) s.tables in
       let b = ap (λ (t : Tables). t.mods.looked) s.tables in
       let d = ap (λ (t : Tables). length t.stale.stamps) s.tables in
       let w = ap (λ (t : Tables). write_count t.trace.nodes) s.tables in
       (omega (arith, p.0, a), omega (arith, p.1, a, b, d, w, s.spent))
+  looks-repair its.Dropped run run' is pays after = none-some run is
 
-  -- where nothing needs to be done
-  pub looks-idle : (run : Option Running) → phase ≡ Finished → LooksOfRepair (state_of code fuel inputs call phase run) (state_of code fuel inputs call phase (option_map idle run))
-  looks-idle None e = λ few. (omega arith, rw e (omega arith))
-  looks-idle (Some run) e = λ few. (omega arith, rw e (omega arith))
+-- where nothing needs to be done
+pub looks-idle : (e : EngineState) → e.phase ≡ Finished → LooksOfRepair e (record e { work = 0 })
+looks-idle e h = λ few. (omega arith, rw h (omega arith))
 
 -- what is as it was
 pub looks-same : (e n : EngineState) → n ≡ e → LooksOfEdit e n
@@ -91,9 +97,9 @@ looks-either e n came.More there repair run first = inl (there, repair (λ s. ab
 looks-either e n came.Done there repair run first = inl (there, repair (λ s. absurd cc))
 looks-either e n came.Anew there repair run first = inr (first refl, run refl)
 
-pub on-ok : {A E : Type 0} (e n : EngineState) (r : Result A E) → OnOk r (IsSomeAnd (trace n) (IsFirst n)) → OnOk r (LooksOfRun n) → OnOk r (LooksOfEither e n)
-on-ok e n (Ok x) first run = inr (first, run)
-on-ok e n (Err x) first run = tt
+pub on-ok : {A E : Type 0} (e n : EngineState) (r : Result A E) → OnOk r (IsRunAnew n) → OnOk r (LooksOfEither e n)
+on-ok e n (Ok x) anew = inr (anew.first, anew.looks)
+on-ok e n (Err x) anew = tt
 
 -- ---- a list of edits and repairs
 

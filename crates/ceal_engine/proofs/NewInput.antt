@@ -5,6 +5,7 @@ use Rattle.std.specs.Prelude.{IfSome}
 use Rattle.ceal_base.specs.Block.{Block}
 use Rattle.ceal_base.specs.Fitting.{block_fits, inputs_fit}
 use Rattle.ceal_base.specs.Operators.{same_place}
+use Rattle.ceal_base.specs.Trace.{Trace}
 use Rattle.ceal_base.specs.declared.call.Call.{Call}
 use Rattle.ceal_base.specs.declared.word.BlockId.TheVariants.{Input, Core}
 use Rattle.ceal_base.specs.declared.word.Place.{Place}
@@ -16,13 +17,17 @@ use Rattle.ceal_code.specs.Replay.{bases, content_in}
 use Rattle.ceal_engine.proofs.Inputs.{kept-longer, longer-fits, call-kept, extended-longer}
 use Rattle.ceal_engine.proofs.Keeping.{kept-on, part-kept-on}
 use Rattle.ceal_engine.proofs.MoreMemory.{get-out}
-use Rattle.ceal_engine.specs.Completed.{SetsInput, OfRuns}
 use Rattle.ceal_engine.specs.Engine.{alone}
-use Rattle.ceal_engine.specs.Keeping.{Kept, KeepsRun, Keeps, Sound}
-use Rattle.ceal_engine.specs.declared.phase.Phase.{Phase}
+use Rattle.ceal_engine.specs.Keeping.{Kept, KeepsRun, Keeps, Sound, running_in}
+use Rattle.ceal_engine.specs.Runs.{SetsInput, OfRuns, same_stage}
+use Rattle.ceal_engine.specs.declared.run.Run.{Run}
+use Rattle.ceal_engine.specs.declared.run.Run.TheVariants as its
+use Rattle.ceal_engine.specs.declared.run.Stage.{Stage}
+use Rattle.ceal_engine.specs.declared.run.Stage.TheVariants as stage
 use Rattle.ceal_mods.specs.Mods.{cell_of}
 use Rattle.ceal_order.specs.Stamps.{is_in}
 use Rattle.ceal_repair.proofs.Lists.PartedLists.{where-holds}
+use Rattle.ceal_repair.specs.Answers.{IsKeptRun}
 use Rattle.ceal_repair.specs.Blocks.{HasBlocks}
 use Rattle.ceal_repair.specs.Kept.{Kept as KeptTables, Records}
 use Rattle.ceal_repair.specs.Lists.{reads_at}
@@ -35,7 +40,7 @@ use Rattle.ceal_trace.specs.Nodes.{node_at}
 use Rattle.ceal_trace.specs.declared.node.Node.{Node}
 use Rattle.ceal_trace.specs.declared.node.Node.TheVariants.{Root, Alloc, Write, Read, End}
 
-module _ (code : Code) (fuel : ℕ) (inputs : List Block) (phase : Phase) where
+module _ (code : Code) (fuel : ℕ) (inputs : List Block) where
   abbrev at : ℕ → Place
   at field = record { block = Input (length inputs); field = field }
 
@@ -62,12 +67,13 @@ module _ (code : Code) (fuel : ℕ) (inputs : List Block) (phase : Phase) where
       go [] h = refl
       go (x ∷ xs) h = absurd (h x (elim (eqb_tells x x) [ inl p ↦ rw p.0 refl | inr p ↦ absurd (p.1 refl) ]))
 
-  pub run-unread : (call : Option Call) (run : Option Running) → Keeps code fuel inputs phase call run
-      → IfSome run (λ r. (field : ℕ) → (cell_of r.tables.mods (record { block = Input (length inputs); field = field })).reads ≡ [])
-  run-unread call None k = tt
-  run-unread None (Some run) k = elim k [ ]
-  run-unread (Some call) (Some run) (KeepsRun.whole k) = none-reads run k.of.stands.kept k.of.stands.blocks
-  run-unread (Some call) (Some run) (KeepsRun.part e k) = none-reads run k.of.stands.kept k.of.stands.blocks
+  pub run-unread : (call : Option Call) (run : Run) → Keeps code fuel inputs run call → IfSome (running_in run) (λ r. (field : ℕ) → (cell_of r.tables.mods (record { block = Input (length inputs); field = field })).reads ≡ [])
+  run-unread call its.New k = tt
+  run-unread None (its.Kept run g) k = elim k [ ]
+  run-unread (Some call) (its.Kept run stage.Finished) k = none-reads run k.of.stands.kept k.of.stands.blocks
+  run-unread (Some call) (its.Kept run stage.Pending) k = none-reads run k.1.stands.kept k.1.stands.blocks
+  run-unread (Some call) (its.Kept run stage.Partial) k = none-reads run k.of.stands.kept k.of.stands.blocks
+  run-unread call its.Dropped k = tt
 
   module _ (b : Block) (fits : block_fits code.structs (alone inputs) b ≡ true) (fit : inputs_fit code.structs inputs ≡ true) where
     new-fits : inputs_fit code.structs (inputs ++ b ∷ []) ≡ true
@@ -94,33 +100,34 @@ module _ (code : Code) (fuel : ℕ) (inputs : List Block) (phase : Phase) where
       ];
     }
 
-    keeps-longer : (call : Option Call) (old run : Option Running) → OfRuns (SetsInput code.structs (length inputs) b.shape b.words) old run → Keeps code fuel inputs phase call old → Keeps code fuel (inputs ++ b ∷ []) phase call run
-    keeps-longer call None None o k = k
-    keeps-longer call None (Some run) o k = elim o [ ]
-    keeps-longer call (Some old) None o k = elim o [ ]
-    keeps-longer None (Some old) (Some run) o k = k
-    keeps-longer (Some call) (Some old) (Some run) o (KeepsRun.whole k) =
-        let on = inputs-law code inputs (inputs ++ b ∷ []) call.function call.args k.of.fits new-fits (extended-longer code inputs b) k.trace k.of.replays in
-        KeepsRun.whole (record {
-          whole = k.whole;
-          trace = k.trace;
-          of = kept-on code inputs (inputs ++ b ∷ []) call.function call.args fuel k.trace old run k.of (extended-longer code inputs b) new-fits (omega (arith, longer)) o.same (bases-more old run o k.of.stands.blocks.bases);
-          present = λ e. on.honest same-bases (k.present e);
-          idle = λ e. o.looks.queue ∙ k.idle e;
-        })
-    keeps-longer (Some call) (Some old) (Some run) o (KeepsRun.part e k) = KeepsRun.part e
-        (part-kept-on code fuel inputs (inputs ++ b ∷ []) call old run k (extended-longer code inputs b) new-fits (omega (arith, longer)) o.same (bases-more old run o))
+    abbrev more : List Block
+    more = inputs ++ b ∷ []
 
-    pub sound-longer : (kept : Kept) (old run : Option Running) → OfRuns (SetsInput code.structs (length inputs) b.shape b.words) old run → length inputs + 1 < 2 ^ 32 → Sound code fuel inputs kept phase old
-        → Sound code fuel (inputs ++ b ∷ []) kept phase run
+    on-longer : (call : Call) (old run : Running) → SetsInput code.structs (length inputs) b.shape b.words old run → (l : Trace) → IsKeptRun code inputs call.function call.args fuel l old → IsKeptRun code more call.function call.args fuel l run
+    on-longer call old run o l k = kept-on code inputs more call.function call.args fuel l old run k (extended-longer code inputs b) new-fits (omega (arith, longer)) o.same (bases-more old run o k.stands.blocks.bases)
+
+    run-longer : (call : Call) (old run : Running) → SetsInput code.structs (length inputs) b.shape b.words old run → (g : Stage) → KeepsRun code fuel inputs call old g → KeepsRun code fuel more call run g
+    run-longer call old run o stage.Finished k =
+        let on = inputs-law code inputs more call.function call.args k.of.fits new-fits (extended-longer code inputs b) k.trace k.of.replays in
+        record { trace = k.trace; of = on-longer call old run o k.trace k.of; honest = on.honest same-bases k.honest; idle = o.looks.queue ∙ k.idle }
+    run-longer call old run o stage.Pending k = (k.0, on-longer call old run o k.0 k.1)
+    run-longer call old run o stage.Partial k = part-kept-on code fuel inputs more call old run k (extended-longer code inputs b) new-fits (omega (arith, longer)) o.same (bases-more old run o)
+
+    keeps-longer : (call : Option Call) (old run : Run) → OfRuns (SetsInput code.structs (length inputs) b.shape b.words) same_stage old run → Keeps code fuel inputs old call → Keeps code fuel more run call
+    keeps-longer call its.New run o k = subst (λ r. Keeps code fuel more r call) (sym o) k
+    keeps-longer call (its.Kept old g) its.New o k = elim o [ ]
+    keeps-longer None (its.Kept old g) (its.Kept run t) o k = elim k [ ]
+    keeps-longer (Some call) (its.Kept old g) (its.Kept run t) o k = subst (KeepsRun code fuel more call run) (sym o.1) (run-longer call old run o.0 g k)
+    keeps-longer call (its.Kept old g) its.Dropped o k = elim o [ ]
+    keeps-longer call its.Dropped run o k = subst (λ r. Keeps code fuel more r call) (sym o) k
+
+    pub sound-longer : (kept : Kept) (old run : Run) → OfRuns (SetsInput code.structs (length inputs) b.shape b.words) same_stage old run → length inputs + 1 < 2 ^ 32 → Sound code fuel inputs kept old → Sound code fuel (inputs ++ b ∷ []) kept run
     sound-longer kept old run o room s = record {
       is_valid = s.is_valid;
       limits = s.limits;
       fit = new-fits;
       count = omega (arith, longer, room);
       calls = call-kept code inputs (inputs ++ b ∷ []) (kept-longer code.structs inputs b) new-fits kept.call s.calls;
-      uncalled = s.uncalled;
-      new = s.new;
       room = s.room;
       keeps = keeps-longer kept.call old run o s.keeps;
     }

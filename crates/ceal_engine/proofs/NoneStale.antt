@@ -1,6 +1,5 @@
 -- A repair in progress where no read is stale, and what it leaves of the nodes at the beginning.
-use Rattle.std.proofs.Common.{◌≡◌, ◌≢◌, ◌⊎◌, inl, inr, ℕ, zero, suc, ◌≤◌, Ok, Option, Some, None, List, refl, sym, ap, ◌∙◌, subst, arith}
-use Rattle.std.specs.Option.{IsSomeAnd}
+use Rattle.std.proofs.Common.{◌≡◌, ◌≢◌, ◌⊎◌, inl, inr, ℕ, zero, suc, ◌≤◌, true, false, Ok, Err, Option, Some, None, List, refl, sym, ap, ◌∙◌, subst, arith}
 use Rattle.ceal_base.specs.Block.{Block}
 use Rattle.ceal_base.specs.Trace.{Trace, trace_of}
 use Rattle.ceal_base.specs.declared.call.Call.{Call}
@@ -8,19 +7,24 @@ use Rattle.ceal_base.specs.declared.word.Word.{Word}
 use Rattle.ceal_code.proofs.Words.SameIsEqual.{some-same, none-some}
 use Rattle.ceal_code.specs.Program.{Code}
 use Rattle.ceal_code.specs.Replay.{IsHonest}
-use Rattle.ceal_engine.proofs.Carrying.{opened-none, same-as, open-run}
-use Rattle.ceal_engine.proofs.Present.{part-trace, no-run, part-run, whole-run}
-use Rattle.ceal_engine.proofs.Propagated.{kept-honest}
+use Rattle.ceal_engine.proofs.Carrying.{IsOpenRun, same-as, open-run}
+use Rattle.ceal_engine.proofs.Present.{by-run, part-trace, trace-kept}
 use Rattle.ceal_engine.proofs.Repairs.{no-end}
-use Rattle.ceal_engine.specs.Completed.{opened, IsOpenRun, IsStillHonest}
-use Rattle.ceal_engine.specs.Engine.{EngineState, IsWhole, stands_for, trace, fresh_call}
-use Rattle.ceal_engine.specs.Keeping.{Keeps, KeepsRun, forest_in, state_of}
+use Rattle.ceal_engine.specs.Calls.{Advances}
+use Rattle.ceal_engine.specs.Engine.{EngineState, IsWhole, stands_for, fresh_call}
+use Rattle.ceal_engine.specs.Keeping.{Keeps, forest_in, phase_of, running_in, state_of}
 use Rattle.ceal_engine.specs.Partial.{CarriesFrom, Comes, IsRunAgain}
 use Rattle.ceal_engine.specs.Repaired.{KeepsFront}
+use Rattle.ceal_engine.specs.Runs.{opened}
 use Rattle.ceal_engine.specs.declared.phase.Came.{Came}
 use Rattle.ceal_engine.specs.declared.phase.Came.TheVariants as came
-use Rattle.ceal_engine.specs.declared.phase.Phase.{Phase}
 use Rattle.ceal_engine.specs.declared.phase.Phase.TheVariants.{Partial, Dropped}
+use Rattle.ceal_engine.specs.declared.run.Run.{Run}
+use Rattle.ceal_engine.specs.declared.run.Run.TheVariants as its
+use Rattle.ceal_engine.specs.declared.run.Stage.{Stage}
+use Rattle.ceal_engine.specs.declared.run.Stage.TheVariants as stage
+use Rattle.ceal_engine.specs.declared.run_error.RunError.{RunError}
+use Rattle.ceal_engine.specs.declared.run_error.RunError.TheVariants.{Memory, OutOfFuel}
 use Rattle.ceal_repair.specs.Propagation.{KeepsFront as KeepsNodes}
 use Rattle.ceal_repair.specs.Slicing.{IsPartRun, IsSliceOf}
 use Rattle.ceal_repair.specs.declared.running.Running.{Running}
@@ -54,40 +58,41 @@ module _ (code : Code) (inputs : List Block) (f : ℕ) (args : List Word) (fuel 
 
 -- ---- the run with which a repair is in progress
 
-module _ (code : Code) (fuel : ℕ) (inputs : List Block) (phase : Phase) (call : Option Call) (before : Option Running) (keeps : Keeps code fuel inputs phase call before) where
+module _ (code : Code) (fuel : ℕ) (inputs : List Block) (before : Run) (call : Option Call) (keeps : Keeps code fuel inputs before call) where
   -- it is a part of one that is done
-  pub part-honest : (run : Running) → opened phase before ≡ Some run → (l : Trace) → stands_for (forest_in before) ≡ Some l → IsHonest code inputs l
+  pub part-honest : (run : Running) → opened before ≡ Some run → (l : Trace) → stands_for (forest_in (running_in before)) ≡ Some l → IsHonest code inputs l
       → (f : ℕ) × (args : List Word) × (r : Repair) × IsPartRun code inputs f args fuel r run × IsHonest code inputs r.items
-  part-honest run is l e honest = go call before refl (open-run code fuel inputs phase call before keeps run is)
+  part-honest run is l e honest = go call before is e (open-run code fuel inputs before call keeps run is)
     where
-      go : (c : Option Call) (b : Option Running) → before ≡ b → IsOpenRun code fuel inputs c run → (f : ℕ) × (args : List Word) × (r : Repair) × IsPartRun code inputs f args fuel r run × IsHonest code inputs r.items
-      go None b j k = elim k [ ]
-      go (Some c) None j k = none-some l (ap (λ b. stands_for (forest_in b)) (sym j) ∙ e)
-      go (Some c) (Some b) j k =
-          let same = same-as phase b run (ap (opened phase) (sym j) ∙ is) in
-          let items : k.repair.items ≡ l = some-same k.repair.items l (sym (part-trace code fuel inputs c run k) ∙ (ap (λ (t : Timeline). trace_of (forest_of t.nodes)) same.trace ∙ (ap (λ b. stands_for (forest_in b)) (sym j) ∙ e))) in
+      go : (c : Option Call) (b : Run) → opened b ≡ Some run → stands_for (forest_in (running_in b)) ≡ Some l → IsOpenRun code fuel inputs c run
+          → (f : ℕ) × (args : List Word) × (r : Repair) × IsPartRun code inputs f args fuel r run × IsHonest code inputs r.items
+      go None b is e k = elim k [ ]
+      go (Some c) its.New is e k = none-some run is
+      go (Some c) (its.Kept b g) is e k =
+          let same = same-as g b run is in
+          let items : k.repair.items ≡ l = some-same k.repair.items l (sym (part-trace code fuel inputs c run k) ∙ (ap (λ (t : Timeline). trace_of (forest_of t.nodes)) same.trace ∙ e)) in
           (c.function, c.args, k.repair, k.of, subst (IsHonest code inputs) (sym items) honest)
+      go (Some c) its.Dropped is e k = none-some run is
 
   -- and the run from scratch ends
-  pub honest-ends : IsWhole phase → (l : Trace) → stands_for (forest_in before) ≡ Some l → IsHonest code inputs l → fresh_call code inputs fuel call ≡ None → ⊥
-  honest-ends whole l e honest = go before keeps e
-    where
-      ends : (c : Option Call) (b : Running) → IsStillHonest code fuel inputs c b → fresh_call code inputs fuel c ≡ None → ⊥
-      ends None b h out = elim h [ ]
-      ends (Some c) b h out = no-end code inputs c.function c.args h.1.fits fuel h.0 h.1.replays h.1.few h.2 out
-
-      go : (b : Option Running) → Keeps code fuel inputs phase call b → stands_for (forest_in b) ≡ Some l → fresh_call code inputs fuel call ≡ None → ⊥
-      go None k e out = none-some l e
-      go (Some b) k e out = ends call b (kept-honest code fuel inputs phase whole call b k l e honest) out
+  pub honest-ends : IsWhole (phase_of before) → (l : Trace) → stands_for (forest_in (running_in before)) ≡ Some l → IsHonest code inputs l → fresh_call code inputs fuel call ≡ None → ⊥
+  honest-ends = by-run code fuel inputs
+      (λ r c. IsWhole (phase_of r) → (l : Trace) → stands_for (forest_in (running_in r)) ≡ Some l → IsHonest code inputs l → fresh_call code inputs fuel c ≡ None → ⊥)
+      (λ w l e. none-some l e) (λ c w l e. none-some l e)
+      (λ c r s k w l e honest out.
+      let same : l ≡ k.trace = some-same l k.trace (sym e ∙ trace-kept code fuel inputs c r k.trace k.of) in
+      no-end code inputs c.function c.args k.of.fits fuel k.trace k.of.replays k.of.few (subst (IsHonest code inputs) same honest) out)
+      (λ c r k w. absurd (grind (arith, w)))
+      before call keeps
 
 -- ---- the nodes at the beginning
 
 -- nodes that a slice keeps at the beginning are kept of the engine's
-pub front-kept : (code : Code) (fuel : ℕ) (inputs : List Block) (call : Option Call) (phase after : Phase) (before : Option Running) (run run' : Running) → opened phase before ≡ Some run
-    → KeepsNodes code inputs run.tables.trace.nodes run'.tables.trace.nodes → KeepsFront (state_of code fuel inputs call phase before) (state_of code fuel inputs call after (Some run'))
-front-kept code fuel inputs call phase after None run run' is h = none-some run (sym (opened-none phase) ∙ is)
-front-kept code fuel inputs call phase after (Some before) run run' is h = λ front back e agrees.
-    h front back (ap (λ (t : Timeline). t.nodes) (same-as phase before run is).trace ∙ e) agrees
+pub front-kept : (code : Code) (fuel : ℕ) (inputs : List Block) (call : Option Call) (before : Run) (run run' : Running) (after : Stage) → opened before ≡ Some run → KeepsNodes code inputs run.tables.trace.nodes run'.tables.trace.nodes
+    → KeepsFront (state_of code fuel inputs call before) (state_of code fuel inputs call (its.Kept run' after))
+front-kept code fuel inputs call its.New run run' after is h = none-some run is
+front-kept code fuel inputs call (its.Kept before g) run run' after is h = λ front back e agrees. h front back (ap (λ (t : Timeline). t.nodes) (same-as g before run is).trace ∙ e) agrees
+front-kept code fuel inputs call its.Dropped run run' after is h = none-some run is
 
 -- they are kept, or the call was run again in place of a repair
 pub front-or-again : (e n : EngineState) (reads : Option ℕ) (far : Came) → (far ≢ came.Anew → KeepsFront e n) → (far ≡ came.Anew → e.phase ≡ Partial) → ((next : ℕ) (r : Repair) → CarriesFrom e next r → Comes e n reads next r (Ok far))
@@ -96,17 +101,37 @@ front-or-again e n reads came.More kept part comes = inl (kept (λ s. absurd cc)
 front-or-again e n reads came.Done kept part comes = inl (kept (λ s. absurd cc))
 front-or-again e n reads came.Anew kept part comes = inr (record { part = part refl; anew = comes })
 
--- where there is no run there are no nodes
-pub front-of-none : (code : Code) (fuel : ℕ) (inputs : List Block) (phase : Phase) (call : Option Call) (run : Option Running) → Keeps code fuel inputs phase call run → phase ≡ Dropped → (n : EngineState)
-    → KeepsFront (state_of code fuel inputs call phase run) n
-front-of-none code fuel inputs phase call None k e n = tt
-front-of-none code fuel inputs phase None (Some run) k e n = elim k [ ]
-front-of-none code fuel inputs phase (Some call) (Some run) (KeepsRun.whole k) e n = absurd (no-run phase e (whole-run phase k.whole))
-front-of-none code fuel inputs phase (Some call) (Some run) (KeepsRun.part p k) e n = absurd (no-run phase e (part-run phase p))
+-- where the run was given up there is none
+no-running : (run : Run) → phase_of run ≡ Dropped → running_in run ≡ None
+no-running its.New e = refl
+no-running (its.Kept run stage.Finished) e = absurd (grind (arith, e))
+no-running (its.Kept run stage.Pending) e = absurd (grind (arith, e))
+no-running (its.Kept run stage.Partial) e = absurd (grind (arith, e))
+no-running its.Dropped e = refl
 
--- and no trace
-pub no-trace : (code : Code) (fuel : ℕ) (inputs : List Block) (phase : Phase) (call : Option Call) (run : Option Running) → Keeps code fuel inputs phase call run → phase ≡ Dropped → (l : Trace) → stands_for (forest_in run) ≡ Some l → ⊥
-no-trace code fuel inputs phase call None k e l h = none-some l h
-no-trace code fuel inputs phase None (Some run) k e l h = elim k [ ]
-no-trace code fuel inputs phase (Some call) (Some run) (KeepsRun.whole k) e l h = no-run phase e (whole-run phase k.whole)
-no-trace code fuel inputs phase (Some call) (Some run) (KeepsRun.part p k) e l h = no-run phase e (part-run phase p)
+-- and no nodes
+pub front-of-none : (code : Code) (fuel : ℕ) (inputs : List Block) (call : Option Call) (run : Run) → phase_of run ≡ Dropped → (n : EngineState) → KeepsFront (state_of code fuel inputs call run) n
+front-of-none code fuel inputs call run e n = rw (no-running run e) tt
+
+-- after an error the type of an answer does not matter
+pub on-error : {A B : Type 0} (e n : EngineState) (error : RunError) → Advances {A = A} e n (Err error) → Advances {A = B} e n (Err error)
+on-error e n Memory a = record {
+  code = a.code;
+  fuel = a.fuel;
+  inputs = a.inputs;
+  call = a.call;
+  sure_where_honest = λ w l t h. absurd (let no : false ≡ true = a.sure_where_honest w l t h in cc);
+  sure_in_part = a.sure_in_part;
+  out_of_fuel = tt;
+  dropped = a.dropped;
+}
+on-error e n OutOfFuel a = record {
+  code = a.code;
+  fuel = a.fuel;
+  inputs = a.inputs;
+  call = a.call;
+  sure_where_honest = λ w l t h. absurd (let no : false ≡ true = a.sure_where_honest w l t h in cc);
+  sure_in_part = λ l t h. tt;
+  out_of_fuel = a.out_of_fuel;
+  dropped = a.dropped;
+}

@@ -1,6 +1,7 @@
 -- What an engine keeps is the run from scratch on its present inputs.
 use Rattle.std.proofs.Common.{◌≡◌, ℕ, zero, suc, ◌+◌, ◌<◌, ◌≤◌, ◌*◌, ◌==◌, Bool, true, false, if◌then◌else◌, Option, Some, None, List, [], ◌∷◌, length, map, slice_get, slice_index, refl, sym, ap, ◌∙◌, subst, arith}
 use Rattle.std.specs.Option.{option_map}
+use Rattle.std.proofs.lemmas.Bool.{false≢true}
 use Rattle.std.specs.Prelude.{IfSome, IsSome, is_some}
 use Rattle.ceal_base.proofs.TraceLemmas.{trace-flat}
 use Rattle.ceal_base.specs.Block.{Block}
@@ -20,7 +21,6 @@ use Rattle.ceal_code.proofs.Words.SameIsEqual.{some-same, none-some}
 use Rattle.ceal_code.proofs.TypedCode.TypedRun.{progress}
 use Rattle.ceal_code.specs.After.{memory_after}
 use Rattle.ceal_code.specs.Determined.{Determined}
-use Rattle.ceal_code.specs.Fitting.{Fits}
 use Rattle.ceal_code.specs.Fresh.{fresh}
 use Rattle.ceal_code.specs.Program.{Code}
 use Rattle.ceal_code.specs.Replay.{count, core_numbers, bases, plain_of, block_after, inputs_after, IsHonest}
@@ -29,10 +29,14 @@ use Rattle.ceal_engine.proofs.LiveCount.{live-are}
 use Rattle.ceal_engine.proofs.MoreMemory.{core-none}
 use Rattle.ceal_engine.proofs.RunMemory.{allocs-flat, low-numbers, inputs-held, cores-held, steps-held}
 use Rattle.ceal_engine.specs.Engine.{EngineState, ReplaysCall, IsPresent, IsTraced, IsEngine, IsTidy, IsHeapOf, IsWhole, has_run, core, stands_for}
-use Rattle.ceal_engine.specs.Completed.{trace_in}
-use Rattle.ceal_engine.specs.Keeping.{Kept, forest_in, timeline_in, heap_in, steps_kept, queued_kept, store_in, state_of, IsKept, IsPartKept, KeepsRun, Keeps, Sound}
+use Rattle.ceal_engine.specs.Keeping.{Kept, phase_at, phase_of, running_in, forest_in, timeline_in, heap_in, steps_kept, queued_kept, store_in, state_of, IsPartKept, KeepsRun, Keeps, Sound}
+use Rattle.ceal_engine.specs.Runs.{trace_in}
 use Rattle.ceal_engine.specs.declared.phase.Phase.{Phase}
 use Rattle.ceal_engine.specs.declared.phase.Phase.TheVariants.{New, Finished as IsFinished, Pending, Partial, Dropped}
+use Rattle.ceal_engine.specs.declared.run.Run.{Run}
+use Rattle.ceal_engine.specs.declared.run.Run.TheVariants as its
+use Rattle.ceal_engine.specs.declared.run.Stage.{Stage}
+use Rattle.ceal_engine.specs.declared.run.Stage.TheVariants as stage
 use Rattle.ceal_heap.specs.Heap.{live_count, next}
 use Rattle.ceal_repair.specs.Answers.{IsKeptRun}
 use Rattle.ceal_repair.specs.declared.running.Running.{Running}
@@ -80,9 +84,9 @@ module _ (code : Code) (ok : valid code ≡ true) (fuel : ℕ) (inputs : List Bl
       live-are run.heap (allocs (forest_of run.tables.trace.nodes)) of.stands.blocks.lives.once of.stands.blocks.lives.live
       ∙ (ap length (ap allocs of.stands.items ∙ allocs-flat l) ∙ all-core of.replays.yields)
 
-  module _ (phase : Phase) where
+  module _ (s : Stage) where
     abbrev e : EngineState
-    e = state_of code fuel inputs (Some call) phase (Some run)
+    e = state_of code fuel inputs (Some call) (its.Kept run s)
 
     inputs-are : e.memory.inputs ≡ inputs_after code honest.after 0 inputs
     inputs-are =
@@ -115,7 +119,7 @@ module _ (code : Code) (ok : valid code ≡ true) (fuel : ℕ) (inputs : List Bl
         let end = (ended-law code inputs call.function call.args fuel ran ends).0 in
         (progress code ok inputs call.function call.args of.fits det.memory end.stack end.reaches).memory
 
-    pub is-present : IsPresent (state_of code fuel inputs (Some call) phase (Some run))
+    pub is-present : IsPresent (state_of code fuel inputs (Some call) (its.Kept run s))
     is-present = record {
       run = ran;
       fresh = ends;
@@ -125,15 +129,12 @@ module _ (code : Code) (ok : valid code ≡ true) (fuel : ℕ) (inputs : List Bl
     same-run : (r : Finished) → fresh code call.function call.args inputs fuel ≡ Some r → Same (core_numbers (blocks_of l)) e.memory.inputs (core e.memory) r.memory
     same-run r h = subst (λ (z : Finished). Same (core_numbers (blocks_of l)) e.memory.inputs (core e.memory) z.memory) (some-same ran r (sym ends ∙ h)) same
 
-    pub is-traced : IsTraced (state_of code fuel inputs (Some call) phase (Some run)) l
+    pub is-traced : IsTraced (state_of code fuel inputs (Some call) (its.Kept run s)) l
     is-traced = record { honest = honest; same = same-run; inputs = input-blocks; cores = core-blocks; steps = steps-are; live = live-count }
 
 -- the trace that is kept
 pub trace-kept : (code : Code) (fuel : ℕ) (inputs : List Block) (call : Call) (run : Running) (l : Trace) → IsKeptRun code inputs call.function call.args fuel l run → trace_in run ≡ Some l
 trace-kept code fuel inputs call run l of = ap trace_of of.stands.items ∙ trace-flat l
-
-pub no-run : (phase : Phase) → phase ≡ Dropped → has_run phase ≡ true → ⊥
-no-run phase e h = absurd (grind (arith, rw e at h))
 
 pub not-both : (phase : Phase) → phase ≡ Partial → IsWhole phase → ⊥
 not-both phase e h = absurd (grind (arith, rw e at h))
@@ -153,127 +154,129 @@ whole-run Pending h = refl
 whole-run Partial h = refl
 whole-run Dropped h = absurd (grind (arith, h))
 
-pub part-run : (phase : Phase) → phase ≡ Partial → has_run phase ≡ true
-part-run phase e = rw e refl
+some-run : (s : Stage) → has_run (phase_at s) ≡ true
+some-run stage.Finished = refl
+some-run stage.Pending = refl
+some-run stage.Partial = refl
 
--- a run outside Partial
-pub whole-kept : (code : Code) (fuel : ℕ) (inputs : List Block) (phase : Phase) (call : Call) (run : Running) → KeepsRun code fuel inputs phase call run → IsWhole phase → IsKept code fuel inputs phase call run
-whole-kept code fuel inputs phase call run (KeepsRun.whole k) h = k
-whole-kept code fuel inputs phase call run (KeepsRun.part e k) h = absurd (not-both phase e h)
+-- A run outside Partial. In Finished its trace is honest on the present inputs, and no read is queued.
+pub record IsWholeRun (code : Code) (fuel : ℕ) (inputs : List Block) (call : Call) (run : Running) (phase : Phase) : Type 0 where
+  pub whole : IsWhole phase
+  pub trace : Trace
+  pub of : IsKeptRun code inputs call.function call.args fuel trace run
+  pub honest : phase ≡ IsFinished → IsHonest code inputs trace
+  pub idle : phase ≡ IsFinished → run.tables.stale.stamps ≡ []
 
--- a run in Partial
-pub part-kept : (code : Code) (fuel : ℕ) (inputs : List Block) (phase : Phase) (call : Call) (run : Running) → KeepsRun code fuel inputs phase call run → phase ≡ Partial → IsPartKept code fuel inputs call run
-part-kept code fuel inputs phase call run (KeepsRun.whole k) e = absurd (not-both phase e k.whole)
-part-kept code fuel inputs phase call run (KeepsRun.part e k) h = k
-
-finished-whole : (phase : Phase) → phase ≡ IsFinished → IsWhole phase
-finished-whole phase e = rw e refl
+pub whole-kept : (code : Code) (fuel : ℕ) (inputs : List Block) (call : Call) (run : Running) (s : Stage) → KeepsRun code fuel inputs call run s → IsWhole (phase_at s) → IsWholeRun code fuel inputs call run (phase_at s)
+whole-kept code fuel inputs call run stage.Finished k w = record { whole = refl; trace = k.trace; of = k.of; honest = λ e. k.honest; idle = λ e. k.idle }
+whole-kept code fuel inputs call run stage.Pending k w = record { whole = refl; trace = k.0; of = k.1; honest = λ e. absurd (grind (arith, e)); idle = λ e. absurd (grind (arith, e)) }
+whole-kept code fuel inputs call run stage.Partial k w = absurd (grind (arith, w))
 
 -- the trace of a part of a repair
 pub part-trace : (code : Code) (fuel : ℕ) (inputs : List Block) (call : Call) (run : Running) (k : IsPartKept code fuel inputs call run) → trace_in run ≡ Some k.repair.items
 part-trace code fuel inputs call run k = ap trace_of k.of.stands.items ∙ trace-flat k.repair.items
 
-module _ (code : Code) (fuel : ℕ) (inputs : List Block) (kept : Kept) (phase : Phase) (run : Option Running) (s : Sound code fuel inputs kept phase run) where
-  is-kept : (call : Option Call) (run : Option Running) → Keeps code fuel inputs phase call run → is_some (stands_for (forest_in run)) ≡ has_run phase
-  is-kept call None h = sym h
-  is-kept None (Some run) h = elim h [ ]
-  is-kept (Some call) (Some run) (KeepsRun.whole h) = ap is_some (trace-kept code fuel inputs call run h.trace h.of) ∙ sym (whole-run phase h.whole)
-  is-kept (Some call) (Some run) (KeepsRun.part e h) = ap is_some (part-trace code fuel inputs call run h) ∙ sym (part-run phase e)
+-- what is true of an engine without a run, of one with a whole run, and of one with a part of a repair
+pub by-run : (code : Code) (fuel : ℕ) (inputs : List Block) (P : Run → Option Call → Type 0) → P its.New None → ((c : Call) → P its.Dropped (Some c))
+    → ((c : Call) (r : Running) (s : Stage) → IsWholeRun code fuel inputs c r (phase_at s) → P (its.Kept r s) (Some c)) → ((c : Call) (r : Running) → IsPartKept code fuel inputs c r → P (its.Kept r stage.Partial) (Some c))
+    → (run : Run) (call : Option Call) → Keeps code fuel inputs run call → P run call
+by-run code fuel inputs P new dropped whole part its.New call k = subst (P its.New) (sym k) new
+by-run code fuel inputs P new dropped whole part (its.Kept run s) None k = elim k [ ]
+by-run code fuel inputs P new dropped whole part (its.Kept run stage.Finished) (Some call) k = whole call run stage.Finished (whole-kept code fuel inputs call run stage.Finished k refl)
+by-run code fuel inputs P new dropped whole part (its.Kept run stage.Pending) (Some call) k = whole call run stage.Pending (whole-kept code fuel inputs call run stage.Pending k refl)
+by-run code fuel inputs P new dropped whole part (its.Kept run stage.Partial) (Some call) k = part call run k
+by-run code fuel inputs P new dropped whole part its.Dropped None k = absurd (false≢true k)
+by-run code fuel inputs P new dropped whole part its.Dropped (Some call) k = dropped call
 
-  flat-form : (call : Option Call) (run : Option Running) → Keeps code fuel inputs phase call run → forest_in run ≡ option_map flat (stands_for (forest_in run))
-  flat-form call None h = refl
-  flat-form None (Some run) h = elim h [ ]
-  flat-form (Some call) (Some run) (KeepsRun.whole h) = ap Some h.of.stands.items ∙ sym (ap (option_map flat) (trace-kept code fuel inputs call run h.trace h.of))
-  flat-form (Some call) (Some run) (KeepsRun.part e h) = ap Some h.of.stands.items ∙ sym (ap (option_map flat) (part-trace code fuel inputs call run h))
+module _ (code : Code) (fuel : ℕ) (inputs : List Block) (kept : Kept) (run : Run) (s : Sound code fuel inputs kept run) where
+  by : (P : Run → Option Call → Type 0) → P its.New None → ((c : Call) → P its.Dropped (Some c)) → ((c : Call) (r : Running) (s : Stage) → IsWholeRun code fuel inputs c r (phase_at s) → P (its.Kept r s) (Some c))
+      → ((c : Call) (r : Running) → IsPartKept code fuel inputs c r → P (its.Kept r stage.Partial) (Some c)) → P run kept.call
+  by P new dropped whole part = by-run code fuel inputs P new dropped whole part run kept.call s.keeps
+
+  uncalled : phase_of run ≡ New → kept.call ≡ None
+  uncalled = by (λ r c. phase_of r ≡ New → c ≡ None) (λ e. refl) (λ c e. absurd (grind (arith, e))) (λ c r s k e. let w = k.whole in absurd (grind (arith, rw e at w))) (λ c r k e. absurd (grind (arith, e)))
+
+  new : kept.call ≡ None → phase_of run ≡ New
+  new = by (λ r c. c ≡ None → phase_of r ≡ New) (λ e. refl) (λ c e. none-some c (sym e)) (λ c r s k e. none-some c (sym e)) (λ c r k e. none-some c (sym e))
+
+  is-kept : is_some (stands_for (forest_in (running_in run))) ≡ has_run (phase_of run)
+  is-kept = by (λ r c. is_some (stands_for (forest_in (running_in r))) ≡ has_run (phase_of r)) refl (λ c. refl)
+      (λ c r s k. ap is_some (trace-kept code fuel inputs c r k.trace k.of) ∙ sym (some-run s)) (λ c r k. ap is_some (part-trace code fuel inputs c r k))
+
+  flat-form : forest_in (running_in run) ≡ option_map flat (stands_for (forest_in (running_in run)))
+  flat-form = by (λ r c. forest_in (running_in r) ≡ option_map flat (stands_for (forest_in (running_in r)))) refl (λ c. refl)
+      (λ c r s k. ap Some k.of.stands.items ∙ sym (ap (option_map flat) (trace-kept code fuel inputs c r k.trace k.of)))
+      (λ c r k. ap Some k.of.stands.items ∙ sym (ap (option_map flat) (part-trace code fuel inputs c r k)))
+
+  nodes-are : forest_in (running_in run) ≡ option_map (λ t. forest_of t.nodes) (timeline_in (running_in run))
+  nodes-are = by (λ r c. forest_in (running_in r) ≡ option_map (λ t. forest_of t.nodes) (timeline_in (running_in r))) refl (λ c. refl) (λ c r s k. refl) (λ c r k. refl)
+
+  tidy : IfSome (timeline_in (running_in run)) (λ t. IfSome (heap_in (running_in run)) (IsTidy t))
+  tidy = by (λ r c. IfSome (timeline_in (running_in r)) (λ t. IfSome (heap_in (running_in r)) (IsTidy t))) tt (λ c. tt)
+      (λ c r s k. record { nests = k.of.stands.nests; lives = k.of.stands.blocks.lives }) (λ c r k. record { nests = k.of.stands.nests; lives = k.of.stands.blocks.lives })
 
   -- what is true of the trace of a run
-  of-trace : (P : EngineState → Trace → Type 0) → ((c : Call) (r : Running) (k : IsKept code fuel inputs phase c r) → P (state_of code fuel inputs (Some c) phase (Some r)) k.trace)
-      → (call : Option Call) (run : Option Running) → Keeps code fuel inputs phase call run → IsWhole phase → IfSome (stands_for (forest_in run)) (P (state_of code fuel inputs call phase run))
-  of-trace P f call None h w = tt
-  of-trace P f None (Some run) h w = elim h [ ]
-  of-trace P f (Some call) (Some run) h w = let k = whole-kept code fuel inputs phase call run h w in
-      subst (λ o. IfSome o (P (state_of code fuel inputs (Some call) phase (Some run)))) (sym (trace-kept code fuel inputs call run k.trace k.of)) (f call run k)
+  of-trace : (P : EngineState → Trace → Type 0) → ((c : Call) (r : Running) (s : Stage) (k : IsWholeRun code fuel inputs c r (phase_at s)) → P (state_of code fuel inputs (Some c) (its.Kept r s)) k.trace)
+      → IsWhole (phase_of run) → IfSome (stands_for (forest_in (running_in run))) (P (state_of code fuel inputs kept.call run))
+  of-trace P f = by (λ r c. IsWhole (phase_of r) → IfSome (stands_for (forest_in (running_in r))) (P (state_of code fuel inputs c r))) (λ w. tt) (λ c w. tt)
+      (λ c r s k w. subst (λ o. IfSome o (P (state_of code fuel inputs (Some c) (its.Kept r s)))) (sym (trace-kept code fuel inputs c r k.trace k.of)) (f c r s k)) (λ c r k w. absurd (grind (arith, w)))
 
-  present : (call : Option Call) → IfSome call (λ call. Fits code inputs call.function call.args) → (run : Option Running) → Keeps code fuel inputs phase call run → phase ≡ IsFinished
-      → IsPresent (state_of code fuel inputs call phase run)
-  present call fits None h e = absurd (grind (arith, rw e at h))
-  present None fits (Some run) h e = elim h [ ]
-  present (Some call) fits (Some run) h e = let k = whole-kept code fuel inputs phase call run h (finished-whole phase e) in
-      is-present code s.is_valid fuel inputs call run k.trace k.of (k.present e) phase
+  traced : phase_of run ≡ IsFinished → IfSome (stands_for (forest_in (running_in run))) (IsTraced (state_of code fuel inputs kept.call run))
+  traced = by (λ r c. phase_of r ≡ IsFinished → IfSome (stands_for (forest_in (running_in r))) (IsTraced (state_of code fuel inputs c r))) (λ e. tt) (λ c e. tt)
+      (λ c r s' k e. subst (λ o. IfSome o (IsTraced (state_of code fuel inputs (Some c) (its.Kept r s')))) (sym (trace-kept code fuel inputs c r k.trace k.of))
+      (is-traced code s.is_valid fuel inputs c r k.trace k.of (k.honest e) s')) (λ c r k e. absurd (grind (arith, e)))
 
-  traced : phase ≡ IsFinished → IfSome (stands_for (forest_in run)) (IsTraced (state_of code fuel inputs kept.call phase run))
-  traced e = of-trace IsTraced (λ c r k. is-traced code s.is_valid fuel inputs c r k.trace k.of (k.present e) phase) kept.call run s.keeps (finished-whole phase e)
-
-  replays : IsWhole phase → IfSome (stands_for (forest_in run)) (ReplaysCall (state_of code fuel inputs kept.call phase run))
-  replays = of-trace ReplaysCall (λ c r k. k.of.replays) kept.call run s.keeps
+  replays : IsWhole (phase_of run) → IfSome (stands_for (forest_in (running_in run))) (ReplaysCall (state_of code fuel inputs kept.call run))
+  replays = of-trace ReplaysCall (λ c r s k. k.of.replays)
 
   abbrev HoldsTrace : EngineState → Trace → Type 0
   HoldsTrace e l = IfSome e.heap (IsHeapOf e.code e.inputs l)
 
-  held : IsWhole phase → IfSome (stands_for (forest_in run)) (HoldsTrace (state_of code fuel inputs kept.call phase run))
-  held = of-trace HoldsTrace (λ c r k. record { words = k.of.stands.words; released = k.of.stands.released; slots = k.of.stands.slots }) kept.call run s.keeps
+  held : IsWhole (phase_of run) → IfSome (stands_for (forest_in (running_in run))) (HoldsTrace (state_of code fuel inputs kept.call run))
+  held = of-trace HoldsTrace (λ c r s k. record { words = k.of.stands.words; released = k.of.stands.released; slots = k.of.stands.slots })
 
   abbrev HasLowNumbers : EngineState → Trace → Type 0
   HasLowNumbers e l = IfSome e.heap (λ heap. Above (next heap) l)
 
-  numbers : IsWhole phase → IfSome (stands_for (forest_in run)) (HasLowNumbers (state_of code fuel inputs kept.call phase run))
-  numbers = of-trace HasLowNumbers (λ c r k. low-numbers code inputs k.trace r k.of.stands) kept.call run s.keeps
+  numbers : IsWhole (phase_of run) → IfSome (stands_for (forest_in (running_in run))) (HasLowNumbers (state_of code fuel inputs kept.call run))
+  numbers = of-trace HasLowNumbers (λ c r s k. low-numbers code inputs k.trace r k.of.stands)
 
-  few-numbers : (call : Option Call) (run : Option Running) → Keeps code fuel inputs phase call run → IfSome (heap_in run) (λ heap. next heap ≤ 2 * fuel)
-  few-numbers call None h = tt
-  few-numbers None (Some run) h = elim h [ ]
-  few-numbers (Some call) (Some run) (KeepsRun.whole h) = h.of.numbers
-  few-numbers (Some call) (Some run) (KeepsRun.part e h) = h.of.numbers
+  few-numbers : IfSome (heap_in (running_in run)) (λ heap. next heap ≤ 2 * fuel)
+  few-numbers = by (λ r c. IfSome (heap_in (running_in r)) (λ heap. next heap ≤ 2 * fuel)) tt (λ c. tt) (λ c r s k. k.of.numbers) (λ c r k. k.of.numbers)
 
-  nodes-are : (run : Option Running) → forest_in run ≡ option_map (λ t. forest_of t.nodes) (timeline_in run)
-  nodes-are None = refl
-  nodes-are (Some run) = refl
+  pub sound-present : phase_of run ≡ IsFinished → IsPresent (state_of code fuel inputs kept.call run)
+  sound-present = by (λ r c. phase_of r ≡ IsFinished → IsPresent (state_of code fuel inputs c r)) (λ e. absurd (grind (arith, e))) (λ c e. absurd (grind (arith, e)))
+      (λ c r s' k e. is-present code s.is_valid fuel inputs c r k.trace k.of (k.honest e) s') (λ c r k e. absurd (grind (arith, e)))
 
-  tidy : (call : Option Call) (run : Option Running) → Keeps code fuel inputs phase call run → IfSome (timeline_in run) (λ t. IfSome (heap_in run) (IsTidy t))
-  tidy call None h = tt
-  tidy None (Some run) h = elim h [ ]
-  tidy (Some call) (Some run) (KeepsRun.whole h) = record { nests = h.of.stands.nests; lives = h.of.stands.blocks.lives }
-  tidy (Some call) (Some run) (KeepsRun.part e h) = record { nests = h.of.stands.nests; lives = h.of.stands.blocks.lives }
+  heap-there : is_some (heap_in (running_in run)) ≡ has_run (phase_of run)
+  heap-there = by (λ r c. is_some (heap_in (running_in r)) ≡ has_run (phase_of r)) refl (λ c. refl) (λ c r s k. sym (some-run s)) (λ c r k. refl)
 
-  heap-there : (call : Option Call) (run : Option Running) → Keeps code fuel inputs phase call run → is_some (heap_in run) ≡ has_run phase
-  heap-there call None h = sym h
-  heap-there None (Some run) h = elim h [ ]
-  heap-there (Some call) (Some run) (KeepsRun.whole h) = sym (whole-run phase h.whole)
-  heap-there (Some call) (Some run) (KeepsRun.part e h) = sym (part-run phase e)
+  idle : phase_of run ≡ IsFinished → queued_kept (running_in run) ≡ 0
+  idle = by (λ r c. phase_of r ≡ IsFinished → queued_kept (running_in r) ≡ 0) (λ e. refl) (λ c e. refl) (λ c r s k e. ap (λ (q : List ℕ). length q) (k.idle e)) (λ c r k e. absurd (grind (arith, e)))
 
-  idle : (call : Option Call) (run : Option Running) → Keeps code fuel inputs phase call run → phase ≡ IsFinished → queued_kept run ≡ 0
-  idle call None h e = refl
-  idle None (Some run) h e = elim h [ ]
-  idle (Some call) (Some run) h e = ap (λ (q : List ℕ). length q) ((whole-kept code fuel inputs phase call run h (finished-whole phase e)).idle e)
+  none-left : phase_of run ≡ Dropped → (n : ℕ) → core (state_of code fuel inputs kept.call run).memory n ≡ None
+  none-left = by (λ r c. phase_of r ≡ Dropped → (n : ℕ) → core (state_of code fuel inputs c r).memory n ≡ None) (λ e n. refl) (λ c e n. refl)
+      (λ c r s k e. let w = k.whole in absurd (grind (arith, rw e at w))) (λ c r k e. absurd (grind (arith, e)))
 
-  none-left : (call : Option Call) (run : Option Running) → Keeps code fuel inputs phase call run → phase ≡ Dropped → (n : ℕ) → core (state_of code fuel inputs call phase run).memory n ≡ None
-  none-left call None h e n = refl
-  none-left None (Some run) h e n = elim h [ ]
-  none-left (Some call) (Some run) (KeepsRun.whole h) e n = absurd (no-run phase e (whole-run phase h.whole))
-  none-left (Some call) (Some run) (KeepsRun.part p h) e n = absurd (no-run phase e (part-run phase p))
-
-  pub sound-engine : IsEngine (state_of code fuel inputs kept.call phase run)
+  pub sound-engine : IsEngine (state_of code fuel inputs kept.call run)
   sound-engine = record {
     valid = s.is_valid;
     fuel = s.limits;
     inputs = s.fit;
     call = s.calls;
-    uncalled = s.uncalled;
-    new = s.new;
-    kept = is-kept kept.call run s.keeps;
-    flat_form = flat-form kept.call run s.keeps;
-    nodes = nodes-are run;
-    tidy = tidy kept.call run s.keeps;
+    uncalled = uncalled;
+    new = new;
+    kept = is-kept;
+    flat_form = flat-form;
+    nodes = nodes-are;
+    tidy = tidy;
     replays = replays;
     held = held;
     numbers = numbers;
-    few_numbers = few-numbers kept.call run s.keeps;
+    few_numbers = few-numbers;
     traced = traced;
-    present = present kept.call s.calls run s.keeps;
-    idle = idle kept.call run s.keeps;
-    none_left = none-left kept.call run s.keeps;
-    heap_there = heap-there kept.call run s.keeps;
+    present = sound-present;
+    idle = idle;
+    none_left = none-left;
+    heap_there = heap-there;
   }
-
-  pub sound-present : phase ≡ IsFinished → IsPresent (state_of code fuel inputs kept.call phase run)
-  sound-present = present kept.call s.calls run s.keeps

@@ -16,18 +16,19 @@ use Rattle.ceal_base.specs.declared.word.Place.{Place}
 use Rattle.ceal_base.specs.declared.word.Word.{Word}
 use Rattle.ceal_base.specs.declared.word.Word.TheVariants.{Null}
 use Rattle.ceal_code.proofs.Replay.ReplayedCall.{get-after}
-use Rattle.ceal_code.proofs.Words.SameIsEqual.{none-some}
+use Rattle.ceal_code.proofs.Words.SameIsEqual.{none-some, some-same}
 use Rattle.ceal_code.specs.PlainWords.{block_shape, block_word}
 use Rattle.ceal_code.specs.Program.{Code}
 use Rattle.ceal_code.specs.Replay.{Store, with_contents, filled, block_after}
 use Rattle.ceal_code.specs.Value.{is_cell}
-use Rattle.ceal_engine.proofs.Present.{whole-kept}
+use Rattle.ceal_engine.proofs.Present.{by-run}
 use Rattle.ceal_engine.proofs.RunMemory.{cores-are, steps-held}
 use Rattle.ceal_engine.specs.Engine.{InLimits, block_of, stored_at, core, is_plain}
-use Rattle.ceal_engine.specs.Keeping.{Kept, contents, store_in, Keeps, Sound}
+use Rattle.ceal_engine.specs.Keeping.{contents, phase_of, running_in, store_in, Keeps}
 use Rattle.ceal_engine.specs.Reading.{known_block, content_where, content_at}
-use Rattle.ceal_engine.specs.declared.phase.Phase.{Phase}
 use Rattle.ceal_engine.specs.declared.phase.Phase.TheVariants.{Finished as IsFinished}
+use Rattle.ceal_engine.specs.declared.run.Run.{Run}
+use Rattle.ceal_engine.specs.declared.run.Run.TheVariants as its
 use Rattle.ceal_heap.specs.Heap.{plain_of as heap_words}
 use Rattle.ceal_repair.specs.declared.running.Running.{Running}
 use Rattle.ceal_trace.specs.Items.{forest_of}
@@ -128,15 +129,19 @@ module _ (code : Code) (inputs : List Block) where
   shape-read (Some r) (Core n) = shape-filled (contents r.tables.mods) (Core n) (heap_words r.heap (Core n)) ∙ ap (option_map (λ (x : Block). x.shape)) (sym (core-is r n))
 
   -- the content of a modifiable in Finished
-  pub value-read : (fuel : ℕ) (kept : Kept) (phase : Phase) (run : Option Running) → Sound code fuel inputs kept phase run → phase ≡ IsFinished → (p : Place)
-      → is_cell (kind_in code.structs (block_of inputs (store_in code inputs run) p.block) p.field) ≡ true → content_at run inputs p ≡ word_in (stored_at (store_in code inputs run) p.block) p.field Null
-  value-read fuel kept phase None s e p h = let no = s.keeps in absurd (grind (arith, rw e at no))
-  value-read fuel kept phase (Some r) s e p h = value-law r p h
+  pub value-read : (run : Run) → phase_of run ≡ IsFinished → (p : Place) → is_cell (kind_in code.structs (block_of inputs (store_in code inputs (running_in run)) p.block) p.field) ≡ true
+      → content_at (running_in run) inputs p ≡ word_in (stored_at (store_in code inputs (running_in run)) p.block) p.field Null
+  value-read its.New e p h = absurd (grind (arith, e))
+  value-read (its.Kept r g) e p h = value-law r p h
+  value-read its.Dropped e p h = absurd (grind (arith, e))
 
   -- the steps of a run are few
-  pub few-steps : (fuel : ℕ) (phase : Phase) (call : Option Call) (run : Running) → InLimits fuel → Keeps code fuel inputs phase call (Some run) → phase ≡ IsFinished → steps_in (forest_of run.tables.trace.nodes) < 2 ^ 32
-  few-steps fuel phase None run i h f = elim h [ ]
-  few-steps fuel phase (Some call) run i h f = let k = whole-kept code fuel inputs phase call run h (rw f refl) in let e = steps-held code inputs call.function call.args fuel k.trace run k.of in omega (arith, e, k.of.few, i.1)
+  pub few-steps : (fuel : ℕ) (run : Run) (call : Option Call) → InLimits fuel → Keeps code fuel inputs run call → phase_of run ≡ IsFinished → (r : Running) → running_in run ≡ Some r → steps_in (forest_of r.tables.trace.nodes) < 2 ^ 32
+  few-steps fuel run call i = by-run code fuel inputs (λ b c. phase_of b ≡ IsFinished → (r : Running) → running_in b ≡ Some r → steps_in (forest_of r.tables.trace.nodes) < 2 ^ 32)
+      (λ e r is. none-some r is) (λ c e r is. none-some r is)
+      (λ c b g k e r is. let n = steps-held code inputs c.function c.args fuel k.trace b k.of in let same = ap (λ (r : Running). steps_in (forest_of r.tables.trace.nodes)) (some-same b r is) in omega (arith, n, same, k.of.few, i.1))
+      (λ c b k e. absurd (grind (arith, e)))
+      run call
 
   -- a block that is there has a shape
   pub no-shape : (run : Option Running) (b : BlockId) → block_shape (known_block run inputs b) ≡ None → IsSome (block_of inputs (store_in code inputs run) b) → ⊥

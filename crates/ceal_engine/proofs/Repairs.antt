@@ -17,11 +17,10 @@ use Rattle.ceal_code.specs.Replay.{In, here, there, Mentions, Replays, IsHonest}
 use Rattle.ceal_engine.proofs.Inputs.{extended-refl}
 use Rattle.ceal_engine.proofs.Present.{trace-kept}
 use Rattle.ceal_engine.proofs.RunMemory.{low-numbers}
-use Rattle.ceal_engine.specs.Completed.{finished, trace_in, IsFirstOf, IsRepairedOf}
-use Rattle.ceal_engine.specs.Keeping.{state_of, IsKept, KeepsRun}
-use Rattle.ceal_engine.specs.Repaired.{IsRenamed, IsFirst, IsRepairFrom, IsRepaired}
-use Rattle.ceal_engine.specs.declared.phase.Phase.{Phase}
-use Rattle.ceal_engine.specs.declared.phase.Phase.TheVariants.{Finished as IsFinished}
+use Rattle.ceal_engine.specs.Keeping.{state_of, IsUpToDate}
+use Rattle.ceal_engine.specs.Repaired.{IsRenamed, IsFirst, IsRepairFrom, IsRepaired, IsUnchanged}
+use Rattle.ceal_engine.specs.Runs.{finished, trace_in, IsFirstOf}
+use Rattle.ceal_engine.specs.declared.run.Run.{Run}
 use Rattle.ceal_heap.specs.Heap.{next}
 use Rattle.ceal_repair.specs.Answers as kept
 use Rattle.ceal_repair.specs.Answers.{IsKeptRun, IsRunOf, IsFirstRun, IsRepairedRun}
@@ -119,8 +118,8 @@ module _ (code : Code) (inputs : List Block) (f : ℕ) (args : List Word) (fits 
   no-end l r few h e = none-some _ (sym e ∙ (trace-law code inputs f args fits l r h).ends fuel few)
 
 module _ (code : Code) (fuel : ℕ) (inputs : List Block) (call : Call) (fits : Fits code inputs call.function call.args) where
-  pub kept-as : (l : Trace) (run : Running) → IsRunOf code inputs call.function call.args fuel l run → IsKept code fuel inputs IsFinished call run
-  kept-as l run k = record { whole = refl; trace = l; of = kept-run code inputs call.function call.args fits fuel l run k; present = λ e. k.honest; idle = λ e. k.idle }
+  pub kept-as : (l : Trace) (run : Running) → IsRunOf code inputs call.function call.args fuel l run → IsUpToDate code fuel inputs call run
+  kept-as l run k = record { trace = l; of = kept-run code inputs call.function call.args fits fuel l run k; honest = k.honest; idle = k.idle }
 
   pub trace-is : (l : Trace) (run : Running) → IsRunOf code inputs call.function call.args fuel l run → trace_in run ≡ Some l
   trace-is l run k = trace-kept code fuel inputs call run l (kept-run code inputs call.function call.args fits fuel l run k)
@@ -129,7 +128,7 @@ module _ (code : Code) (fuel : ℕ) (inputs : List Block) (call : Call) (fits : 
   pub first-of : (run : Running) → IsFirstRun code inputs call.function call.args fuel run → IsFirstOf code fuel inputs (Some call) run
   first-of run k = record {
     looks = λ l. k.pays l;
-    kept = KeepsRun.whole (kept-as k.trace run k.is_run);
+    kept = kept-as k.trace run k.is_run;
     first = subst (λ o. IsSomeAnd o (IsFirst (finished code fuel inputs (Some call) run))) (sym (trace-is k.trace run k.is_run)) (record {
       first = k.first;
       is = k.is;
@@ -160,20 +159,21 @@ module _ (code : Code) (fuel : ℕ) (inputs : List Block) (call : Call) (fits : 
                 work = q.counted;
               }
 
-      -- a repaired run can be kept, and its trace is the repair
-      pub repaired-of : IsRepairedOf code fuel inputs (Some call) l old run
-      repaired-of = record {
-        kept = KeepsRun.whole (kept-as k.trace run k.is_run);
-        repaired = subst (λ o. IsSomeAnd o (IsRepaired (finished code fuel inputs (Some call) run) l)) (sym (trace-is k.trace run k.is_run))
-            (record { names = k.names; single = k.single; apart = k.apart; from = from });
-        unchanged = λ h. let u = k.unchanged h in
-            (record { same = ap (λ t. Rattle.ceal_base.specs.Trace.trace_of (Rattle.ceal_trace.specs.Items.forest_of t.nodes)) u.0 ∙ trace-kept code fuel inputs call old l was; work = u.1 }, u.0);
-        front = k.front;
-      }
+      -- the trace of a repaired run is the repair
+      pub repaired-of : IsSomeAnd (trace_in run) (IsRepaired (finished code fuel inputs (Some call) run) l)
+      repaired-of =
+          subst (λ o. IsSomeAnd o (IsRepaired (finished code fuel inputs (Some call) run) l)) (sym (trace-is k.trace run k.is_run))
+          (record { names = k.names; single = k.single; apart = k.apart; from = from })
+
+      -- an honest one stays as it was
+      pub unchanged-of : IsHonest code inputs l → IsUnchanged (finished code fuel inputs (Some call) run) l × (run.tables.trace ≡ old.tables.trace)
+      unchanged-of h =
+          let u = k.unchanged h in
+          (record { same = ap (λ t. Rattle.ceal_base.specs.Trace.trace_of (Rattle.ceal_trace.specs.Items.forest_of t.nodes)) u.0 ∙ trace-kept code fuel inputs call old l was; work = u.1 }, u.0)
 
     -- where nothing needs to be done, the trace is its own repair
-    pub still-repaired : (phase : Phase) (run : Option Running) → Rattle.ceal_engine.specs.Keeping.work_kept run ≡ 0 → IsHonest code inputs l → IsRepaired (state_of code fuel inputs (Some call) phase run) l l
-    still-repaired phase run none h = record {
+    pub still-repaired : (run : Run) → IsHonest code inputs l → IsRepaired (record (state_of code fuel inputs (Some call) run) { work = 0 }) l l
+    still-repaired run h = record {
       names = λ k. next old.heap + k;
       single = λ j k e. omega (arith, e);
       apart = λ k. above (next old.heap + k) (omega arith);
@@ -182,6 +182,6 @@ module _ (code : Code) (fuel : ℕ) (inputs : List Block) (call : Call) (fits : 
         is = unchanged-law code inputs l h next' fuel;
         named = sym (named-own code inputs call.function call.args l was.replays next' low (λ k. next old.heap + k));
         renamed = self-renamed code inputs call.function call.args l was.replays;
-        work = none;
+        work = refl;
       };
     }

@@ -1,5 +1,5 @@
 -- How an engine keeps what it has: the call with room for its arguments, and the tables and the heap of the run.
-use Rattle.std.specs.Prelude.{◌≡◌, ℕ, zero, suc, ◌+◌, ◌≤◌, ◌<◌, ◌^◌, true, false, Option, Some, None, IfSome, List, [], ◌∷◌, length, slice_get}
+use Rattle.std.specs.Prelude.{◌≡◌, ℕ, zero, suc, ◌+◌, ◌≤◌, ◌<◌, ◌^◌, true, Option, Some, None, IfSome, is_some, List, [], ◌∷◌, length, slice_get}
 use Rattle.std.specs.Global.{Vec}
 use Rattle.std.specs.Option.{option_map}
 use Rattle.std.specs.Vec.{vec_capacity}
@@ -16,9 +16,13 @@ use Rattle.ceal_code.specs.Replay.{Store as CellContents, IsHonest, block_after,
 use Rattle.ceal_code.specs.Valid.{valid}
 use Rattle.ceal_code.specs.declared.function.FunctionCode.{FunctionCode}
 use Rattle.ceal_code.specs.declared.function.FunctionCode.TheVariants.{Core as CoreFunction, Init as InitFunction}
-use Rattle.ceal_engine.specs.Engine.{InLimits, Store, EngineState, has_run, IsWhole}
+use Rattle.ceal_engine.specs.Engine.{InLimits, Store, EngineState}
 use Rattle.ceal_engine.specs.declared.phase.Phase.{Phase}
-use Rattle.ceal_engine.specs.declared.phase.Phase.TheVariants.{New, Finished as IsFinished, Partial}
+use Rattle.ceal_engine.specs.declared.phase.Phase.TheVariants.{New, Finished, Pending, Partial, Dropped}
+use Rattle.ceal_engine.specs.declared.run.Run.{Run}
+use Rattle.ceal_engine.specs.declared.run.Run.TheVariants as its
+use Rattle.ceal_engine.specs.declared.run.Stage.{Stage}
+use Rattle.ceal_engine.specs.declared.run.Stage.TheVariants as stage
 use Rattle.ceal_heap.specs.Heap.{Contents, plain_of, next, live_count}
 use Rattle.ceal_mods.specs.Cell.{latest_value}
 use Rattle.ceal_mods.specs.Mods.{Contents as Mods, cell_of}
@@ -54,6 +58,24 @@ abbrev pub argument_count : Option FunctionCode → ℕ
 argument_count None = 0
 argument_count (Some (CoreFunction name entry params)) = length params
 argument_count (Some (InitFunction name s params body)) = 0
+
+-- the phase of a run, by how far it is
+abbrev pub phase_at : Stage → Phase
+phase_at stage.Finished = Finished
+phase_at stage.Pending = Pending
+phase_at stage.Partial = Partial
+
+-- the phase of an engine that has this run
+abbrev pub phase_of : Run → Phase
+phase_of its.New = New
+phase_of (its.Kept run s) = phase_at s
+phase_of its.Dropped = Dropped
+
+-- the run, if there is one
+abbrev pub running_in : Run → Option Running
+running_in its.New = None
+running_in (its.Kept run s) = Some run
+running_in its.Dropped = None
 
 -- what each modifiable holds at the end of a run
 abbrev pub contents : Mods → CellContents
@@ -122,34 +144,32 @@ writes_kept None = 0
 writes_kept (Some run) = write_count run.tables.trace.nodes
 
 -- what contracts see of an engine of these parts
-abbrev pub state_of : Code → ℕ → List Block → Option Call → Phase → Option Running → EngineState
-state_of code fuel inputs call phase run = record {
+abbrev pub state_of : Code → ℕ → List Block → Option Call → Run → EngineState
+state_of code fuel inputs call run = record {
   code = code;
   fuel = fuel;
   inputs = inputs;
   call = call;
-  phase = phase;
-  forest = forest_in run;
-  timeline = timeline_in run;
-  heap = heap_in run;
-  memory = store_in code inputs run;
-  steps = steps_kept run;
-  live = live_kept run;
-  work = work_kept run;
-  looked = looked_kept run;
-  differed = differed_kept run;
-  queued = queued_kept run;
-  writes = writes_kept run;
+  phase = phase_of run;
+  forest = forest_in (running_in run);
+  timeline = timeline_in (running_in run);
+  heap = heap_in (running_in run);
+  memory = store_in code inputs (running_in run);
+  steps = steps_kept (running_in run);
+  live = live_kept (running_in run);
+  work = work_kept (running_in run);
+  looked = looked_kept (running_in run);
+  differed = differed_kept (running_in run);
+  queued = queued_kept (running_in run);
+  writes = writes_kept (running_in run);
 }
 
--- The run's nodes stand for a trace of the call. In Finished it is honest on the present inputs, and no read is queued.
-pub record IsKept
-    (code : Code) (fuel : ℕ) (inputs : List Block) (phase : Phase) (call : Call) (run : Running) : Type 0 where
-  pub whole : IsWhole phase
+-- The run's nodes stand for a trace of the call that is honest on the inputs, and no read is queued.
+pub record IsUpToDate (code : Code) (fuel : ℕ) (inputs : List Block) (call : Call) (run : Running) : Type 0 where
   pub trace : Trace
   pub of : IsKeptRun code inputs call.function call.args fuel trace run
-  pub present : phase ≡ IsFinished → IsHonest code inputs trace
-  pub idle : phase ≡ IsFinished → run.tables.stale.stamps ≡ []
+  pub honest : IsHonest code inputs trace
+  pub idle : run.tables.stale.stamps ≡ []
 
 -- The run's nodes stand for a repair of the call that goes on; it is one with new blocks numbered in their
 -- order, but that the new blocks have the numbers that the heap gave to them.
@@ -161,28 +181,26 @@ pub record IsPartKept (code : Code) (fuel : ℕ) (inputs : List Block) (call : C
   pub sound : RepairHolds code own inputs call.function call.args ordered
   pub carried : Carried code inputs next ordered repair
 
--- A run of the call is kept in Finished and Pending, one of a repair that goes on in Partial.
-pub data KeepsRun
-    (code : Code) (fuel : ℕ) (inputs : List Block) (phase : Phase) (call : Call) (run : Running) : Type 0 where
-  whole : IsKept code fuel inputs phase call run → KeepsRun code fuel inputs phase call run
-  part : phase ≡ Partial → IsPartKept code fuel inputs call run → KeepsRun code fuel inputs phase call run
+-- what is kept of a run of the call, by how far it is
+abbrev pub KeepsRun : Code → ℕ → List Block → Call → Running → Stage → Type 0
+KeepsRun code fuel inputs call run stage.Finished = IsUpToDate code fuel inputs call run
+KeepsRun code fuel inputs call run stage.Pending =
+    (l : Trace) × IsKeptRun code inputs call.function call.args fuel l run
+KeepsRun code fuel inputs call run stage.Partial = IsPartKept code fuel inputs call run
 
--- A run is kept where the phase says so.
-abbrev pub Keeps : Code → ℕ → List Block → Phase → Option Call → Option Running → Type 0
-Keeps code fuel inputs phase call None = has_run phase ≡ false
-Keeps code fuel inputs phase None (Some run) = ⊥
-Keeps code fuel inputs phase (Some call) (Some run) = KeepsRun code fuel inputs phase call run
+-- what an engine keeps: nothing was called, there is a run of the call, or there is only the call
+abbrev pub Keeps : Code → ℕ → List Block → Run → Option Call → Type 0
+Keeps code fuel inputs its.New call = call ≡ None
+Keeps code fuel inputs (its.Kept run s) None = ⊥
+Keeps code fuel inputs (its.Kept run s) (Some call) = KeepsRun code fuel inputs call run s
+Keeps code fuel inputs its.Dropped call = is_some call ≡ true
 
 -- what is true of every engine inside
-pub record Sound
-    (code : Code) (fuel : ℕ) (inputs : List Block) (call : Kept) (phase : Phase)
-    (run : Option Running) : Type 0 where
+pub record Sound (code : Code) (fuel : ℕ) (inputs : List Block) (call : Kept) (run : Run) : Type 0 where
   pub is_valid : valid code ≡ true
   pub limits : InLimits fuel
   pub fit : inputs_fit code.structs inputs ≡ true
   pub count : length inputs < 2 ^ 32
   pub calls : IfSome call.call (λ call. Fits code inputs call.function call.args)
-  pub uncalled : phase ≡ New → call.call ≡ None
-  pub new : call.call ≡ None → phase ≡ New
   pub room : (f : ℕ) → argument_count (slice_get code.functions f) ≤ call.room
-  pub keeps : Keeps code fuel inputs phase call.call run
+  pub keeps : Keeps code fuel inputs run call.call

@@ -2,8 +2,9 @@
 pub mod Engine
 pub mod Repaired
 pub mod Keeping
-pub mod Completed
+pub mod Runs
 pub mod Partial
 pub mod Looks
+pub mod Calls
 -- what its own functions say of each other
 pub mod Reading

@@ -6,18 +6,16 @@ ghost use Rattle.ceal_base.specs.Fitting.{block_fits, inputs_fit};
 ghost use Rattle.ceal_base.specs.declared.word.BlockId.TheVariants.{Input};
 ghost use Rattle.ceal_code.specs.Valid.{valid};
 ghost use Rattle.ceal_engine.specs.Engine.{InLimits, alone, trace, edited, takes, with_base};
-ghost use Rattle.ceal_engine.specs.Completed.{finished};
 ghost use Rattle.ceal_engine.specs.Looks.{LooksAtNothing, LooksOfEdit};
 ghost use Rattle.ceal_engine.specs.Partial.{CarriesFrom};
 ghost use Rattle.ceal_engine.specs.Repaired.{IsRestorable, IsRestored};
-ghost use Rattle.ceal_engine.specs.declared.phase.Phase.TheVariants.{New, Finished, Pending, Partial, Dropped};
+ghost use Rattle.ceal_engine.specs.declared.phase.Phase.TheVariants.{New, Finished};
 ghost use Rattle.ceal_theory.specs.Slices.{Repair as RepairOf};
 
 use crate::kept_call::{KeptCall, most_arguments};
-use crate::phase::Phase;
 use crate::reading::shape;
+use crate::run::Run;
 use crate::run_error::RunError;
-use crate::running::{add, edit, tell, touch};
 use ceal_base::forest::Forest;
 use ceal_base::kind::Shape;
 use ceal_base::memory::{BlockWords, Inputs};
@@ -26,7 +24,6 @@ use ceal_base::word::{BlockId, Place, Word};
 use ceal_code::code::Code;
 use ceal_memo::seed::Seed;
 use ceal_repair::room::Room;
-use ceal_repair::running::Running;
 use std::alloc::Global;
 use std::marker::Model;
 
@@ -46,8 +43,7 @@ pub struct Engine {
     fuel: u32,
     inputs: Inputs,
     call: KeptCall,
-    phase: Phase,
-    running: Option<Running>,
+    run: Run,
     room: Room,
     seed: Seed,
 }
@@ -63,9 +59,9 @@ impl Model for Engine {
 
     ghost coded = { Prim.hlevel (codes, expr.the_row.coded, stmt.the_row.coded) };
 
-    ghost view = { λ e. state_of e.code e.fuel e.inputs e.call.call e.phase e.running };
+    ghost view = { λ e. state_of e.code e.fuel e.inputs e.call.call e.run };
 
-    ghost invariant = { λ e. Sound e.code e.fuel e.inputs e.call e.phase e.running };
+    ghost invariant = { λ e. Sound e.code e.fuel e.inputs e.call e.run };
 }
 
 /// Sets the word of a field of an input.
@@ -75,18 +71,6 @@ fn set_base(inputs: &mut Inputs, place: Place, value: Word)
     match place.block {
         BlockId::Input(n) => inputs.set(n, place.field, value),
         BlockId::Core(_) => {}
-    }
-}
-
-fn phase_edited(phase: Phase) -> Phase
-    ensures { result ≡ edited phase }
-{
-    match phase {
-        Phase::New => Phase::New,
-        Phase::Finished => Phase::Pending,
-        Phase::Pending => Phase::Pending,
-        Phase::Partial => Phase::Partial,
-        Phase::Dropped => Phase::Dropped,
     }
 }
 
@@ -123,8 +107,7 @@ impl Engine {
             fuel,
             inputs: Inputs::new(Vec::new(alloc)),
             call,
-            phase: Phase::New,
-            running: None,
+            run: Run::New,
             room: Room::new(alloc),
             seed,
         })
@@ -198,8 +181,7 @@ impl Engine {
             fuel,
             inputs,
             call,
-            phase: Phase::New,
-            running: None,
+            run: Run::New,
             room: Room::new(alloc),
             seed,
         })
@@ -210,7 +192,7 @@ impl Engine {
         requires { self.old.phase ≡ Finished }
         ensures { self.new ≡ record self.old { work = work } }
     {
-        tell(&mut self.running, work);
+        self.run.tell(work);
     }
 
     /// One input more, with a word for each field. The run, if there is one, is also that on the longer inputs.
@@ -237,9 +219,9 @@ impl Engine {
     {
         let block = BlockWords::new(shape, Vec::from_slice(self.alloc, words)?);
         let at = self.inputs.items().len() as u32;
-        touch(&mut self.running, &self.code, at, shape)?;
+        self.run.touch(&self.code, at, shape)?;
         self.inputs.push(block)?;
-        add(&mut self.running, &self.code, at, shape, words);
+        self.run.add(&self.code, at, shape, words);
         Ok(BlockId::Input(at))
     }
 
@@ -261,9 +243,8 @@ impl Engine {
         ensures inputs { OnOk result (self.new.inputs ≡ with_base self.old.inputs place value) }
         ensures err { OnErr result (self.new ≡ self.old) }
     {
-        edit(&mut self.running, place, value)?;
+        self.run.edit(place, value)?;
         set_base(&mut self.inputs, place, value);
-        self.phase = phase_edited(self.phase);
         Ok(())
     }
 }

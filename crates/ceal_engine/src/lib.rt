@@ -7,8 +7,8 @@
 //! a run: the nodes, the lists of the modifiables, the queue of reads that may be stale, the memo, and the heap.
 //! `specs/Looks` says how many contents a propagation looks at, whatever the size of the trace. A repair may be done in
 //! slices, with edits between them: `specs/Partial` says what becomes of it. `asking` tests what calls
-//! require, `running` has what edits and new inputs do to a run, `reading` reads words and
-//! contents, and `items` lists the flat items of nodes.
+//! require, `run` has the run with its phase and what edits and new inputs do to it,
+//! `reading` reads words and contents, and `items` lists the flat items of nodes.
 #![tactic(auto)]
 
 mod asking;
@@ -18,5 +18,5 @@ mod kept_call;
 pub mod laws;
 pub mod phase;
 mod reading;
+mod run;
 pub mod run_error;
-mod running;

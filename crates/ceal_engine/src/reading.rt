@@ -2,12 +2,13 @@
 
 ghost use Rattle.std.specs.Prelude.{◌≡◌, slice_get, unwrap_or};
 ghost use Rattle.ceal_code.specs.PlainWords.{block_shape, block_word};
+ghost use Rattle.ceal_engine.specs.Keeping.{running_in};
 ghost use Rattle.ceal_engine.specs.Reading.{content_at, known_block};
 
+use crate::run::Run;
 use ceal_base::kind::Shape;
 use ceal_base::memory::Inputs;
 use ceal_base::word::{BlockId, Place, Word};
-use ceal_repair::running::Running;
 
 /// The word of an input's field.
 fn input_word(inputs: &Inputs, n: u32, field: u32) -> Option<Word>
@@ -30,48 +31,51 @@ fn input_shape(inputs: &Inputs, n: u32) -> Option<Shape>
 }
 
 /// The word of a field of an input, with its base, or of a core block of the run, with the default of a modifiable.
-fn word(run: &Option<Running>, inputs: &Inputs, block: BlockId, field: u32) -> Option<Word>
-    ensures { result ≡ block_word (known_block run.now inputs.now block) field }
+fn word(run: &Run, inputs: &Inputs, block: BlockId, field: u32) -> Option<Word>
+    ensures { result ≡ block_word (known_block (running_in run.now) inputs.now block) field }
 {
     match block {
         BlockId::Input(n) => input_word(inputs, n, field),
         BlockId::Core(_) => match run {
-            None => None,
-            Some(run) => run.heap.find_word(block, field),
+            Run::New => None,
+            Run::Kept(run, _) => run.heap.find_word(block, field),
+            Run::Dropped => None,
         },
     }
 }
 
 /// The shape of an input or of a core block of the run.
-pub fn shape(run: &Option<Running>, inputs: &Inputs, block: BlockId) -> Option<Shape>
-    ensures { result ≡ block_shape (known_block run.now inputs.now block) }
+pub fn shape(run: &Run, inputs: &Inputs, block: BlockId) -> Option<Shape>
+    ensures { result ≡ block_shape (known_block (running_in run.now) inputs.now block) }
 {
     match block {
         BlockId::Input(n) => input_shape(inputs, n),
         BlockId::Core(_) => match run {
-            None => None,
-            Some(run) => run.heap.find_shape(block),
+            Run::New => None,
+            Run::Kept(run, _) => run.heap.find_shape(block),
+            Run::Dropped => None,
         },
     }
 }
 
 /// The word of a plain field of an input or of a core block of the run.
-pub fn plain_word(run: &Option<Running>, inputs: &Inputs, block: BlockId, field: u32) -> Word
-    ensures { result
-        ≡ unwrap_or (block_word (known_block run.now inputs.now block) field) Word.Null }
+pub fn plain_word(run: &Run, inputs: &Inputs, block: BlockId, field: u32) -> Word
+    ensures { result ≡ unwrap_or
+        (block_word (known_block (running_in run.now) inputs.now block) field) Word.Null }
 {
     word(run, inputs, block, field).unwrap_or(Word::Null)
 }
 
 /// The content of a modifiable at the end of the run.
-pub fn content(run: &Option<Running>, inputs: &Inputs, place: Place) -> Word
-    ensures { result ≡ content_at run.now inputs.now place }
+pub fn content(run: &Run, inputs: &Inputs, place: Place) -> Word
+    ensures { result ≡ content_at (running_in run.now) inputs.now place }
 {
     match word(run, inputs, place.block, place.field) {
         None => Word::Null,
         Some(word) => match run {
-            None => word,
-            Some(run) => run.tables.mods.last_value(place),
+            Run::New => word,
+            Run::Kept(run, _) => run.tables.mods.last_value(place),
+            Run::Dropped => word,
         },
     }
 }

@@ -6,7 +6,6 @@ ghost use Rattle.ceal_base.specs.Access.{word_in};
 ghost use Rattle.ceal_base.specs.Fitting.{kind_in};
 ghost use Rattle.ceal_code.specs.Value.{is_cell};
 ghost use Rattle.ceal_engine.specs.Engine.{block_in, stored_at, trace, is_plain, IsEngine, Shows};
-ghost use Rattle.ceal_engine.specs.Completed.{finished};
 ghost use Rattle.ceal_engine.specs.Partial.{IsUnderWay};
 ghost use Rattle.ceal_engine.specs.declared.phase.Phase.TheVariants.{Finished, Partial};
 ghost use Rattle.ceal_repair.specs.Lists.{IsTabled};
@@ -33,7 +32,7 @@ impl Engine {
         ensures whole { IsEngine self.now }
         ensures partial { self.now.phase ≡ Partial → IsUnderWay self.now }
     {
-        self.phase
+        self.run.phase()
     }
 
     /// The content of a modifiable at the end of the run.
@@ -44,7 +43,7 @@ impl Engine {
         ensures value { result
             ≡ word_in (stored_at self.now.memory place.block) place.field Word.Null }
     {
-        content(&self.running, &self.inputs, place)
+        content(&self.run, &self.inputs, place)
     }
 
     /// The word of a plain field, by its index, of an input or of a core block of the run.
@@ -54,7 +53,7 @@ impl Engine {
             ≡ true }
         ensures value { result ≡ word_in (block_in self.now block) index Word.Null }
     {
-        plain_word(&self.running, &self.inputs, block, index)
+        plain_word(&self.run, &self.inputs, block, index)
     }
 
     /// The shape of an input or of a core block of the run.
@@ -63,7 +62,7 @@ impl Engine {
         requires there { IsSome (block_in self.now block) }
         ensures value { option_map (λ b. b.shape) (block_in self.now block) ≡ Some result }
     {
-        match shape(&self.running, &self.inputs, block) {
+        match shape(&self.run, &self.inputs, block) {
             Some(shape) => shape,
             None => unreachable!(),
         }
@@ -74,10 +73,7 @@ impl Engine {
         requires { self.now.phase ≡ Finished }
         ensures value { result ≡ self.now.steps }
     {
-        match &self.running {
-            Some(run) => run.tables.trace.steps() as u32,
-            None => 0,
-        }
+        self.run.finished().tables.trace.steps() as u32
     }
 
     /// How many steps were re-executed for the last `run` or `propagate`. The step of a read belongs to what stands before
@@ -86,10 +82,7 @@ impl Engine {
         requires { self.now.phase ≡ Finished }
         ensures value { result ≡ self.now.work }
     {
-        match &self.running {
-            Some(run) => run.spent,
-            None => 0,
-        }
+        self.run.finished().spent
     }
 
     /// How many core blocks the run made.
@@ -97,10 +90,7 @@ impl Engine {
         requires { self.now.phase ≡ Finished }
         ensures value { result ≡ self.now.live }
     {
-        match &self.running {
-            Some(run) => run.heap.live_count(),
-            None => 0,
-        }
+        self.run.finished().heap.live_count()
     }
 
     /// A copy of the trace of the run, flat.
@@ -108,10 +98,7 @@ impl Engine {
         requires { self.now.phase ≡ Finished }
         ensures value { IfOk result (λ forest. self.now.forest ≡ Some forest) }
     {
-        match &self.running {
-            Some(run) => flat_items(self.alloc, &run.tables.trace),
-            None => Err(NoMemory),
-        }
+        flat_items(self.alloc, &self.run.finished().tables.trace)
     }
 
     /// The nodes of the run.
@@ -120,10 +107,7 @@ impl Engine {
         ensures value { self.now.timeline ≡ Some result.now }
         ensures whole { IsTrace result.now }
     {
-        match &self.running {
-            Some(run) => &run.tables.trace,
-            None => unreachable!(),
-        }
+        &self.run.finished().tables.trace
     }
 
     /// The modifiables of the run: each has its present base, and exactly the writes and the reads of the nodes.
@@ -133,10 +117,7 @@ impl Engine {
         ensures bases { IsSomeAnd self.now.heap
             (λ heap. HasBases self.now.code.structs self.now.inputs heap result.now) }
     {
-        match &self.running {
-            Some(run) => &run.tables.mods,
-            None => unreachable!(),
-        }
+        &self.run.finished().tables.mods
     }
 
     /// The function and the arguments of the call, if there is one.

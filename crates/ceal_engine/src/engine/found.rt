@@ -45,7 +45,7 @@ impl Engine {
     {
         match block {
             BlockId::Input(_) => true,
-            BlockId::Core(_) => self.phase == Phase::Finished,
+            BlockId::Core(_) => self.run.phase() == Phase::Finished,
         }
     }
 
@@ -58,7 +58,7 @@ impl Engine {
         if !self.shows(block) {
             return None;
         }
-        shape(&self.running, &self.inputs, block)
+        shape(&self.run, &self.inputs, block)
     }
 
     /// The kind of a field of a block that may be looked at, where there is such a field.
@@ -92,7 +92,7 @@ impl Engine {
             (kind_in self.now.code.structs (block_in self.now place.block) place.field) ≡ true
             → IsTrue result }
     {
-        self.phase == Phase::Finished
+        self.run.phase() == Phase::Finished
             && is_modifiable_kind(self.find_kind(place.block, place.field))
     }
 }

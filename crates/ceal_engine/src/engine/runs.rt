@@ -1,28 +1,27 @@
 // Runs, and change propagation.
 
-ghost use Rattle.std.specs.Prelude.{◌≡◌, ◌≢◌, ◌⊎◌, ℕ, ◌<◌, ◌≤◌, ◌^◌, true, Option, Some, None, length, IfOk, IsSome, IsOk, OnOk, OnErr};
+ghost use Rattle.std.specs.Prelude.{◌≡◌, ◌≢◌, ◌⊎◌, ℕ, ◌<◌, ◌≤◌, ◌^◌, true, Option, Some, None, length, IfOk, IsSome, IsOk, OnOk};
 ghost use Rattle.std.specs.Option.{IsSomeAnd};
 ghost use Rattle.ceal_base.specs.Trace.{Trace as TraceOf};
 ghost use Rattle.ceal_code.specs.Fitting.{Fits};
 ghost use Rattle.ceal_code.specs.Replay.{IsHonest};
-ghost use Rattle.ceal_engine.specs.Engine.{trace, fresh_of, has_run, IsWhole, IsPresent, IfOutOfFuel, NeedsNoMemory};
-ghost use Rattle.ceal_engine.specs.Completed.{finished, IsFirstOf};
-ghost use Rattle.ceal_engine.specs.Keeping.{Keeps};
+ghost use Rattle.ceal_engine.specs.Calls.{Advances, IsRunAnew, called};
+ghost use Rattle.ceal_engine.specs.Engine.{trace, fresh_of, has_run, IsWhole, IsPresent, IfOutOfFuel};
 ghost use Rattle.ceal_engine.specs.Looks.{LooksOfEither, LooksOfRepair, LooksOfRun};
 ghost use Rattle.ceal_engine.specs.Partial.{phase_after, phase_behind, CarriesFrom, Comes, ComesSo, EndsSo, IsRepairSoFar, IsRunAgain, KeepsWords};
 ghost use Rattle.ceal_engine.specs.Repaired.{IsFirst, IsRepaired, IsUnchanged, KeepsFront};
+ghost use Rattle.ceal_engine.specs.Runs.{IsFirstOf};
 ghost use Rattle.ceal_engine.specs.declared.phase.Phase.TheVariants.{New, Finished, Pending, Partial, Dropped};
 ghost use Rattle.ceal_theory.specs.Slices.{Repair as RepairOf};
 
 use super::Engine;
 use crate::phase::{Came, Phase, Progress};
+use crate::run::{Run, Stage};
 use crate::run_error::RunError;
-use crate::running::{give_up, reopen, rest};
 use ceal_base::word::Word;
 use ceal_repair::advance::{Progress as Repaired, advance};
 use ceal_repair::first::first;
 use ceal_repair::running::{Outcome, Running};
-use std::mem;
 
 impl Engine {
     /// The first trace of the call, as a run.
@@ -53,35 +52,15 @@ impl Engine {
         }
     }
 
-    /// Takes a run of the call on the present inputs.
-    fn keep(&mut self, run: Running)
-        requires kept { Keeps self.old.code self.old.fuel self.old.inputs Finished
-            self.old.call (Some run) }
-        ensures state { self.new
-            ≡ finished self.old.code self.old.fuel self.old.inputs self.old.call run }
-        ensures present { IsPresent self.new }
-    {
-        drop(mem::replace(&mut self.running, Some(run)));
-        self.phase = Phase::Finished;
-    }
-
     /// Runs the call, of which there is no run.
     fn run_anew(&mut self) -> Result<(), RunError>
         requires dropped { self.old.phase ≡ Dropped }
         requires called { IsSome self.old.call }
-        ensures code { self.new.code ≡ self.old.code }
-        ensures fuel { self.new.fuel ≡ self.old.fuel }
-        ensures inputs { self.new.inputs ≡ self.old.inputs }
-        ensures call { self.new.call ≡ self.old.call }
-        ensures phase { OnOk result (self.new.phase ≡ Finished) }
-        ensures present { OnOk result (IsPresent self.new) }
-        ensures first { OnOk result (IsSomeAnd (trace self.new) (IsFirst self.new)) }
-        ensures looks { OnOk result (LooksOfRun self.new) }
-        ensures out_of_fuel { IfOutOfFuel result (fresh_of self.new ≡ None) }
-        ensures dropped { OnErr result (self.new.phase ≡ Dropped) }
+        ensures keeps { Advances self.old self.new result }
+        ensures anew { OnOk result (IsRunAnew self.new) }
     {
         let run = self.first()?;
-        self.keep(run);
+        self.run.keep(run, Stage::Finished);
         Ok(())
     }
 
@@ -90,19 +69,14 @@ impl Engine {
     pub fn run(&mut self, function: u32, args: &[Word]) -> Result<(), RunError>
         requires new { self.old.phase ≡ New }
         requires fits { Fits self.old.code self.old.inputs function args.now }
-        ensures code { self.new.code ≡ self.old.code }
-        ensures fuel { self.new.fuel ≡ self.old.fuel }
-        ensures inputs { self.new.inputs ≡ self.old.inputs }
-        ensures call { self.new.call ≡ Some (record { function = function; args = args.now }) }
+        ensures keeps { Advances (called self.old function args.now) self.new result }
         ensures phase { OnOk result (self.new.phase ≡ Finished) }
         ensures present { OnOk result (IsPresent self.new) }
         ensures first { OnOk result (IsSomeAnd (trace self.new) (IsFirst self.new)) }
         ensures looks { OnOk result (LooksOfRun self.new) }
-        ensures out_of_fuel { IfOutOfFuel result (fresh_of self.new ≡ None) }
-        ensures dropped { OnErr result (self.new.phase ≡ Dropped) }
     {
         self.call.set(function, args);
-        self.phase = Phase::Dropped;
+        self.run.give_up();
         self.run_anew()
     }
 
@@ -112,10 +86,7 @@ impl Engine {
     /// memory. In Partial it ends the repair that is under way.
     pub fn propagate(&mut self) -> Result<(), RunError>
         requires { self.old.phase ≡ New → ⊥ }
-        ensures code { self.new.code ≡ self.old.code }
-        ensures fuel { self.new.fuel ≡ self.old.fuel }
-        ensures inputs { self.new.inputs ≡ self.old.inputs }
-        ensures call { self.new.call ≡ self.old.call }
+        ensures keeps { Advances self.old self.new result }
         ensures phase { OnOk result (self.new.phase ≡ Finished) }
         ensures present { OnOk result (IsPresent self.new) }
         ensures first { OnOk result (self.old.phase ≡ Dropped →
@@ -134,19 +105,13 @@ impl Engine {
             CarriesFrom self.old next r → EndsSo self.old self.new next r result }
         ensures looks { OnOk result (IsWhole self.old.phase → LooksOfRepair self.old self.new) }
         ensures looks_always { OnOk result (LooksOfEither self.old self.new) }
-        ensures sure_where_honest { IsWhole self.old.phase → (l : TraceOf) →
-            trace self.old ≡ Some l → IsHonest self.old.code self.old.inputs l → IsOk result }
-        ensures sure_in_part { (l : TraceOf) → trace self.old ≡ Some l →
-            IsHonest self.old.code self.old.inputs l → NeedsNoMemory result }
         ensures sure { self.old.phase ≡ Finished → IsOk result }
         ensures still { self.old.phase ≡ Finished → self.new ≡ record self.old { work = 0 } }
-        ensures out_of_fuel { IfOutOfFuel result (fresh_of self.new ≡ None) }
-        ensures dropped { OnErr result (self.new.phase ≡ Dropped) }
     {
-        match self.phase {
+        match self.run.phase() {
             Phase::New => unreachable!(),
             Phase::Finished => {
-                rest(&mut self.running);
+                self.tell(0);
                 Ok(())
             }
             Phase::Pending => {
@@ -169,10 +134,7 @@ impl Engine {
     pub fn advance(&mut self, reads: Option<u32>) -> Result<Came, RunError>
         requires run { has_run self.old.phase ≡ true }
         requires some { reads ≢ Some 0 }
-        ensures code { self.new.code ≡ self.old.code }
-        ensures fuel { self.new.fuel ≡ self.old.fuel }
-        ensures inputs { self.new.inputs ≡ self.old.inputs }
-        ensures call { self.new.call ≡ self.old.call }
+        ensures keeps { Advances self.old self.new result }
         ensures phase { IfOk result (λ came. self.new.phase ≡ phase_behind came) }
         ensures present { IfOk result (λ came. came ≢ Came.More → IsPresent self.new) }
         ensures comes { (next : ℕ) (r : RepairOf) → CarriesFrom self.old next r →
@@ -188,49 +150,38 @@ impl Engine {
         ensures looks_anew { IfOk result (λ came. came ≡ Came.Anew → LooksOfRun self.new) }
         ensures revoked_stay { IfOk result (λ came. came ≡ Came.More →
             KeepsWords self.old.heap self.new.heap) }
-        ensures sure_where_honest { IsWhole self.old.phase → (l : TraceOf) →
-            trace self.old ≡ Some l → IsHonest self.old.code self.old.inputs l → IsOk result }
-        ensures sure_in_part { (l : TraceOf) → trace self.old ≡ Some l →
-            IsHonest self.old.code self.old.inputs l → NeedsNoMemory result }
-        ensures out_of_fuel { IfOutOfFuel result (fresh_of self.new ≡ None) }
-        ensures dropped { OnErr result (self.new.phase ≡ Dropped) }
     {
-        reopen(&mut self.running, self.phase);
-        match &mut self.running {
-            None => unreachable!(),
-            Some(run) => {
-                match advance(
-                    &mut self.room,
-                    &self.code,
-                    &self.inputs,
-                    reads,
-                    self.fuel,
-                    run,
-                ) {
+        let before = self.run.phase();
+        let room = &mut self.room;
+        match &mut self.run {
+            Run::New => unreachable!(),
+            Run::Kept(run, stage) => {
+                stage.open(run);
+                match advance(room, &self.code, &self.inputs, reads, self.fuel, run) {
                     Ok(Repaired::More) => {
-                        self.phase = Phase::Partial;
+                        *stage = Stage::Partial;
                         Ok(Came::More)
                     }
                     Ok(Repaired::Done) => {
-                        self.phase = Phase::Finished;
+                        *stage = Stage::Finished;
                         Ok(Came::Done)
                     }
                     Ok(Repaired::Spent) => {
-                        let began = self.phase;
-                        give_up(&mut self.phase, &mut self.running);
-                        self.run_again(began)?;
+                        self.run.give_up();
+                        self.run_again(before)?;
                         Ok(Came::Anew)
                     }
                     Ok(Repaired::OutOfFuel) => {
-                        give_up(&mut self.phase, &mut self.running);
+                        self.run.give_up();
                         Err(RunError::OutOfFuel)
                     }
                     Err(error) => {
-                        give_up(&mut self.phase, &mut self.running);
+                        self.run.give_up();
                         Err(RunError::from(error))
                     }
                 }
             }
+            Run::Dropped => unreachable!(),
         }
     }
 
@@ -240,17 +191,9 @@ impl Engine {
         requires dropped { self.old.phase ≡ Dropped }
         requires called { IsSome self.old.call }
         requires out { (began ≡ Partial → ⊥) → fresh_of self.old ≡ None }
-        ensures code { self.new.code ≡ self.old.code }
-        ensures fuel { self.new.fuel ≡ self.old.fuel }
-        ensures inputs { self.new.inputs ≡ self.old.inputs }
-        ensures call { self.new.call ≡ self.old.call }
+        ensures keeps { Advances self.old self.new result }
         ensures began { OnOk result (began ≡ Partial) }
-        ensures phase { OnOk result (self.new.phase ≡ Finished) }
-        ensures present { OnOk result (IsPresent self.new) }
-        ensures first { OnOk result (IsSomeAnd (trace self.new) (IsFirst self.new)) }
-        ensures looks { OnOk result (LooksOfRun self.new) }
-        ensures out_of_fuel { IfOutOfFuel result (fresh_of self.new ≡ None) }
-        ensures dropped { OnErr result (self.new.phase ≡ Dropped) }
+        ensures anew { OnOk result (IsRunAnew self.new) }
     {
         if began != Phase::Partial {
             return Err(RunError::OutOfFuel);
@@ -264,10 +207,7 @@ impl Engine {
     pub fn slice(&mut self, reads: u32) -> Result<Progress, RunError>
         requires called { self.old.phase ≡ New → ⊥ }
         requires some { 1 ≤ reads }
-        ensures code { self.new.code ≡ self.old.code }
-        ensures fuel { self.new.fuel ≡ self.old.fuel }
-        ensures inputs { self.new.inputs ≡ self.old.inputs }
-        ensures call { self.new.call ≡ self.old.call }
+        ensures keeps { Advances self.old self.new result }
         ensures phase { IfOk result (λ p. self.new.phase ≡ phase_after p) }
         ensures present { IfOk result (λ p. p ≡ Progress.Done → IsPresent self.new) }
         ensures done { IfOk result (λ p. self.old.phase ≡ Dropped → p ≡ Progress.Done) }
@@ -284,14 +224,8 @@ impl Engine {
         ensures looks_always { OnOk result (LooksOfEither self.old self.new) }
         ensures revoked_stay { IfOk result (λ p. p ≡ Progress.More →
             KeepsWords self.old.heap self.new.heap) }
-        ensures sure_where_honest { IsWhole self.old.phase → (l : TraceOf) →
-            trace self.old ≡ Some l → IsHonest self.old.code self.old.inputs l → IsOk result }
-        ensures sure_in_part { (l : TraceOf) → trace self.old ≡ Some l →
-            IsHonest self.old.code self.old.inputs l → NeedsNoMemory result }
-        ensures out_of_fuel { IfOutOfFuel result (fresh_of self.new ≡ None) }
-        ensures dropped { OnErr result (self.new.phase ≡ Dropped) }
     {
-        if self.phase == Phase::Dropped {
+        if self.run.phase() == Phase::Dropped {
             self.run_anew()?;
             return Ok(Progress::Done);
         }

@@ -11,6 +11,6 @@ returns c = record {
       let o = c.advance-came in
       brought-on e o.new.self c.phase-before.ensures.whole call
       (subst (λ a. IfSome a (λ call. Fits e.code e.inputs call.function call.args)) again c.phase-before.ensures.whole.call)
-      o.ensures.code o.ensures.fuel o.ensures.inputs (o.ensures.call ∙ again) c.args.reads c.requires.run again
-      o.result o.ensures.phase o.ensures.present o.ensures.comes (some-reads o.result c.args.reads o.ensures.more) o.ensures.out_of_fuel o.ensures.dropped;
+      o.ensures.keeps.code o.ensures.keeps.fuel o.ensures.keeps.inputs (o.ensures.keeps.call ∙ again) c.args.reads c.requires.run again
+      o.result o.ensures.phase o.ensures.present o.ensures.comes (some-reads o.result c.args.reads o.ensures.more) o.ensures.keeps.out_of_fuel o.ensures.keeps.dropped;
 }

@@ -16,6 +16,6 @@ returns c = record {
       subst (λ (r : Outcome). Brings e call reads r o.new.self) (sym c.came_anew.ensures)
       (brought-anew e o.new.self c.phase-before.ensures.whole call
       (subst (λ a. IfSome a (λ call. Fits e.code e.inputs call.function call.args)) again c.phase-before.ensures.whole.call)
-      o.ensures.code o.ensures.fuel o.ensures.inputs (o.ensures.call ∙ again) reads
-      o.result (ap has_run c.requires.dropped) o.ensures.phase o.ensures.present (from-dropped (IsSomeAnd (trace o.new.self) (IsFirst o.new.self)) o.result e.phase c.requires.dropped o.ensures.first) o.ensures.out_of_fuel o.ensures.dropped);
+      o.ensures.keeps.code o.ensures.keeps.fuel o.ensures.keeps.inputs (o.ensures.keeps.call ∙ again) reads
+      o.result (ap has_run c.requires.dropped) o.ensures.phase o.ensures.present (from-dropped (IsSomeAnd (trace o.new.self) (IsFirst o.new.self)) o.result e.phase c.requires.dropped o.ensures.first) o.ensures.keeps.out_of_fuel o.ensures.keeps.dropped);
 }

@@ -6,48 +6,48 @@ use Rattle.ceal_engine.proofs.NewInput.{run-unread, sound-longer}
 use Rattle.ceal_engine.proofs.EngineLaws.{carries-still, same-input}
 use Rattle.ceal_engine.proofs.Inputs.{extended-longer}
 use Rattle.ceal_engine.proofs.LooksOfCalls.{looks-input, nothing-same}
-use Rattle.ceal_engine.specs.Completed.{OfRuns, SetsInput}
 use Rattle.ceal_engine.specs.Keeping.{state_of}
 use Rattle.ceal_engine.specs.Looks.{LooksAtNothing}
 use Rattle.ceal_engine.specs.Partial.{CarriesFrom}
+use Rattle.ceal_engine.specs.Runs.{OfRuns, SetsInput, same_stage}
 use Rattle.ceal_engine.specs.Engine.{alone}
 use Rattle.ceal_engine.proofs.engine.Engine.add_input.Goals as goal
 
 pub invariant_of-self : goal.invariant_of-self
-invariant_of-self c =
-    sound-left c.self.inside.code c.self.inside.fuel c.self.inside.inputs c.self.inside.call c.self.inside.phase c.self.inside.running c.touch.new.run c.touch.ensures.same c.self.invariant
+invariant_of-self c = let v = c.self.inside in sound-left v.code v.fuel v.inputs v.call v.run c.touch.new.self c.touch.ensures.same c.self.invariant
 
 pub returns-in_err-touch-clause-err : goal.returns-in_err-touch-clause-err
 returns-in_err-touch-clause-err c =
-    on-err c.from_residual-in_err-touch.result _
-    (state-left c.self.inside.code c.self.inside.fuel c.self.inside.inputs c.self.inside.call.call c.self.inside.phase c.self.inside.running c.touch.new.run c.touch.ensures.same ∙ c.self.view_is)
+    let v = c.self.inside in
+    on-err c.from_residual-in_err-touch.result _ (state-left v.code v.fuel v.inputs v.call.call v.run c.touch.new.self c.touch.ensures.same ∙ c.self.view_is)
 
 pub invariant_of-self-in_err-push : goal.invariant_of-self-in_err-push
 invariant_of-self-in_err-push c =
-    rw c.in_err-push.ensures.err
-    (sound-left c.self.inside.code c.self.inside.fuel c.self.inside.inputs c.self.inside.call c.self.inside.phase c.self.inside.running c.touch.new.run c.touch.ensures.same c.self.invariant)
+    let v = c.self.inside in
+    rw c.in_err-push.ensures.err (sound-left v.code v.fuel v.inputs v.call v.run c.touch.new.self c.touch.ensures.same c.self.invariant)
 
 pub returns-in_err-push-clause-err : goal.returns-in_err-push-clause-err
 returns-in_err-push-clause-err c =
+    let v = c.self.inside in
     on-err c.from_residual-in_err-push.result _
-    (rw c.in_err-push.ensures.err
-    (state-left c.self.inside.code c.self.inside.fuel c.self.inside.inputs c.self.inside.call.call c.self.inside.phase c.self.inside.running c.touch.new.run c.touch.ensures.same ∙ c.self.view_is))
+    (rw c.in_err-push.ensures.err (state-left v.code v.fuel v.inputs v.call.call v.run c.touch.new.self c.touch.ensures.same ∙ c.self.view_is))
 
 pub add-requires-clause-unread : goal.add-requires-clause-unread
 add-requires-clause-unread c =
+    let v = c.self.inside in
     rw c.items.ensures.value
-    (run-unread c.self.inside.code c.self.inside.fuel c.self.inside.inputs c.self.inside.phase c.self.inside.call.call c.touch.new.run
-    (sound-left c.self.inside.code c.self.inside.fuel c.self.inside.inputs c.self.inside.call c.self.inside.phase c.self.inside.running c.touch.new.run c.touch.ensures.same c.self.invariant).keeps)
+    (run-unread v.code v.fuel v.inputs v.call.call c.touch.new.self (sound-left v.code v.fuel v.inputs v.call v.run c.touch.new.self c.touch.ensures.same c.self.invariant).keeps)
 
 pub invariant_of-self-2 : goal.invariant_of-self-2
 invariant_of-self-2 c =
+    let v = c.self.inside in
     let b : Block = record { shape = c.args.shape; words = c.args.words.now } in
     let is = c.new-block.ensures.value ∙ ap (λ ws. record { shape = c.args.shape; words = ws }) c.in_ok-from_slice.ensures.items in
-    let set : OfRuns (SetsInput c.self.inside.code.structs (length c.self.inside.inputs) c.args.shape c.args.words.now) c.touch.new.run c.add.new.run = rw c.items.ensures.value at c.add.ensures in
-    let sound = sound-left c.self.inside.code c.self.inside.fuel c.self.inside.inputs c.self.inside.call c.self.inside.phase c.self.inside.running c.touch.new.run c.touch.ensures.same c.self.invariant in
+    let set : OfRuns (SetsInput v.code.structs (length v.inputs) c.args.shape c.args.words.now) same_stage c.touch.new.self c.add.new.self = rw c.items.ensures.value at c.add.ensures in
+    let sound = sound-left v.code v.fuel v.inputs v.call v.run c.touch.new.self c.touch.ensures.same c.self.invariant in
     rw (c.in_ok-push.ensures.ok, is)
-    (sound-longer c.self.inside.code c.self.inside.fuel c.self.inside.inputs c.self.inside.phase b (subst (λ e. block_fits e.code.structs (alone e.inputs) b ≡ true) (sym c.self.view_is) c.requires.fits) c.self.invariant.fit
-    c.self.inside.call c.touch.new.run c.add.new.run set (subst (λ e. length e.inputs + 1 < 2 ^ 32) (sym c.self.view_is) c.requires.room) sound)
+    (sound-longer v.code v.fuel v.inputs b (subst (λ e. block_fits e.code.structs (alone e.inputs) b ≡ true) (sym c.self.view_is) c.requires.fits) c.self.invariant.fit v.call c.touch.new.self c.add.new.self set
+    (subst (λ e. length e.inputs + 1 < 2 ^ 32) (sym c.self.view_is) c.requires.room) sound)
 
 pub returns-in_err-from_slice-clause-looks : goal.returns-in_err-from_slice-clause-looks
 returns-in_err-from_slice-clause-looks c = nothing-same c.args.self.now _ refl
@@ -55,35 +55,34 @@ returns-in_err-from_slice-clause-looks c = nothing-same c.args.self.now _ refl
 pub returns-in_err-touch-clause-looks : goal.returns-in_err-touch-clause-looks
 returns-in_err-touch-clause-looks c =
     let v = c.self.inside in
-    nothing-same c.args.self.now _ (state-left v.code v.fuel v.inputs v.call.call v.phase v.running c.touch.new.run c.touch.ensures.same ∙ c.self.view_is)
+    nothing-same c.args.self.now _ (state-left v.code v.fuel v.inputs v.call.call v.run c.touch.new.self c.touch.ensures.same ∙ c.self.view_is)
 
 pub returns-in_err-push-clause-looks : goal.returns-in_err-push-clause-looks
 returns-in_err-push-clause-looks c =
     let v = c.self.inside in
-    nothing-same c.args.self.now _
-    (rw c.in_err-push.ensures.err (state-left v.code v.fuel v.inputs v.call.call v.phase v.running c.touch.new.run c.touch.ensures.same ∙ c.self.view_is))
+    nothing-same c.args.self.now _ (rw c.in_err-push.ensures.err (state-left v.code v.fuel v.inputs v.call.call v.run c.touch.new.self c.touch.ensures.same ∙ c.self.view_is))
 
 pub returns-clause-looks : goal.returns-clause-looks
 returns-clause-looks c =
     let v = c.self.inside in
     let b : Block = record { shape = c.args.shape; words = c.args.words.now } in
     let is = c.new-block.ensures.value ∙ ap (λ ws. record { shape = c.args.shape; words = ws }) c.in_ok-from_slice.ensures.items in
-    let set : OfRuns (SetsInput v.code.structs (length v.inputs) c.args.shape c.args.words.now) c.touch.new.run c.add.new.run = rw c.items.ensures.value at c.add.ensures in
+    let set : OfRuns (SetsInput v.code.structs (length v.inputs) c.args.shape c.args.words.now) same_stage c.touch.new.self c.add.new.self = rw c.items.ensures.value at c.add.ensures in
     rw (c.in_ok-push.ensures.ok, is)
-    (subst (λ e. LooksAtNothing e (state_of v.code v.fuel (v.inputs ++ b ∷ []) v.call.call v.phase c.add.new.run))
-    (state-left v.code v.fuel v.inputs v.call.call v.phase v.running c.touch.new.run c.touch.ensures.same ∙ c.self.view_is)
-    (looks-input v.code v.fuel v.inputs v.call.call v.phase v.code.structs (length v.inputs) c.args.shape c.args.words.now (v.inputs ++ b ∷ []) c.touch.new.run c.add.new.run set))
+    (subst (λ e. LooksAtNothing e (state_of v.code v.fuel (v.inputs ++ b ∷ []) v.call.call c.add.new.self))
+    (state-left v.code v.fuel v.inputs v.call.call v.run c.touch.new.self c.touch.ensures.same ∙ c.self.view_is)
+    (looks-input v.code v.fuel v.inputs v.call.call v.code.structs (length v.inputs) c.args.shape c.args.words.now (v.inputs ++ b ∷ []) c.touch.new.self c.add.new.self set))
 
 pub returns-clause-carries : goal.returns-clause-carries
 returns-clause-carries c = λ next r carries.
     let v = c.self.inside in
     let b : Block = record { shape = c.args.shape; words = c.args.words.now } in
     let is = c.new-block.ensures.value ∙ ap (λ ws. record { shape = c.args.shape; words = ws }) c.in_ok-from_slice.ensures.items in
-    let set : OfRuns (SetsInput v.code.structs (length v.inputs) c.args.shape c.args.words.now) c.touch.new.run c.add.new.run = rw c.items.ensures.value at c.add.ensures in
-    let left = sound-left v.code v.fuel v.inputs v.call v.phase v.running c.touch.new.run c.touch.ensures.same c.self.invariant in
-    let longer = sound-longer v.code v.fuel v.inputs v.phase b (subst (λ e. block_fits e.code.structs (alone e.inputs) b ≡ true) (sym c.self.view_is) c.requires.fits) c.self.invariant.fit
-    v.call c.touch.new.run c.add.new.run set (subst (λ e. length e.inputs + 1 < 2 ^ 32) (sym c.self.view_is) c.requires.room) left in
-    let same = state-left v.code v.fuel v.inputs v.call.call v.phase v.running c.touch.new.run c.touch.ensures.same ∙ c.self.view_is in
+    let set : OfRuns (SetsInput v.code.structs (length v.inputs) c.args.shape c.args.words.now) same_stage c.touch.new.self c.add.new.self = rw c.items.ensures.value at c.add.ensures in
+    let left = sound-left v.code v.fuel v.inputs v.call v.run c.touch.new.self c.touch.ensures.same c.self.invariant in
+    let longer = sound-longer v.code v.fuel v.inputs b (subst (λ e. block_fits e.code.structs (alone e.inputs) b ≡ true) (sym c.self.view_is) c.requires.fits) c.self.invariant.fit
+    v.call c.touch.new.self c.add.new.self set (subst (λ e. length e.inputs + 1 < 2 ^ 32) (sym c.self.view_is) c.requires.room) left in
+    let same = state-left v.code v.fuel v.inputs v.call.call v.run c.touch.new.self c.touch.ensures.same ∙ c.self.view_is in
     rw (c.in_ok-push.ensures.ok, is)
-    (carries-still v.code v.fuel v.inputs (v.inputs ++ b ∷ []) v.call v.phase v.phase c.touch.new.run c.add.new.run left longer (extended-longer v.code v.inputs b) (λ work. refl)
-    (same-input v.code.structs (length v.inputs) c.args.shape c.args.words.now c.touch.new.run c.add.new.run set) next r (subst (λ e. CarriesFrom e next r) (sym same) carries))
+    (carries-still v.code v.fuel v.inputs (v.inputs ++ b ∷ []) v.call (extended-longer v.code v.inputs b) same_stage (λ g work. refl) c.touch.new.self c.add.new.self left longer
+    (same-input v.code.structs (length v.inputs) c.args.shape c.args.words.now c.touch.new.self c.add.new.self set) next r (subst (λ e. CarriesFrom e next r) (sym same) carries))

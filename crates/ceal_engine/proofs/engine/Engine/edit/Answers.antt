@@ -6,49 +6,49 @@ use Rattle.ceal_code.specs.Value.{is_cell}
 use Rattle.ceal_engine.proofs.EngineLaws.{carries-still, same-base}
 use Rattle.ceal_engine.proofs.Inputs.{extended-edit}
 use Rattle.ceal_engine.proofs.LooksOfCalls.{looks-edit, looks-same, spent-edited}
-use Rattle.ceal_engine.specs.Engine.{alone, edited, fits_in, takes, with_base}
+use Rattle.ceal_engine.specs.Engine.{alone, fits_in, takes, with_base}
 use Rattle.ceal_engine.specs.Keeping.{state_of}
 use Rattle.ceal_engine.specs.Looks.{LooksOfEdit}
 use Rattle.ceal_engine.specs.Partial.{CarriesFrom}
+use Rattle.ceal_engine.specs.Runs.{edited_at}
 use Rattle.ceal_engine.proofs.engine.Engine.edit.Goals as goal
 
+pub edit-requires : goal.edit-requires
+edit-requires c = let v = c.self.inside in record { kept = run-kept v.code v.fuel v.inputs v.call.call v.run c.self.invariant.keeps }
+
 pub invariant_of-self : goal.invariant_of-self
-invariant_of-self c =
-    sound-left c.self.inside.code c.self.inside.fuel c.self.inside.inputs c.self.inside.call c.self.inside.phase c.self.inside.running c.edit.new.run c.in_err-edit.ensures.err c.self.invariant
+invariant_of-self c = let v = c.self.inside in sound-left v.code v.fuel v.inputs v.call v.run c.edit.new.self c.in_err-edit.ensures.err c.self.invariant
 
 pub invariant_of-self-2 : goal.invariant_of-self-2
 invariant_of-self-2 c =
-    rw (c.set_base.ensures, c.phase_edited-self-inside.ensures)
-    (sound-edited c.self.inside.code c.self.inside.inputs c.args.place c.args.value c.self.invariant.fit
-    (subst (λ e. takes e c.args.place c.args.value ≡ true) (sym c.self.view_is) c.requires) c.self.inside.fuel c.self.inside.call c.self.inside.phase c.self.inside.running c.edit.new.run c.in_ok-edit.ensures.ok c.self.invariant)
+    let v = c.self.inside in
+    rw c.set_base.ensures
+    (sound-edited v.code v.inputs c.args.place c.args.value c.self.invariant.fit (subst (λ e. takes e c.args.place c.args.value ≡ true) (sym c.self.view_is) c.requires) v.fuel v.call v.run c.edit.new.self c.in_ok-edit.ensures.ok c.self.invariant)
 
 pub returns-in_err-edit-clause-err : goal.returns-in_err-edit-clause-err
 returns-in_err-edit-clause-err c =
-    on-err c.from_residual.result _
-    (state-left c.self.inside.code c.self.inside.fuel c.self.inside.inputs c.self.inside.call.call c.self.inside.phase c.self.inside.running c.edit.new.run c.in_err-edit.ensures.err ∙ c.self.view_is)
-
-pub edit-requires : goal.edit-requires
-edit-requires c = record { kept = run-kept c.self.inside.code c.self.inside.fuel c.self.inside.inputs c.self.inside.phase c.self.inside.call.call c.self.inside.running c.self.invariant.keeps }
+    let v = c.self.inside in
+    on-err c.from_residual.result _ (state-left v.code v.fuel v.inputs v.call.call v.run c.edit.new.self c.in_err-edit.ensures.err ∙ c.self.view_is)
 
 pub returns-in_err-edit-clause-looks : goal.returns-in_err-edit-clause-looks
 returns-in_err-edit-clause-looks c =
     let v = c.self.inside in
-    looks-same c.args.self.now _ (state-left v.code v.fuel v.inputs v.call.call v.phase v.running c.edit.new.run c.in_err-edit.ensures.err ∙ c.self.view_is)
+    looks-same c.args.self.now _ (state-left v.code v.fuel v.inputs v.call.call v.run c.edit.new.self c.in_err-edit.ensures.err ∙ c.self.view_is)
 
 pub returns-clause-looks : goal.returns-clause-looks
 returns-clause-looks c =
     let v = c.self.inside in
-    rw (c.set_base.ensures, c.phase_edited-self-inside.ensures)
-    (subst (λ e. LooksOfEdit e (state_of v.code v.fuel (with_base v.inputs c.args.place c.args.value) v.call.call (edited v.phase) c.edit.new.run)) c.self.view_is
-    (looks-edit v.code v.fuel v.inputs v.call.call v.phase c.args.place c.args.value (with_base v.inputs c.args.place c.args.value) v.running c.edit.new.run c.in_ok-edit.ensures.ok))
+    rw c.set_base.ensures
+    (subst (λ e. LooksOfEdit e (state_of v.code v.fuel (with_base v.inputs c.args.place c.args.value) v.call.call c.edit.new.self)) c.self.view_is
+    (looks-edit v.code v.fuel v.inputs v.call.call c.args.place c.args.value (with_base v.inputs c.args.place c.args.value) v.run c.edit.new.self c.in_ok-edit.ensures.ok))
 
 pub returns-clause-carries : goal.returns-clause-carries
 returns-clause-carries c = λ next r carries.
     let v = c.self.inside in
     let takes-it = subst (λ e. takes e c.args.place c.args.value ≡ true) (sym c.self.view_is) c.requires in
     let more = with_base v.inputs c.args.place c.args.value in
-    let sound = sound-edited v.code v.inputs c.args.place c.args.value c.self.invariant.fit takes-it v.fuel v.call v.phase v.running c.edit.new.run c.in_ok-edit.ensures.ok c.self.invariant in
-    rw (c.set_base.ensures, c.phase_edited-self-inside.ensures)
-    (carries-still v.code v.fuel v.inputs more v.call v.phase (edited v.phase) v.running c.edit.new.run c.self.invariant sound
-    (extended-edit v.code v.inputs c.args.place c.args.value (both (is_cell (kind_at v.code.structs (alone v.inputs) c.args.place)) (fits_in v.code.structs (alone v.inputs) (kind_at v.code.structs (alone v.inputs) c.args.place) c.args.value) takes-it).0)
-    (spent-edited v.phase) (same-base c.args.place c.args.value v.running c.edit.new.run c.in_ok-edit.ensures.ok) next r (subst (λ e. CarriesFrom e next r) (sym c.self.view_is) carries))
+    let sound = sound-edited v.code v.inputs c.args.place c.args.value c.self.invariant.fit takes-it v.fuel v.call v.run c.edit.new.self c.in_ok-edit.ensures.ok c.self.invariant in
+    let cell = (both (is_cell (kind_at v.code.structs (alone v.inputs) c.args.place)) (fits_in v.code.structs (alone v.inputs) (kind_at v.code.structs (alone v.inputs) c.args.place) c.args.value) takes-it).0 in
+    rw c.set_base.ensures
+    (carries-still v.code v.fuel v.inputs more v.call (extended-edit v.code v.inputs c.args.place c.args.value cell) edited_at spent-edited v.run c.edit.new.self c.self.invariant sound
+    (same-base c.args.place c.args.value v.run c.edit.new.self c.in_ok-edit.ensures.ok) next r (subst (λ e. CarriesFrom e next r) (sym c.self.view_is) carries))

@@ -1,6 +1,6 @@
 use Rattle.std.proofs.Common.{◌∙◌, sym, subst}
 use Rattle.ceal_engine.proofs.Keeping.{the-call, first-done}
-use Rattle.ceal_engine.specs.Completed.{IsFirstOf}
+use Rattle.ceal_engine.specs.Runs.{IsFirstOf}
 use Rattle.ceal_engine.proofs.engine.Engine.first.Goals as goal
 
 pub returns-in-Done-clause-ok : goal.returns-in-Done-clause-ok

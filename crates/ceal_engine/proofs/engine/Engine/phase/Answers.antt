@@ -7,10 +7,9 @@ use Rattle.ceal_engine.specs.declared.phase.Phase.TheVariants.{Partial}
 use Rattle.ceal_engine.proofs.engine.Engine.phase.Goals as goal
 
 pub returns-clause-whole : goal.returns-clause-whole
-returns-clause-whole c =
-    subst IsEngine c.self.view_is (sound-engine c.self.inside.code c.self.inside.fuel c.self.inside.inputs c.self.inside.call c.self.inside.phase c.self.inside.running c.self.invariant)
+returns-clause-whole c = let v = c.self.inside in subst IsEngine c.self.view_is (sound-engine v.code v.fuel v.inputs v.call v.run c.self.invariant)
 
 pub returns-clause-partial : goal.returns-clause-partial
 returns-clause-partial c = λ e.
-    subst IsUnderWay c.self.view_is
-    (is-under-way c.self.inside.code c.self.inside.fuel c.self.inside.inputs c.self.inside.phase c.self.inside.call.call c.self.inside.running c.self.invariant.keeps (subst (λ s. s.phase ≡ Partial) (sym c.self.view_is) e))
+    let v = c.self.inside in
+    subst IsUnderWay c.self.view_is (is-under-way v.code v.fuel v.inputs v.run v.call.call c.self.invariant.keeps (subst (λ s. s.phase ≡ Partial) (sym c.self.view_is) e))

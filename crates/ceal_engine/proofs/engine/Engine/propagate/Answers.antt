@@ -1,42 +1,36 @@
-use Rattle.std.proofs.Common.{◌≡◌, false, true, inl, ◌∙◌, ap, refl, subst}
+use Rattle.std.proofs.Common.{◌≡◌, true, inl, ◌∙◌, ap, sym, subst}
 use Rattle.std.proofs.lemmas.Result.{err_from_is_err_and}
-use Rattle.std.specs.Option.{option_map}
+use Rattle.std.specs.Option.{IsSomeAnd}
 use Rattle.ceal_engine.proofs.Carrying.{ended-so, whole-repair}
-use Rattle.ceal_engine.proofs.NoneStale.{no-trace}
-use Rattle.ceal_engine.proofs.Propagated.{finished-clause, sound-idle, idle-forest, idle-work}
+use Rattle.ceal_engine.proofs.NoneStale.{on-error}
+use Rattle.ceal_engine.proofs.Propagated.{finished-clause, present-told}
 use Rattle.ceal_engine.proofs.Present.{not-both, sound-present}
 use Rattle.ceal_engine.proofs.LooksOfCalls.{looks-idle, looks-either, on-ok}
-use Rattle.ceal_engine.specs.Completed.{idle}
-use Rattle.ceal_engine.specs.Engine.{has_run, trace}
-use Rattle.ceal_engine.specs.Keeping.{Keeps, state_of}
-use Rattle.ceal_engine.specs.Looks.{LooksOfEither, LooksOfRepair}
+use Rattle.ceal_engine.specs.Engine.{EngineState, IsPresent, has_run, trace}
+use Rattle.ceal_engine.specs.Repaired.{IsRepaired}
+use Rattle.ceal_engine.specs.declared.phase.Phase.TheVariants.{Finished}
 use Rattle.ceal_engine.proofs.engine.Engine.propagate.Goals as goal
 
 pub returns-in-Finished-clause-present : goal.returns-in-Finished-clause-present
 returns-in-Finished-clause-present c =
-    rw c.rest.ensures
-    (sound-present c.self.inside.code c.self.inside.fuel c.self.inside.inputs c.self.inside.call c.self.inside.phase (option_map idle c.self.inside.running)
-    (sound-idle c.self.inside.code c.self.inside.fuel c.self.inside.inputs c.self.inside.phase (rw c.in-Finished.is refl) c.self.inside.call c.self.inside.running c.self.invariant) c.in-Finished.is)
+    let v = c.self.inside in
+    rw c.tell.ensures (present-told c.args.self.now 0 (subst IsPresent c.self.view_is (sound-present v.code v.fuel v.inputs v.call v.run c.self.invariant (sym c.phase.ensures ∙ c.in-Finished.is))))
 
 pub returns-in-Finished-clause-repaired : goal.returns-in-Finished-clause-repaired
 returns-in-Finished-clause-repaired c = λ w l e.
-    rw c.rest.ensures
-    (finished-clause c.self.inside.code c.self.inside.fuel c.self.inside.inputs c.self.inside.call.call c.self.inside.running
-    (subst (λ p. Keeps c.self.inside.code c.self.inside.fuel c.self.inside.inputs p c.self.inside.call.call c.self.inside.running) c.in-Finished.is c.self.invariant.keeps) c.self.inside.phase
-    (option_map idle c.self.inside.running) (idle-forest c.self.inside.running) (idle-work c.self.inside.running) l (ap trace c.self.view_is ∙ e))
+    let v = c.self.inside in
+    rw c.tell.ensures
+    (subst (λ (s : EngineState). IsSomeAnd (trace s) (IsRepaired (record s { work = 0 }) l)) c.self.view_is
+    (finished-clause v.code v.fuel v.inputs v.run v.call.call c.self.invariant.keeps (sym c.phase.ensures ∙ c.in-Finished.is) l (ap trace c.self.view_is ∙ e)))
 
 pub returns-in-Finished-clause-looks : goal.returns-in-Finished-clause-looks
 returns-in-Finished-clause-looks c = λ w.
-    let v = c.self.inside in
-    rw c.rest.ensures
-    (subst (λ e. LooksOfRepair e (state_of v.code v.fuel v.inputs v.call.call v.phase (option_map idle v.running))) c.self.view_is (looks-idle v.code v.fuel v.inputs v.call.call v.phase v.running c.in-Finished.is))
+    rw c.tell.ensures (looks-idle c.args.self.now (subst (λ e. e.phase ≡ Finished) c.self.view_is (sym c.phase.ensures ∙ c.in-Finished.is)))
 
 pub returns-in-Finished-clause-looks_always : goal.returns-in-Finished-clause-looks_always
 returns-in-Finished-clause-looks_always c =
-    let v = c.self.inside in
-    rw c.rest.ensures
-    (subst (λ e. LooksOfEither e (state_of v.code v.fuel v.inputs v.call.call v.phase (option_map idle v.running))) c.self.view_is
-    (inl (rw c.in-Finished.is refl, looks-idle v.code v.fuel v.inputs v.call.call v.phase v.running c.in-Finished.is)))
+    let is = subst (λ e. e.phase ≡ Finished) c.self.view_is (sym c.phase.ensures ∙ c.in-Finished.is) in
+    rw c.tell.ensures (inl (ap has_run is, looks-idle c.args.self.now is))
 
 pub returns-in_ok-advance-in-Partial-clause-partial : goal.returns-in_ok-advance-in-Partial-clause-partial
 returns-in_ok-advance-in-Partial-clause-partial c = λ e next r carries.
@@ -50,15 +44,15 @@ returns-in_err-advance-in-Partial-clause-partial c = λ e next r carries.
 pub returns-in_ok-advance-in-Pending-clause-looks_always : goal.returns-in_ok-advance-in-Pending-clause-looks_always
 returns-in_ok-advance-in-Pending-clause-looks_always c =
     let a = c.in_ok-advance-in-Pending.ensures in
-    looks-either c.args.self.now c.advance.new.self c.in_ok-advance-in-Pending.field-0 (subst (λ e. has_run e.phase ≡ true) c.self.view_is (rw c.in-Pending.is refl)) a.looks a.looks_anew a.first
+    looks-either c.args.self.now c.advance.new.self c.in_ok-advance-in-Pending.field-0 (subst (λ e. has_run e.phase ≡ true) c.self.view_is (ap has_run (sym c.phase.ensures ∙ c.in-Pending.is))) a.looks a.looks_anew a.first
 
 pub returns-in_ok-advance-in-Partial-clause-looks_always : goal.returns-in_ok-advance-in-Partial-clause-looks_always
 returns-in_ok-advance-in-Partial-clause-looks_always c =
     let a = c.in_ok-advance-in-Partial.ensures in
-    looks-either c.args.self.now c.advance-in-Partial.new.self c.in_ok-advance-in-Partial.field-0 (subst (λ e. has_run e.phase ≡ true) c.self.view_is (rw c.in-Partial.is refl)) a.looks a.looks_anew a.first
+    looks-either c.args.self.now c.advance-in-Partial.new.self c.in_ok-advance-in-Partial.field-0 (subst (λ e. has_run e.phase ≡ true) c.self.view_is (ap has_run (sym c.phase.ensures ∙ c.in-Partial.is))) a.looks a.looks_anew a.first
 
 pub returns-in-Dropped-clause-looks_always : goal.returns-in-Dropped-clause-looks_always
-returns-in-Dropped-clause-looks_always c = on-ok c.args.self.now c.run_anew.new.self c.run_anew.result c.run_anew.ensures.first c.run_anew.ensures.looks
+returns-in-Dropped-clause-looks_always c = on-ok c.args.self.now c.run_anew.new.self c.run_anew.result c.run_anew.ensures.anew
 
 -- from Pending the call is not run again, so all is repaired
 pub returns-in_ok-advance-in-Pending-clause-repaired : goal.returns-in_ok-advance-in-Pending-clause-repaired
@@ -86,20 +80,12 @@ returns-in_ok-advance-in-Pending-clause-looks c = λ w.
     let a = c.in_ok-advance-in-Pending.ensures in
     a.looks (λ anew. not-both c.args.self.now.phase (a.anew anew) w)
 
-pub returns-in_err-advance-in-Pending-clause-sure_where_honest : goal.returns-in_err-advance-in-Pending-clause-sure_where_honest
-returns-in_err-advance-in-Pending-clause-sure_where_honest c = λ w l e h. absurd (let no : false ≡ true = c.in_err-advance-in-Pending.ensures.sure_where_honest w l e h in cc)
-
-pub returns-in_err-advance-in-Pending-clause-sure_in_part : goal.returns-in_err-advance-in-Pending-clause-sure_in_part
-returns-in_err-advance-in-Pending-clause-sure_in_part c = λ l e h.
+pub returns-in_err-advance-in-Pending-clause-keeps : goal.returns-in_err-advance-in-Pending-clause-keeps
+returns-in_err-advance-in-Pending-clause-keeps c =
     let error = err_from_is_err_and c.from_residual.result c.from_residual.ensures.1 in
-    rw (error.1, error.2) (c.in_err-advance-in-Pending.ensures.sure_in_part l e h)
+    rw (error.1, error.2) (on-error c.args.self.now c.advance.new.self _ c.in_err-advance-in-Pending.ensures.keeps)
 
-pub returns-in_err-advance-in-Partial-clause-sure_in_part : goal.returns-in_err-advance-in-Partial-clause-sure_in_part
-returns-in_err-advance-in-Partial-clause-sure_in_part c = λ l e h.
+pub returns-in_err-advance-in-Partial-clause-keeps : goal.returns-in_err-advance-in-Partial-clause-keeps
+returns-in_err-advance-in-Partial-clause-keeps c =
     let error = err_from_is_err_and c.from_residual-in_err-advance-in-Partial.result c.from_residual-in_err-advance-in-Partial.ensures.1 in
-    rw (error.1, error.2) (c.in_err-advance-in-Partial.ensures.sure_in_part l e h)
-
-pub returns-in-Dropped-clause-sure_in_part : goal.returns-in-Dropped-clause-sure_in_part
-returns-in-Dropped-clause-sure_in_part c = λ l e h.
-    let v = c.self.inside in
-    absurd (no-trace v.code v.fuel v.inputs v.phase v.call.call v.running c.self.invariant.keeps c.in-Dropped.is l (ap trace c.self.view_is ∙ e))
+    rw (error.1, error.2) (on-error c.args.self.now c.advance-in-Partial.new.self _ c.in_err-advance-in-Partial.ensures.keeps)

@@ -1,14 +1,15 @@
 use Rattle.std.specs.Prelude.{◌↔◌, IsTrue}
-use Rattle.std.proofs.Common.{rules, ◌≡◌, false, true, Some, inl, inr, refl, sym, ap, ◌∙◌, subst}
+use Rattle.std.proofs.Common.{rules, ◌≡◌, false, true, Some, inl, inr, refl, sym, ◌∙◌, subst}
 use Rattle.std.proofs.lemmas.Result.{err_from_is_err_and}
 use Rattle.ceal_engine.proofs.Carrying.{comes-so, done-repair}
 use Rattle.ceal_engine.proofs.LooksOfCalls.{looks-either}
 use Rattle.ceal_engine.proofs.Present.{not-both}
-use Rattle.ceal_engine.specs.Engine.{has_run, trace}
+use Rattle.ceal_engine.specs.Engine.{has_run}
+use Rattle.ceal_engine.specs.Keeping.{phase_of}
 use Rattle.ceal_engine.specs.Repaired.{KeepsFront}
 use Rattle.ceal_engine.specs.declared.phase.Phase.{Phase}
 use Rattle.ceal_engine.specs.declared.phase.Phase.TheVariants.{New, Finished, Pending, Partial, Dropped}
-use Rattle.ceal_engine.proofs.NoneStale.{front-or-again, front-of-none, no-trace}
+use Rattle.ceal_engine.proofs.NoneStale.{front-or-again, front-of-none, on-error}
 use Rattle.ceal_engine.proofs.engine.Engine.slice.Goals as goal
 
 -- there is a run where the call is not run from nothing
@@ -31,23 +32,20 @@ returns-in_err-came-clause-slice c = λ next r carries.
 pub returns-clause-front : goal.returns-clause-front
 returns-clause-front c = front-or-again c.args.self.now c.advance.new.self (Some c.args.reads) c.in_ok-came.came c.in_ok-came.ensures.front c.in_ok-came.ensures.anew c.in_ok-came.ensures.comes
 
-pub returns-in_err-came-clause-sure_where_honest : goal.returns-in_err-came-clause-sure_where_honest
-returns-in_err-came-clause-sure_where_honest c = λ w l e h. absurd (let no : false ≡ true = c.in_err-came.ensures.sure_where_honest w l e h in cc)
-
 pub returns-then-eq-clause-front : goal.returns-then-eq-clause-front
 returns-then-eq-clause-front c =
     let v = c.self.inside in
-    let told : IsTrue c.eq.result ↔ (v.phase ≡ Dropped) = search rules in
-    inl (subst (λ e. KeepsFront e c.run_anew.new.self) c.self.view_is (front-of-none v.code v.fuel v.inputs v.phase v.call.call v.running c.self.invariant.keeps (told.0 c.if-eq.true) c.run_anew.new.self))
+    let told : IsTrue c.eq.result ↔ (c.phase.result ≡ Dropped) = search rules in
+    inl (subst (λ e. KeepsFront e c.run_anew.new.self) c.self.view_is (front-of-none v.code v.fuel v.inputs v.call.call v.run (sym c.phase.ensures ∙ told.0 c.if-eq.true) c.run_anew.new.self))
 
 pub returns-clause-looks_always : goal.returns-clause-looks_always
 returns-clause-looks_always c =
     let a = c.in_ok-came.ensures in
     let v = c.self.inside in
-    let told : IsTrue c.eq.result ↔ (v.phase ≡ Dropped) = search rules in
+    let told : IsTrue c.eq.result ↔ (c.phase.result ≡ Dropped) = search rules in
     looks-either c.args.self.now c.advance.new.self c.in_ok-came.came
     (subst (λ e. has_run e.phase ≡ true) c.self.view_is
-    (there v.phase (subst (λ e. e.phase ≡ New → ⊥) (sym c.self.view_is) c.requires.called) (λ d. absurd (let yes : true ≡ false = sym (told.1 d) ∙ c.if-eq.false in cc)))) a.looks a.looks_anew a.first
+    (there (phase_of v.run) (subst (λ e. e.phase ≡ New → ⊥) (sym c.self.view_is) c.requires.called) (λ d. absurd (let yes : true ≡ false = sym (told.1 (c.phase.ensures ∙ d)) ∙ c.if-eq.false in cc)))) a.looks a.looks_anew a.first
 
 pub returns-clause-looks : goal.returns-clause-looks
 returns-clause-looks c = λ w. c.in_ok-came.ensures.looks (λ anew. not-both c.args.self.now.phase (c.in_ok-came.ensures.anew anew) w)
@@ -55,16 +53,10 @@ returns-clause-looks c = λ w. c.in_ok-came.ensures.looks (λ anew. not-both c.a
 pub returns-clause-repaired : goal.returns-clause-repaired
 returns-clause-repaired c = λ done w l e. done-repair c.args.self.now c.advance.new.self l c.in_ok-came.came c.progress.result c.progress.ensures done (c.in_ok-came.ensures.repaired w l e)
 
-pub returns-in_err-came-clause-sure_in_part : goal.returns-in_err-came-clause-sure_in_part
-returns-in_err-came-clause-sure_in_part c = λ l e h.
-    let error = err_from_is_err_and c.from_residual-in_err-came.result c.from_residual-in_err-came.ensures.1 in
-    rw (error.1, error.2) (c.in_err-came.ensures.sure_in_part l e h)
-
 pub returns-then-eq-clause-looks_always : goal.returns-then-eq-clause-looks_always
-returns-then-eq-clause-looks_always c = inr (c.in_ok-run_anew.ensures.first, c.in_ok-run_anew.ensures.looks)
+returns-then-eq-clause-looks_always c = inr (c.in_ok-run_anew.ensures.anew.first, c.in_ok-run_anew.ensures.anew.looks)
 
-pub returns-in_err-run_anew-clause-sure_in_part : goal.returns-in_err-run_anew-clause-sure_in_part
-returns-in_err-run_anew-clause-sure_in_part c = λ l e h.
-    let v = c.self.inside in
-    let told : IsTrue c.eq.result ↔ (v.phase ≡ Dropped) = search rules in
-    absurd (no-trace v.code v.fuel v.inputs v.phase v.call.call v.running c.self.invariant.keeps (told.0 c.if-eq.true) l (ap trace c.self.view_is ∙ e))
+pub returns-in_err-came-clause-keeps : goal.returns-in_err-came-clause-keeps
+returns-in_err-came-clause-keeps c =
+    let error = err_from_is_err_and c.from_residual-in_err-came.result c.from_residual-in_err-came.ensures.1 in
+    rw (error.1, error.2) (on-error c.args.self.now c.advance.new.self _ c.in_err-came.ensures.keeps)
