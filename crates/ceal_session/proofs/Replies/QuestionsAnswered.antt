@@ -6,7 +6,6 @@ use Rattle.std.specs.Option.{option_map}
 use Rattle.std.specs.Prelude.{bytes_eq}
 use Rattle.std.proofs.lemmas.Option.{slice_get-map}
 use Rattle.ceal_base.specs.Block.{Block}
-use Rattle.ceal_base.specs.Finished.{Finished}
 use Rattle.ceal_base.specs.Fitting.{kind_in, kind_at, block_fits}
 use Rattle.ceal_base.specs.Shapes.{field_kinds, kind_of_field}
 use Rattle.ceal_base.specs.declared.kind.FieldKind.{FieldKind}
