@@ -11,3 +11,4 @@ pub mod RepliesByEntries
 pub mod ReplyAfterRun
 pub mod BoundedReplies
 pub mod KeptBound
+pub mod NumberAsPrinted
