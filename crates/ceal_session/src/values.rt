@@ -1,15 +1,16 @@
 // Values without text: handles of modifiables, and the numbers that they hold.
 
-ghost use Rattle.std.specs.Prelude.{◌≡◌, ◌++◌, Some, Option, true, codes, IfOk, OnOk, OnErr};
+ghost use Rattle.std.specs.Prelude.{◌≡◌, ◌++◌, Bool, Some, Option, codes, IfOk, OnOk, OnErr};
+ghost use Rattle.std.specs.Fmt.{signed_decimal};
 ghost use Rattle.ceal_base.specs.Fitting.{kind_at};
 ghost use Rattle.ceal_base.specs.declared.word.Word.TheVariants.{Num};
 ghost use Rattle.ceal_code.specs.Value.{is_cell};
 ghost use Rattle.ceal_script.specs.declared.command.Command.{Command as CommandOf};
-ghost use Rattle.ceal_session.specs.Asking.{IsCellOf};
 ghost use Rattle.ceal_session.specs.Following.{Keeps};
 ghost use Rattle.ceal_session.specs.Keeping.{situation};
-ghost use Rattle.ceal_session.specs.Replies.{Reads};
+ghost use Rattle.ceal_session.specs.Replies.{Answers, Reads};
 ghost use Rattle.ceal_session.specs.Runs.{memory_of};
+ghost use Rattle.ceal_session.specs.State.{numbers_in};
 ghost use Rattle.ceal_session.specs.Steps.{refuses, set};
 ghost use Rattle.ceal_session.specs.Values.{handle_of_sense, handle_of_command, sense_of_handle, Gives, IfRefused};
 ghost use Rattle.ceal_session.specs.Values.{number_of_sense, number_of_command};
@@ -29,7 +30,7 @@ use ceal_base::no_memory::NoMemory;
 use ceal_base::text::Text;
 use ceal_base::word::{Place, Word};
 use ceal_script::command::Command;
-use ceal_script::line::read_line;
+use ceal_script::line::{command_or_none, read_line};
 use ceal_script::line_error::LineError;
 use std::alloc::Global;
 
@@ -131,14 +132,37 @@ pub fn number_at(state: &State, handle: Handle) -> Result<i64, Refusal>
     state.number(handle.place)
 }
 
+/// A number or a refusal, as an answer for which memory may run out.
+fn answer_of(found: Result<i64, Refusal>) -> Result<i64, ValueError>
+    ensures { Gives result found }
+{
+    let number = found?;
+    Ok(number)
+}
+
 /// The number for which `get NAME` asks.
-pub fn number_of_name(alloc: Global, state: &State, name: &[u8]) -> Result<i64, ValueError>
+fn find_number(alloc: Global, state: &State, name: &[u8]) -> Result<i64, ValueError>
     ensures { (command : Option CommandOf) → Reads (codes "get " ++ name.now) command
         → Gives result (number_of_command state.now.state command) }
 {
-    let handle = find_handle(alloc, state, name)?;
-    let number = number_at(state, handle)?;
-    Ok(number)
+    match find_handle(alloc, state, name) {
+        Ok(handle) => answer_of(number_at(state, handle)),
+        Err(error) => Err(error),
+    }
+}
+
+/// The same; and a line `get NAME` is answered by it.
+pub fn number_of_name(alloc: Global, state: &State, name: &[u8]) -> Result<i64, ValueError>
+    ensures number { (command : Option CommandOf) → Reads (codes "get " ++ name.now) command
+        → Gives result (number_of_command state.now.state command) }
+    ensures printed { IfOk result
+        (λ n. (more : Bool) → Answers state.now.state
+        (numbers_in (situation state.now)) more (codes "get " ++ name.now)
+        (signed_decimal n ++ codes "\n") state.now.state) }
+{
+    // for the proof: the line is a command's, or no command's
+    command_or_none();
+    find_number(alloc, state, name)
 }
 
 /// `set` with a number, by a handle.

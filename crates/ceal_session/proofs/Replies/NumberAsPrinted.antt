@@ -1,7 +1,7 @@
 -- The number that a session tells is the one that `get` prints, and it is refused as `get` would be.
-use Rattle.std.proofs.Common.{◌≡◌, ◌⊎◌, ℤ, Bool, true, ◌++◌, Option, Some, None, Result, Ok, Err, List, ℕ, refl, sym, ap, ◌∙◌, subst, arith}
+use Rattle.std.proofs.Common.{◌≡◌, ◌⊎◌, inl, inr, ℤ, Bool, true, ◌++◌, Option, Some, None, Result, Ok, Err, IfOk, List, ℕ, refl, sym, ap, ◌∙◌, subst, arith}
 use Rattle.std.specs.Fmt.{signed_decimal}
-use Rattle.std.specs.Prelude.{codes, IsErrOf}
+use Rattle.std.specs.Prelude.{codes}
 use Rattle.ceal_base.specs.Finished.{Finished}
 use Rattle.ceal_base.specs.declared.word.Place.{Place}
 use Rattle.ceal_base.specs.declared.word.Word.{Word}
@@ -9,8 +9,6 @@ use Rattle.ceal_base.specs.declared.word.Word.TheVariants.{Num, Null, Block as B
 use Rattle.ceal_script.specs.Lines.{IsLineOf}
 use Rattle.ceal_script.specs.declared.command.Command.{Command}
 use Rattle.ceal_script.specs.declared.command.Command.TheVariants.{Blank, Mod, New, Set, Run, Propagate, Slice, Get, Show, Blocks, Steps, Work, Bound}
-use Rattle.ceal_script.specs.declared.line_error.LineError.{LineError}
-use Rattle.ceal_script.specs.declared.line_error.LineError.TheVariants.{Memory as LineMemory}
 use Rattle.ceal_session.proofs.Replies.QuestionsAnswered.{cell-sense}
 use Rattle.ceal_session.specs.Asking.{IsCellSense}
 use Rattle.ceal_session.specs.Replies.{Reads, Answers}
@@ -59,7 +57,7 @@ module _ (s : State) where
   reply-text numbers (Told BoundOf) n h = absurd (grind (arith, h))
 
   -- the line is answered by the number
-  pub printed : (numbers : Numbers) (more : Bool) (line : List ℕ) (o : Option Command) → Reads line o → (n : ℤ) → number_of_command s o ≡ Ok n
+  printed : (numbers : Numbers) (more : Bool) (line : List ℕ) (o : Option Command) → Reads line o → (n : ℤ) → number_of_command s o ≡ Ok n
       → Answers s numbers more line (signed_decimal n ++ codes "\n") s
   printed numbers more line None r n h = absurd (grind (arith, h))
   printed numbers more line (Some (Get place)) r n h = record { command = Some (Get place); reads = r; reply = reply-text numbers (got s (place_sense s place)) n h; state = refl }
@@ -75,6 +73,12 @@ module _ (s : State) where
   printed numbers more line (Some Steps) r n h = absurd (grind (arith, h))
   printed numbers more line (Some Work) r n h = absurd (grind (arith, h))
   printed numbers more line (Some Bound) r n h = absurd (grind (arith, h))
+
+  pub printed-by : (numbers : Numbers) (line : List ℕ) → ((c : Command) × IsLineOf c line) ⊎ ((c : Command) → IsLineOf c line → ⊥) → (r : Result ℤ ValueError)
+      → ((o : Option Command) → Reads line o → Gives r (number_of_command s o)) → IfOk r (λ n. (more : Bool) → Answers s numbers more line (signed_decimal n ++ codes "\n") s)
+  printed-by numbers line e (Err x) g = tt
+  printed-by numbers line (inl c) (Ok n) g = λ more. printed numbers more line (Some c.0) c.1 n (g (Some c.0) c.1)
+  printed-by numbers line (inr none) (Ok n) g = λ more. printed numbers more line None none n (g None none)
 
   -- a handle stands for what its name stands for
   cell-handle : (p : Place) (h : Handle) → IsCellSense s (IsWord (At p)) → record { place = p } ≡ h → sense_of_handle s h ≡ IsWord (At p)
@@ -129,6 +133,7 @@ module _ (s : State) where
   refused-command (Some Bound) r e = grind (arith, e)
 
   -- an error in the search for the handle is that of the number
-  pub error-by-handle : (o : Option Command) (e : ValueError) → Gives {Handle} (Err e) (handle_of_command s o) → Gives {ℤ} (Err e) (number_of_command s o)
-  error-by-handle o (IsRefused r) h = refused-command o r h
-  error-by-handle o NoMemory h = tt
+  pub error-by-handle : (o : Option Command) (e : ValueError) (h : Result Handle ValueError) (n : Result ℤ ValueError) → h ≡ Err e → n ≡ Err e
+      → Gives h (handle_of_command s o) → Gives n (number_of_command s o)
+  error-by-handle o (IsRefused r) h n i j g = rw j (refused-command o r (subst (λ (x : Result Handle ValueError). Gives x (handle_of_command s o)) i g))
+  error-by-handle o NoMemory h n i j g = rw j tt
