@@ -12,3 +12,4 @@ pub mod ReplyAfterRun
 pub mod BoundedReplies
 pub mod KeptBound
 pub mod NumberAsPrinted
+pub mod HandleStays
