@@ -1,5 +1,5 @@
 -- The number that a session tells is the one that `get` prints, and it is refused as `get` would be.
-use Rattle.std.proofs.Common.{◌≡◌, ◌⊎◌, inl, inr, ℤ, Bool, true, ◌++◌, Option, Some, None, Result, Ok, Err, IfOk, List, ℕ, refl, sym, ap, ◌∙◌, subst, arith}
+use Rattle.std.proofs.Common.{◌≡◌, ◌⊎◌, inl, inr, ℤ, Bool, ◌++◌, Option, Some, None, Result, Ok, Err, IfOk, List, ℕ, refl, sym, ap, subst, arith}
 use Rattle.std.specs.Fmt.{signed_decimal}
 use Rattle.std.specs.Prelude.{codes}
 use Rattle.ceal_base.specs.Finished.{Finished}

@@ -1,5 +1,5 @@
 -- Two situations that differ only in the work and the bound, until a run is completed.
-use Rattle.std.proofs.Common.{◌≡◌, ◌⊎◌, inl, inr, ℕ, ◌≤◌, ◌||◌, Bool, true, false, if◌then◌else◌, Option, Some, None, Result, Ok, Err, List, [], ◌∷◌, map, is_none, refl, sym, ap, ap₂, ◌∙◌, subst, arith}
+use Rattle.std.proofs.Common.{◌≡◌, ◌⊎◌, inl, inr, ℕ, ◌≤◌, Bool, true, false, if◌then◌else◌, Option, Some, None, Result, Ok, Err, List, [], ◌∷◌, map, is_none, refl, sym, ap, ap₂, ◌∙◌, subst, arith}
 use Rattle.std.specs.List.{list_any}
 use Rattle.std.specs.Prelude.{IfSome, bytes_eq}
 use Rattle.ceal_base.specs.Block.{Block}
@@ -29,18 +29,18 @@ use Rattle.ceal_session.proofs.Replies.ReplyUpToNumbers.{more-past, same-goes, s
 use Rattle.ceal_session.proofs.Saves.SaveThatHolds.{held}
 use Rattle.ceal_session.proofs.Saves.ResumedReplies.{same-trace}
 use Rattle.ceal_session.specs.Laws.{OneAnswerLaw, OneCommandLaw}
-use Rattle.ceal_session.specs.Replies.{Reads, Replies, Leads, behind}
+use Rattle.ceal_session.specs.Replies.{Reads, Replies, behind}
 use Rattle.ceal_session.specs.Runs.{memory_of, run_of}
 use Rattle.ceal_session.specs.Saves.{AlikeLaw}
 use Rattle.ceal_session.specs.Saving.{saved_state, resumed}
 use Rattle.ceal_session.specs.Senses.{is_unknown, words_of, mod_shape, struct_shape, struct_named, function_named, place_sense, value_sense, input_named}
-use Rattle.ceal_session.specs.Standing.{IsPastIn, IsSamePast, IsIn, Stands}
+use Rattle.ceal_session.specs.Standing.{IsSamePast, IsIn, Stands}
 use Rattle.ceal_session.specs.State.{State, Situation, Numbers, completed, latest_work, numbers_in}
 use Rattle.ceal_session.specs.Steps.{Step, stays, refuses, block_of, made_with, made_of, with_base, with_input}
-use Rattle.ceal_session.specs.Steps.{fits_cell, set_base, set_word, set, called, called_again, run_reply, runs}
-use Rattle.ceal_session.specs.Steps.{has_no_run, asked, got, shown, call_of, answered}
+use Rattle.ceal_session.specs.Steps.{fits_cell, set_word, set, called, called_again, run_reply, runs}
+use Rattle.ceal_session.specs.Steps.{has_no_run, asked, got, shown, answered}
 use Rattle.ceal_session.specs.Steps.{answered_line}
-use Rattle.ceal_session.specs.Strangers.{AsksNumbers, Completes, LineAlike, AreOne, AreAlike, StrangerLaw}
+use Rattle.ceal_session.specs.Strangers.{AsksNumbers, LineAlike, AreOne, AreAlike, StrangerLaw}
 use Rattle.ceal_session.specs.Texts.{IsText}
 use Rattle.ceal_session.specs.Works.{call_in, reads_in, past_in, bound_in, past_left, bound_left, bound_by, first_trace}
 use Rattle.ceal_session.specs.declared.refusal.Refusal.{Refusal}
@@ -59,7 +59,7 @@ use Rattle.ceal_theory.specs.Adjust.{Extended}
 use Rattle.ceal_theory.specs.Carried.{Carried}
 use Rattle.ceal_theory.specs.Computed.{Repaired, first_of}
 use Rattle.ceal_theory.specs.Laws.{FirstOutcome, RenamedRepair}
-use Rattle.ceal_theory.specs.Pasts.{Past, NoTrace, Traced, Going, SamePast, IsPastOf, first_past, goes, left_by, next_repair, past_after, slice_of}
+use Rattle.ceal_theory.specs.Pasts.{Past, NoTrace, Traced, Going, SamePast, IsPastOf, first_past, goes, left_by, next_repair}
 use Rattle.ceal_theory.specs.Repair.{own}
 use Rattle.ceal_theory.specs.Slices.{Repair, RepairHolds, is_done}
 
