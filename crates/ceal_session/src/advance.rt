@@ -79,8 +79,7 @@ pub fn settle(journal: &mut Journal, engine: &Engine, came: &Result<Came, RunErr
     }
 }
 
-/// The reply to a line that ran, and gives this number of stale reads, if any: there was neither too little fuel nor too
-/// little memory.
+/// The reply to a line that ran within the fuel: to a part of a repair where it gives a number of reads.
 fn reply_of(reads: Option<u32>, came: Came) -> Reply
     ensures { result ≡ run_reply reads (is_more (OkOf came)) false }
 {
