@@ -1,8 +1,8 @@
 //! The tests, by public calls, of what runs and repairs: repair over whole traces (`adjust`, with `edits`), the run
 //! over nodes (`nodes`), the engine, the recorded traces (`dumps`). The engine is tested with `drive`, beside `adjust`
 //! in `side_by_side`, in slices in `in_slices` and `known`, after edits that change nothing in `idle`, and where memory
-//! is refused in `recovered`. Sessions are tested where memory is refused (`refused`), and saved (`saves`). No crate
-//! uses this one.
+//! is refused in `recovered`. Sessions are tested where memory is refused (`refused`), saved (`saves`), and by values
+//! without text (`values`). No crate uses this one.
 #![tactic(auto)]
 
 #[cfg(test)]
@@ -35,5 +35,7 @@ mod saves;
 mod side_by_side;
 #[cfg(test)]
 mod sliced;
+#[cfg(test)]
+mod values;
 #[cfg(test)]
 mod wanted;

@@ -11,3 +11,5 @@ pub mod RepliesByEntries
 pub mod ReplyAfterRun
 pub mod BoundedReplies
 pub mod KeptBound
+pub mod NumberAsPrinted
+pub mod HandleStays

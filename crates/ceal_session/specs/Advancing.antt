@@ -19,8 +19,8 @@ use Rattle.ceal_session.specs.Journal.{JournalState, settled_at, completed}
 use Rattle.ceal_session.specs.Keeping.{past_of}
 use Rattle.ceal_session.specs.Runs.{run_of, with_run, with_part}
 use Rattle.ceal_session.specs.State.{State, Situation}
+use Rattle.ceal_session.specs.Steps.{run_reply}
 use Rattle.ceal_session.specs.declared.reply.Reply.{Reply}
-use Rattle.ceal_session.specs.declared.reply.Reply.TheVariants as reply
 use Rattle.ceal_base.specs.declared.no_memory.NoMemory.{NoMemory}
 
 -- the outcome of a run or a repair
@@ -47,18 +47,11 @@ journal_behind steps j (Ok Done) = completed j
 journal_behind steps j (Ok Anew) = settled_at steps
 journal_behind steps j (Err e) = settled_at 0
 
--- the reply to a `run` or a whole `propagate`, and to a part of a repair
-abbrev pub reply_behind : Outcome → Result Reply NoMemory
-reply_behind (Ok c) = Ok reply.Ok
-reply_behind (Err OutOfFuel) = Ok reply.OutOfFuel
-reply_behind (Err Memory) = Err (record {})
-
-abbrev pub part_behind : Outcome → Result Reply NoMemory
-part_behind (Ok More) = Ok reply.More
-part_behind (Ok Done) = Ok reply.Done
-part_behind (Ok Anew) = Ok reply.Done
-part_behind (Err OutOfFuel) = Ok reply.OutOfFuel
-part_behind (Err Memory) = Err (record {})
+-- the reply, by the table of replies; there is none where there was no memory
+abbrev pub reply_after : Option ℕ → Outcome → Result Reply NoMemory
+reply_after reads (Ok c) = Ok (run_reply reads (is_more (Ok c)) false)
+reply_after reads (Err OutOfFuel) = Ok (run_reply reads false true)
+reply_after reads (Err Memory) = Err (record {})
 
 -- what the definition's slice is, by the outcome of the repair
 abbrev pub IsSliceOf : Outcome → Code → List Block → Option Repair → Type 0

@@ -1,10 +1,12 @@
 -- Laws of replies.
 use Rattle.std.specs.Prelude.{◌≡◌, ℕ, Bool, Option, Ok, List, ◌++◌}
 use Rattle.ceal_base.specs.declared.call.Call.{Call}
+use Rattle.ceal_base.specs.declared.word.Place.{Place}
 use Rattle.ceal_compile.specs.Compiled.{IsCompiled}
 use Rattle.ceal_compile.specs.declared.program.Program.{Program}
 use Rattle.ceal_script.specs.declared.command.Command.{Command}
 use Rattle.ceal_theory.specs.Pasts.{goes}
+use Rattle.ceal_session.specs.Asking.{IsCellOf}
 use Rattle.ceal_session.specs.Following.{opened, Repairs, dropped}
 use Rattle.ceal_session.specs.Replies.{Reads, Answers, Replies, Leads}
 use Rattle.ceal_session.specs.Standing.{Stands, IsIn}
@@ -85,3 +87,9 @@ abbrev pub DroppedLaw : Type 0
 DroppedLaw =
     (session m : Situation) (command : Command) (call : Call) → IsIn session m → call_of m.state command ≡ Ok call
     → IsIn (dropped session call) (dropped m call)
+
+-- A modifiable stays one after each line, so a handle stands for the same as long as its session.
+abbrev pub KeptHandleLaw : Type 0
+KeptHandleLaw =
+    (m n : Situation) (line text : List ℕ) (p : Place) → Stands m → Replies m line text n → IsCellOf m.state p
+    → IsCellOf n.state p

@@ -19,6 +19,7 @@ pub mod Entries
 pub mod Saves
 pub mod Strangers
 pub mod Bounded
+pub mod Values
 -- what its own functions say of each other
 pub mod Undoing
 pub mod Journal

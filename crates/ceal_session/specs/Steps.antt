@@ -3,7 +3,6 @@ use Rattle.std.specs.Prelude.{◌≡◌, ℕ, Bool, true, false, ◌||◌, ◌&&
 use Rattle.std.specs.Prelude.{Err, List, [], ◌∷◌, ◌++◌, map, take, slice_get, bytes_eq, if◌then◌else◌}
 use Rattle.std.specs.List.{list_any}
 use Rattle.ceal_base.specs.Block.{Block, written_at}
-use Rattle.ceal_base.specs.Finished.{Finished}
 use Rattle.ceal_base.specs.Fitting.{kind_at, fits_field, words_fit, block_fits}
 use Rattle.ceal_base.specs.declared.kind.FieldKind.{FieldKind}
 use Rattle.ceal_base.specs.declared.kind.Shape.{Shape}
@@ -134,25 +133,28 @@ abbrev pub called_again : Option Call → Result Call Refusal
 called_again None = Err C7
 called_again (Some call) = Ok call
 
-abbrev pub run_reply : Option Finished → Reply
-run_reply None = reply.OutOfFuel
-run_reply (Some f) = reply.Ok
+-- The table of replies to a line that runs. `reads` is how many stale reads it re-executes at most, where it says so,
+-- `more` whether a repair is in progress after it, and `out` whether the run from scratch is out of fuel.
+abbrev pub run_reply : Option ℕ → Bool → Bool → Reply
+run_reply None more true = reply.OutOfFuel
+run_reply None more false = reply.Ok
+run_reply (Some reads) true out = reply.More
+run_reply (Some reads) false true = reply.OutOfFuel
+run_reply (Some reads) false false = reply.Done
 
--- the run from scratch on the inputs of this moment
-abbrev pub runs : State → Result Call Refusal → Step
-runs s (Err r) = refuses s r
-runs s (Ok call) = record { reply = run_reply (run_of s call); state = with_run s call (is_none (run_of s call)) }
+-- the state after it, by the same
+abbrev pub state_after_run : State → Call → Option ℕ → Bool → Bool → State
+state_after_run s call None more out = with_run s call out
+state_after_run s call (Some reads) true out = with_part s
+state_after_run s call (Some reads) false out = with_run s call out
 
-abbrev pub part_reply : Option Finished → Reply
-part_reply None = reply.OutOfFuel
-part_reply (Some f) = reply.Done
-
--- a part of a repair: it continues, or it is completed by the run from scratch on the inputs of this moment
-abbrev pub runs_part : State → Bool → Result Call Refusal → Step
-runs_part s more (Err r) = refuses s r
-runs_part s true (Ok call) = record { reply = reply.More; state = with_part s }
-runs_part s false (Ok call) =
-    record { reply = part_reply (run_of s call); state = with_run s call (is_none (run_of s call)) }
+-- a line that runs: the run from scratch on the inputs of this moment, or a part of a repair that continues
+abbrev pub runs : State → Option ℕ → Bool → Result Call Refusal → Step
+runs s reads more (Err r) = refuses s r
+runs s reads more (Ok call) = record {
+  reply = run_reply reads more (is_none (run_of s call));
+  state = state_after_run s call reads more (is_none (run_of s call));
+}
 
 -- a question: there is a run that was not out of fuel, and no edit came after it, and no repair is pending
 abbrev pub has_no_run : State → Bool
@@ -189,9 +191,10 @@ answered s more (Mod name kind value) = made_of s name (mod_shape s kind) (value
 answered s more (New name shape values) =
     made_of s name (struct_shape (struct_named s shape)) (map (value_sense s) values)
 answered s more (Set place value) = set s (place_sense s place) (value_sense s value)
-answered s more (Run function args) = runs s (called s (function_named s function) (map (value_sense s) args))
-answered s more Propagate = runs s (called_again s.call)
-answered s more (Slice reads) = runs_part s more (called_again s.call)
+answered s more (Run function args) =
+    runs s None more (called s (function_named s function) (map (value_sense s) args))
+answered s more Propagate = runs s None more (called_again s.call)
+answered s more (Slice reads) = runs s (Some reads) more (called_again s.call)
 answered s more (Get place) = stays s (got s (place_sense s place))
 answered s more (Show name) = stays s (shown s (input_named s name))
 answered s more Blocks = stays s (asked s BlocksOf)

@@ -1,11 +1,11 @@
 // How an engine is brought forward, and what the journal and the reply are then.
 
-ghost use Rattle.std.specs.Prelude.{◌≡◌, ◌≢◌, ℕ, true, Option, Some, None, Ok as OkOf};
+ghost use Rattle.std.specs.Prelude.{◌≡◌, ◌≢◌, false, Some, None, Ok as OkOf};
 ghost use Rattle.ceal_code.specs.Fitting.{Fits};
-ghost use Rattle.ceal_engine.specs.Engine.{has_run};
 ghost use Rattle.ceal_engine.specs.declared.phase.Came.TheVariants.{Anew};
-ghost use Rattle.ceal_engine.specs.declared.phase.Phase.TheVariants.{New, Finished, Dropped};
-ghost use Rattle.ceal_session.specs.Advancing.{Brings, Brought, is_more, journal_behind, reply_behind, part_behind, with_came};
+ghost use Rattle.ceal_engine.specs.declared.phase.Phase.TheVariants.{New, Finished};
+ghost use Rattle.ceal_session.specs.Advancing.{Brings, Brought, is_more, journal_behind, reply_after, with_came};
+ghost use Rattle.ceal_session.specs.Steps.{run_reply};
 
 use crate::journal::Journal;
 use crate::reply::Reply;
@@ -29,39 +29,14 @@ pub fn first_advanced(engine: &mut Engine, call: &Call) -> Result<Came, RunError
     requires fits { Fits engine.old.code engine.old.inputs call.now.function call.now.args }
     ensures brings { Brings engine.old call.now None result engine.new }
 {
-    // for the proof: it is an engine before and after, by the clause `whole`
-    let _before = engine.phase();
+    // for the proof: it is an engine, by the clause `whole`
+    let _phase = engine.phase();
     let outcome = engine.run(call.function, call.args.items());
-    let _after = engine.phase();
     came_anew(outcome)
 }
 
-/// A run that is dropped is run again.
-fn run_anew(engine: &mut Engine) -> Result<Came, RunError>
-    requires dropped { engine.old.phase ≡ Dropped }
-    ensures brings { (reads : Option ℕ) → Brought engine.old reads result engine.new }
-{
-    // for the proof: it is an engine before and after, by the clause `whole`
-    let _before = engine.phase();
-    let outcome = engine.propagate();
-    let _after = engine.phase();
-    came_anew(outcome)
-}
-
-/// What is left of a repair, or that many stale reads of it.
-fn continued(engine: &mut Engine, reads: Option<u32>) -> Result<Came, RunError>
-    requires run { has_run engine.old.phase ≡ true }
-    requires some { reads ≢ Some 0 }
-    ensures brings { Brought engine.old reads result engine.new }
-{
-    // for the proof: it is an engine before and after, by the clause `whole`
-    let _before = engine.phase();
-    let came = engine.advance(reads);
-    let _after = engine.phase();
-    came
-}
-
-/// The accepted call on the present inputs: a repair re-executes that many stale reads, or all of them.
+/// The accepted call on the present inputs: a run that was dropped is run again, and a repair re-executes `reads` stale
+/// reads, or all of them.
 pub fn advanced(engine: &mut Engine, reads: Option<u32>) -> Result<Came, RunError>
     requires called { engine.old.phase ≡ New → ⊥ }
     requires some { reads ≢ Some 0 }
@@ -69,13 +44,17 @@ pub fn advanced(engine: &mut Engine, reads: Option<u32>) -> Result<Came, RunErro
 {
     match engine.phase() {
         Phase::New => unreachable!(),
-        Phase::Finished => continued(engine, reads),
-        Phase::Pending => continued(engine, reads),
-        Phase::Partial => continued(engine, reads),
-        Phase::Dropped => run_anew(engine),
+        Phase::Finished => engine.advance(reads),
+        Phase::Pending => engine.advance(reads),
+        Phase::Partial => engine.advance(reads),
+        Phase::Dropped => {
+            let outcome = engine.propagate();
+            came_anew(outcome)
+        }
     }
 }
 
+/// Whether a repair is in progress.
 pub fn goes_on(came: &Result<Came, RunError>) -> bool
     ensures { result ≡ is_more came.now }
 {
@@ -100,25 +79,24 @@ pub fn settle(journal: &mut Journal, engine: &Engine, came: &Result<Came, RunErr
     }
 }
 
-/// The reply to a `run` or a whole `propagate` that came out so.
-pub fn whole_reply(came: &Result<Came, RunError>) -> Result<Reply, NoMemory>
-    ensures { result ≡ reply_behind came.now }
+/// The reply to a line that ran within the fuel: to a part of a repair where it gives a number of reads.
+fn reply_of(reads: Option<u32>, came: Came) -> Reply
+    ensures { result ≡ run_reply reads (is_more (OkOf came)) false }
 {
-    match came {
-        Ok(_) => Ok(Reply::Ok),
-        Err(RunError::OutOfFuel) => Ok(Reply::OutOfFuel),
-        Err(RunError::Memory) => Err(NoMemory),
+    match (reads, came) {
+        (None, _) => Reply::Ok,
+        (Some(_), Came::More) => Reply::More,
+        (Some(_), Came::Done) => Reply::Done,
+        (Some(_), Came::Anew) => Reply::Done,
     }
 }
 
-/// The reply to a part of a repair that came out so.
-pub fn part_reply(came: &Result<Came, RunError>) -> Result<Reply, NoMemory>
-    ensures { result ≡ part_behind came.now }
+/// The reply to a line that runs, by its outcome.
+pub fn reply_to(reads: Option<u32>, outcome: Result<Came, RunError>) -> Result<Reply, NoMemory>
+    ensures { result ≡ reply_after reads outcome }
 {
-    match came {
-        Ok(Came::More) => Ok(Reply::More),
-        Ok(Came::Done) => Ok(Reply::Done),
-        Ok(Came::Anew) => Ok(Reply::Done),
+    match outcome {
+        Ok(came) => Ok(reply_of(reads, came)),
         Err(RunError::OutOfFuel) => Ok(Reply::OutOfFuel),
         Err(RunError::Memory) => Err(NoMemory),
     }

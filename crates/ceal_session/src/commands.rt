@@ -1,6 +1,6 @@
 // What a command is answered, and the state after it.
 
-ghost use Rattle.std.specs.Prelude.{◌≡◌, ◌≤◌, [], ◌∷◌, Some, None, IfOk, OnOk, OnErr, map};
+ghost use Rattle.std.specs.Prelude.{◌≡◌, ◌≢◌, [], ◌∷◌, Some, None, IfOk, OnOk, OnErr, map};
 ghost use Rattle.ceal_script.specs.Spelling.{IsName};
 ghost use Rattle.ceal_session.specs.Asking.{HasReads};
 ghost use Rattle.ceal_session.specs.Following.{Keeps, Goes, IsLeftBy};
@@ -8,7 +8,7 @@ ghost use Rattle.ceal_session.specs.Keeping.{situation};
 ghost use Rattle.ceal_session.specs.Naming.{IsNamed};
 ghost use Rattle.ceal_session.specs.Senses.{mod_shape as shape_of_mod, struct_shape as shape_of_struct, struct_named};
 ghost use Rattle.ceal_session.specs.Senses.{function_named, value_sense as sense_of_value};
-ghost use Rattle.ceal_session.specs.Steps.{IsQuiet, IsFirst, runs, runs_part, called, called_again, call_of, reads_of};
+ghost use Rattle.ceal_session.specs.Steps.{IsQuiet, IsFirst, runs, called, called_again, call_of, reads_of};
 ghost use Rattle.ceal_session.specs.Steps.{made_of, answered};
 ghost use Rattle.ceal_theory.specs.Pasts.{goes};
 
@@ -86,7 +86,8 @@ fn make_block(
 fn start(state: &mut State, call: Result<Call, Refusal>) -> Result<Reply, NoMemory>
     requires { IfOk call (λ call. IsFirst state.old.state call) }
     ensures ok { IfOk result
-        (λ reply. record { reply = reply; state = state.new.state } ≡ runs state.old.state call) }
+        (λ reply. record { reply = reply; state = state.new.state }
+        ≡ runs state.old.state None (goes (situation state.new).past) call) }
     ensures quiet { IfOk result (λ reply. IsQuiet reply → state.new ≡ state.old) }
     ensures trace { OnOk result
         (Goes (situation state.old) call None (situation state.new)) }
@@ -107,7 +108,7 @@ fn start_first(
 ) -> Result<Reply, NoMemory>
     ensures ok { IfOk result
         (λ reply. record { reply = reply; state = state.new.state }
-        ≡ runs state.old.state
+        ≡ runs state.old.state None (goes (situation state.new).past)
         (called state.old.state (function_named state.old.state function.now)
         (map (sense_of_value state.old.state) args.now))) }
     ensures quiet { IfOk result (λ reply. IsQuiet reply → state.new ≡ state.old) }
@@ -125,34 +126,16 @@ fn start_first(
     start(state, call)
 }
 
-/// `propagate`
-fn start_again(state: &mut State) -> Result<Reply, NoMemory>
+/// `propagate`, and `propagate READS`
+fn start_again(state: &mut State, reads: Option<u32>) -> Result<Reply, NoMemory>
+    requires { reads ≢ Some 0 }
     ensures ok { IfOk result
         (λ reply. record { reply = reply; state = state.new.state }
-        ≡ runs state.old.state (called_again state.old.state.call)) }
-    ensures quiet { IfOk result (λ reply. IsQuiet reply → state.new ≡ state.old) }
-    ensures trace { OnOk result
-        (Goes (situation state.old) (called_again state.old.state.call) None
-        (situation state.new)) }
-    ensures err { OnErr result
-        (IsLeftBy (situation state.old) (called_again state.old.state.call) (situation state.new)) }
-{
-    if !state.has_call() {
-        return Ok(Reply::Refused(Refusal::C7));
-    }
-    state.propagate()
-}
-
-/// `propagate READS`
-fn start_part(state: &mut State, reads: u32) -> Result<Reply, NoMemory>
-    requires { 1 ≤ reads }
-    ensures ok { IfOk result
-        (λ reply. record { reply = reply; state = state.new.state }
-        ≡ runs_part state.old.state (goes (situation state.new).past)
+        ≡ runs state.old.state reads (goes (situation state.new).past)
         (called_again state.old.state.call)) }
     ensures quiet { IfOk result (λ reply. IsQuiet reply → state.new ≡ state.old) }
     ensures trace { OnOk result
-        (Goes (situation state.old) (called_again state.old.state.call) (Some reads)
+        (Goes (situation state.old) (called_again state.old.state.call) reads
         (situation state.new)) }
     ensures err { OnErr result
         (IsLeftBy (situation state.old) (called_again state.old.state.call) (situation state.new)) }
@@ -160,7 +143,7 @@ fn start_part(state: &mut State, reads: u32) -> Result<Reply, NoMemory>
     if !state.has_call() {
         return Ok(Reply::Refused(Refusal::C7));
     }
-    state.propagate_part(reads)
+    state.propagate(reads)
 }
 
 /// The reply to a command. Where there is no memory, the state is as before, or as after a run that was out of fuel.
@@ -194,8 +177,8 @@ pub fn reply_to(alloc: Global, state: &mut State, command: &Command) -> Result<R
             )
         }
         Command::Run { function, args } => { start_first(alloc, state, function, args.items()) }
-        Command::Propagate => start_again(state),
-        Command::Slice { reads } => start_part(state, *reads),
+        Command::Propagate => start_again(state, None),
+        Command::Slice { reads } => start_again(state, Some(*reads)),
         Command::Get { place } => Ok(get(state, place_sense(state, place)?)),
         Command::Show { name } => Ok(show(state, state.input(name))),
         Command::Blocks => Ok(ask(state, Query::Blocks)),

@@ -3,6 +3,7 @@
 ghost use Rattle.ceal_session.specs.Bounded.{BoundedLaw};
 ghost use Rattle.ceal_session.specs.Laws.{OneCommandLaw, OneAnswerLaw, OneReplyLaw, OneStateLaw, OneScriptLaw};
 ghost use Rattle.ceal_session.specs.Laws.{JoinedLaw, BegunLaw, SomeReplyLaw, SomeScriptLaw, DroppedLaw, KeptLaw};
+ghost use Rattle.ceal_session.specs.Laws.{KeptHandleLaw};
 ghost use Rattle.ceal_session.specs.Entries.{EntriesLaw, OneTextLaw};
 ghost use Rattle.ceal_session.specs.Saves.{AlikeLaw, HeldLaw, OneSavedLaw, ResavedLaw, ResumedLaw, SavedLaw};
 ghost use Rattle.ceal_session.specs.Strangers.{StrangerLaw};
@@ -126,4 +127,14 @@ pub fn stranger_law()
     ceal_show::laws::some_text();
     one_reply();
     alike_law();
+}
+
+/// A law: a modifiable stays one after each line, so a handle stands for the same as long as its session.
+pub fn kept_handle()
+    ensures law { KeptHandleLaw }
+{
+    ceal_code::laws::progress_law();
+    ceal_script::line::command_or_none();
+    ceal_show::laws::fitting_is_whole();
+    ceal_show::laws::some_text();
 }

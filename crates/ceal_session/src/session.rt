@@ -1,28 +1,38 @@
 // A session.
 
-ghost use Rattle.std.specs.Prelude.{◌≡◌, ◌<◌, ◌↔◌, length, IfOk, OnOk, OnErr, IfSome, IsErrOf, IsTrue, MatchOption};
+ghost use Rattle.std.specs.Fmt.{signed_decimal};
+ghost use Rattle.std.specs.Prelude.{◌≡◌, ◌<◌, ◌++◌, ◌↔◌, Bool, Option, length, codes, IfOk, OnOk, OnErr, IfSome, IsErrOf};
+ghost use Rattle.std.specs.Prelude.{IsTrue, MatchOption};
+ghost use Rattle.ceal_base.specs.declared.word.Word.TheVariants.{Num};
 ghost use Rattle.ceal_compile.specs.Compiled.{IsCompiled};
+ghost use Rattle.ceal_script.specs.declared.command.Command.{Command as CommandOf};
 ghost use Rattle.ceal_session.specs.Answering.{HasReply};
 ghost use Rattle.ceal_session.specs.Asking.{CanTell, IsReady};
-ghost use Rattle.ceal_session.specs.Following.{IsAllowed, opened, Repairs, Bounds, IsLeft};
+ghost use Rattle.ceal_session.specs.Following.{IsAllowed, opened, Keeps, Repairs, Bounds, IsLeft};
 ghost use Rattle.ceal_session.specs.Keeping.{IsTied, situation};
 ghost use Rattle.ceal_session.specs.Naming.{AreSpelled};
 ghost use Rattle.ceal_session.specs.Recording.{IsRecorded};
-ghost use Rattle.ceal_session.specs.Replies.{Answers};
+ghost use Rattle.ceal_session.specs.Replies.{Answers, Reads};
 ghost use Rattle.ceal_session.specs.Saving.{Holding, IsResumed, IsSaved};
-ghost use Rattle.ceal_session.specs.Steps.{IsQuiet};
+ghost use Rattle.ceal_session.specs.Steps.{IsQuiet, refuses, set};
 ghost use Rattle.ceal_session.specs.Texts.{IsText};
 ghost use Rattle.ceal_session.specs.State.{numbers_in};
+ghost use Rattle.ceal_session.specs.Values.{handle_of_command, sense_of_handle, Gives, IfRefused};
+ghost use Rattle.ceal_session.specs.Values.{number_of_sense, number_of_command};
+ghost use Rattle.ceal_session.specs.declared.sense.Sense.TheVariants.{Word as IsWord};
 ghost use Rattle.ceal_theory.specs.Pasts.{goes};
 
 use crate::answer::Answer;
 use crate::commands::reply_to;
+use crate::handle::Handle;
 use crate::refusal::{Refusal, text as refusal_line};
 use crate::reply::Reply;
 use crate::restore::restored;
 use crate::saving::saved;
 use crate::state::State;
 use crate::texts::answer as told;
+use crate::value_error::ValueError;
+use crate::values::{find_handle, number_at, number_of_name, set_number};
 use ceal_base::no_memory::NoMemory;
 use ceal_base::recorded::Record;
 use ceal_base::text::Text;
@@ -218,6 +228,52 @@ impl Session {
         let ready = prepare(self.alloc)?;
         let answer = self.answer(line)?;
         text(self.alloc, &answer, ready)
+    }
+
+    /// The handle of a modifiable, by what a line `get` says of it: the name of one that `mod` made, or the name of
+    /// an input and a field, as `cell.next`. It is refused as C1 if the name spells neither, as C2 if it names
+    /// nothing, and as C4 if it names no modifiable.
+    pub fn handle(&self, name: &[u8]) -> Result<Handle, ValueError>
+        ensures found { (command : Option CommandOf) → Reads (codes "get " ++ name.now) command
+            → Gives result (handle_of_command self.now.state command) }
+    {
+        find_handle(self.alloc, &self.state, name)
+    }
+
+    /// The number that a modifiable holds: the one that `get` would print, or why `get` would be refused. If the
+    /// modifiable holds a pointer, it is refused as C4, too.
+    pub fn number_at(&self, handle: Handle) -> Result<i64, Refusal>
+        ensures number { result
+            ≡ number_of_sense self.now.state (sense_of_handle self.now.state handle) }
+    {
+        number_at(&self.state, handle)
+    }
+
+    /// The same by the name that a line `get` says.
+    pub fn number(&self, name: &[u8]) -> Result<i64, ValueError>
+        ensures number { (command : Option CommandOf) → Reads (codes "get " ++ name.now) command
+            → Gives result (number_of_command self.now.state command) }
+        ensures printed { IfOk result
+            (λ n. (more : Bool) → Answers self.now.state
+            (numbers_in (situation self.now)) more (codes "get " ++ name.now)
+            (signed_decimal n ++ codes "\n") self.now.state) }
+    {
+        number_of_name(self.alloc, &self.state, name)
+    }
+
+    /// Gives a modifiable another base, as a line `set` with this number does, or tells why that would be refused.
+    /// After an error nothing has changed.
+    pub fn set_number(&mut self, handle: Handle, number: i64) -> Result<(), ValueError>
+        ensures set { OnOk result
+            (record { reply = Reply.Ok; state = self.new.state }
+            ≡ set self.old.state (sense_of_handle self.old.state handle) (IsWord (Num number))) }
+        ensures refused { IfRefused result
+            (λ r. refuses self.old.state r
+            ≡ set self.old.state (sense_of_handle self.old.state handle) (IsWord (Num number))) }
+        ensures trace { OnOk result (Keeps (situation self.old) (situation self.new)) }
+        ensures err { OnErr result (self.new ≡ self.old) }
+    {
+        set_number(&mut self.state, handle, number)
     }
 
     /// Whether questions are answered: there is a run that ended within the fuel, and neither an edit nor a repair is

@@ -1,6 +1,6 @@
 // The state between two lines.
 
-ghost use Rattle.std.specs.Prelude.{◌≡◌, ◌≢◌, ◌≤◌, ◌<◌, true, false, Some, None, Ok as OkOf, length, is_some, bytes_eq};
+ghost use Rattle.std.specs.Prelude.{◌≡◌, ◌≢◌, ◌<◌, true, false, Some, None, Ok as OkOf, length, is_some, bytes_eq};
 ghost use Rattle.std.specs.Prelude.{IfOk, IfSome, OnOk, OnErr};
 ghost use Rattle.std.specs.List.{list_any};
 ghost use Rattle.ceal_base.specs.Fitting.{block_fits, kind_at};
@@ -15,11 +15,11 @@ ghost use Rattle.ceal_session.specs.Naming.{AreSpelled};
 ghost use Rattle.ceal_session.specs.Runs.{memory_of};
 ghost use Rattle.ceal_session.specs.Senses.{input_named, struct_named, function_named};
 ghost use Rattle.ceal_session.specs.Steps.{IsFirst, with_input, with_base, block_of, fits_cell, has_no_run, runs};
-ghost use Rattle.ceal_session.specs.Steps.{runs_part, called_again};
+ghost use Rattle.ceal_session.specs.Steps.{called_again};
 ghost use Rattle.ceal_session.specs.Standing.{HasTrace};
 ghost use Rattle.ceal_theory.specs.Pasts.{goes};
 
-use crate::advance::{advanced, first_advanced, goes_on, part_reply, settle, whole_reply};
+use crate::advance::{advanced, first_advanced, goes_on, reply_to, settle};
 use crate::journal::{Journal, base_of};
 use crate::reply::Reply;
 use ceal_base::call::Call;
@@ -298,49 +298,33 @@ impl State {
         requires { IsFirst self.old.state call.now }
         ensures ok { IfOk result
             (λ reply. record { reply = reply; state = self.new.state }
-            ≡ runs self.old.state (OkOf call.now)) }
+            ≡ runs self.old.state None (goes (situation self.new).past) (OkOf call.now)) }
         ensures trace { OnOk result
             (Goes (situation self.old) (OkOf call.now) None (situation self.new)) }
         ensures err { OnErr result
             (IsLeftBy (situation self.old) (OkOf call.now) (situation self.new)) }
     {
-        let came = self.start(call);
-        whole_reply(&came)
+        let outcome = self.start(call);
+        reply_to(None, outcome)
     }
 
-    /// The run of the accepted call on the present inputs.
-    pub fn propagate(&mut self) -> Result<Reply, NoMemory>
-        requires { is_some self.old.state.call ≡ true }
-        ensures ok { IfOk result
-            (λ reply. record { reply = reply; state = self.new.state }
-            ≡ runs self.old.state (called_again self.old.state.call)) }
-        ensures trace { OnOk result
-            (Goes (situation self.old) (called_again self.old.state.call) None
-            (situation self.new)) }
-        ensures err { OnErr result
-            (IsLeftBy (situation self.old) (called_again self.old.state.call)
-            (situation self.new)) }
-    {
-        let came = self.advance(None);
-        whole_reply(&came)
-    }
-
-    /// A part of it: at most `reads` stale reads are re-executed, each with all that is inside it.
-    pub fn propagate_part(&mut self, reads: u32) -> Result<Reply, NoMemory>
+    /// The run of the accepted call on the present inputs, or a part of its repair: at most `reads` stale reads are
+    /// re-executed, each with all that is inside it.
+    pub fn propagate(&mut self, reads: Option<u32>) -> Result<Reply, NoMemory>
         requires called { is_some self.old.state.call ≡ true }
-        requires some { 1 ≤ reads }
+        requires some { reads ≢ Some 0 }
         ensures ok { IfOk result
             (λ reply. record { reply = reply; state = self.new.state }
-            ≡ runs_part self.old.state (goes (situation self.new).past)
+            ≡ runs self.old.state reads (goes (situation self.new).past)
             (called_again self.old.state.call)) }
         ensures trace { OnOk result
-            (Goes (situation self.old) (called_again self.old.state.call) (Some reads)
+            (Goes (situation self.old) (called_again self.old.state.call) reads
             (situation self.new)) }
         ensures err { OnErr result
             (IsLeftBy (situation self.old) (called_again self.old.state.call)
             (situation self.new)) }
     {
-        let came = self.advance(Some(reads));
-        part_reply(&came)
+        let outcome = self.advance(reads);
+        reply_to(reads, outcome)
     }
 }

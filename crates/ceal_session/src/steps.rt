@@ -2,10 +2,12 @@
 
 ghost use Rattle.std.specs.Prelude.{◌≡◌, Some, false, slice_get, IfOk, OnOk, OnErr, bytes_eq};
 ghost use Rattle.std.specs.List.{list_any};
+ghost use Rattle.ceal_base.specs.Fitting.{kind_at};
 ghost use Rattle.ceal_script.specs.Spelling.{IsName};
 ghost use Rattle.ceal_session.specs.Asking.{IsCellOf, IsCellSense};
 ghost use Rattle.ceal_session.specs.Following.{Keeps};
 ghost use Rattle.ceal_session.specs.Keeping.{situation};
+ghost use Rattle.ceal_session.specs.Runs.{memory_of};
 ghost use Rattle.ceal_session.specs.Senses.{function_named};
 ghost use Rattle.ceal_session.specs.Steps.{IsQuiet, made, made_of, made_with, set as set_of, set_base as based};
 ghost use Rattle.ceal_session.specs.Steps.{fits_function, called_with, called_function, called as called_of, asked};
@@ -104,6 +106,18 @@ fn fits(state: &State, kind: Option<FieldKind>, word: Word) -> bool
     }
 }
 
+/// Whether a word fits the modifiable at a place.
+pub fn fits_place(state: &State, place: Place, word: Word) -> bool
+    ensures { result ≡ fits_cell state.now.state
+        (kind_at state.now.state.program.structs (memory_of state.now.state) place) word }
+{
+    fits(
+        state,
+        place_kind(state.structs(), state.inputs(), place),
+        word,
+    )
+}
+
 /// Another base for a modifiable, where the word fits it.
 fn set_base(state: &mut State, place: Place, word: Word) -> Result<Reply, NoMemory>
     requires { IsCellOf state.old.state place }
@@ -114,8 +128,7 @@ fn set_base(state: &mut State, place: Place, word: Word) -> Result<Reply, NoMemo
     ensures trace { OnOk result (Keeps (situation state.old) (situation state.new)) }
     ensures err { OnErr result (state.new ≡ state.old) }
 {
-    let kind = place_kind(state.structs(), state.inputs(), place);
-    if !fits(state, kind, word) {
+    if !fits_place(state, place, word) {
         return Ok(Reply::Refused(Refusal::C4));
     }
     state.set_base(place, word)?;

@@ -13,7 +13,7 @@ use Rattle.ceal_session.specs.Replies.{Replies, Leads}
 use Rattle.ceal_session.specs.Runs.{memory_of}
 use Rattle.ceal_session.specs.Senses.{place_sense, value_sense, is_unknown, words_of, mod_shape, struct_shape, struct_named, function_named}
 use Rattle.ceal_session.specs.State.{State, Situation}
-use Rattle.ceal_session.specs.Steps.{Step, answered_line, block_of, called, called_again, fits_cell, made_of, made, made_with, runs, runs_part, set, set_word}
+use Rattle.ceal_session.specs.Steps.{Step, answered_line, block_of, called, called_again, fits_cell, made_of, made, made_with, runs, set, set_word}
 use Rattle.ceal_session.specs.Works.{past_in}
 use Rattle.ceal_session.specs.declared.refusal.Refusal.{Refusal}
 use Rattle.ceal_session.specs.declared.sense.Sense.{Sense}
@@ -57,16 +57,12 @@ set-keeps : (s : State) (place value : Sense) → Keeps s (set s place value).st
 unfolding Keeps
 set-keeps s place value = by-test s (is_unknown place || is_unknown value) _ _ (refl, refl) (set-word-keeps s place value)
 
-runs-keeps : (s : State) (r : Result Call Refusal) → Keeps s (runs s r).state
+runs-keeps : (s : State) (reads : Option ℕ) (more : Bool) (r : Result Call Refusal) → Keeps s (runs s reads more r).state
 unfolding Keeps
-runs-keeps s (Err r) = (refl, refl)
-runs-keeps s (Ok call) = (refl, refl)
-
-part-keeps : (s : State) (more : Bool) (r : Result Call Refusal) → Keeps s (runs_part s more r).state
-unfolding Keeps
-part-keeps s more (Err r) = (refl, refl)
-part-keeps s true (Ok call) = (refl, refl)
-part-keeps s false (Ok call) = (refl, refl)
+runs-keeps s reads more (Err r) = (refl, refl)
+runs-keeps s None more (Ok call) = (refl, refl)
+runs-keeps s (Some n) true (Ok call) = (refl, refl)
+runs-keeps s (Some n) false (Ok call) = (refl, refl)
 
 answer-keeps : (s : State) (more : Bool) (c : Option Command) → Keeps s (answered_line s more c).state
 unfolding Keeps
@@ -75,9 +71,9 @@ answer-keeps s more (Some Blank) = (refl, refl)
 answer-keeps s more (Some (Mod name kind value)) = made-of-keeps s name (mod_shape s kind) (value_sense s value ∷ [])
 answer-keeps s more (Some (New name shape values)) = made-of-keeps s name (struct_shape (struct_named s shape)) (map (value_sense s) values)
 answer-keeps s more (Some (Set place value)) = set-keeps s (place_sense s place) (value_sense s value)
-answer-keeps s more (Some (Run function args)) = runs-keeps s (called s (function_named s function) (map (value_sense s) args))
-answer-keeps s more (Some Propagate) = runs-keeps s (called_again s.call)
-answer-keeps s more (Some (Slice reads)) = part-keeps s more (called_again s.call)
+answer-keeps s more (Some (Run function args)) = runs-keeps s None more (called s (function_named s function) (map (value_sense s) args))
+answer-keeps s more (Some Propagate) = runs-keeps s None more (called_again s.call)
+answer-keeps s more (Some (Slice reads)) = runs-keeps s (Some reads) more (called_again s.call)
 answer-keeps s more (Some (Get place)) = (refl, refl)
 answer-keeps s more (Some (Show name)) = (refl, refl)
 answer-keeps s more (Some Blocks) = (refl, refl)

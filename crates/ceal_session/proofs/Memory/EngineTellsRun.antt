@@ -30,6 +30,7 @@ use Rattle.ceal_session.specs.Runs.{present_run}
 use Rattle.ceal_session.specs.Shown.{seen, label}
 use Rattle.ceal_session.specs.State.{State, Numbers, completed, latest_work, numbers_in}
 use Rattle.ceal_session.specs.Texts.{block_text, value_text, TellsOf}
+use Rattle.ceal_session.specs.Values.{number_of_word, number_after}
 use Rattle.ceal_session.specs.declared.reply.Query.TheVariants.{Show, Work, Bound}
 use Rattle.std.specs.Fmt.{decimal}
 use Rattle.std.specs.Prelude.{◌++◌, codes}
@@ -65,6 +66,12 @@ same-value s bs (Num n) = refl
 same-value s bs Null = refl
 same-value s bs (BlockWord b) = same-name s bs b
 same-value s bs (At p) = same-name s bs p.block
+
+same-number : (bs : List ℕ) (w : Word) → number_of_word (renamed_word bs w) ≡ number_of_word w
+same-number bs (Num n) = refl
+same-number bs Null = refl
+same-number bs (BlockWord b) = refl
+same-number bs (At p) = refl
 
 pub whole-engine : (e : EngineState) → IsEngine e → e.phase ≡ IsFinished → FittingLaw → IsWhole e.code.structs (stored_at e.memory)
 whole-engine e k fin fitting = let g = k.present fin in whole-store e g.run g.is e.code.structs (fitting e.code.structs g.run.memory g.is.fits)
@@ -115,6 +122,16 @@ module _ (p : Typed) (names : List (List ℕ)) (e : EngineState) (j : JournalSta
   pub told-content : (place : Place) (w : Word) → IsCellOf state place → w ≡ word_in (stored_at e.memory place.block) place.field Null
       → content_text state place (present_run state) ≡ Some (value_text state w)
   told-content place w cell i = ap (content_text state place) has.fresh ∙ ap Some (content-at place.block place.field cell ∙ ap (value_text state) (sym i))
+
+  number-at : (b : BlockId) (field : ℕ) → IsCellOf state (record { block = b; field = field })
+      → number_of_word (content_of has.run.memory (At (record { block = b; field = field })) Null) ≡ number_of_word (word_in (stored_at e.memory b) field Null)
+  number-at (Input n) field cell =
+      ap number_of_word (content-renamed e has.run has.is n field) ∙ same-number has.is.numbers (word_in (stored_at e.memory (Input n)) field Null)
+  number-at (Core n) field cell = absurd (grind (arith, cell))
+
+  pub told-value : (place : Place) (w : Word) → IsCellOf state place → w ≡ word_in (stored_at e.memory place.block) place.field Null
+      → number_of_word w ≡ number_after place (present_run state)
+  told-value place w cell i = ap number_of_word i ∙ (sym (number-at place.block place.field cell) ∙ ap (number_after place) (sym has.fresh))
 
   pub whole-seen : FittingLaw → IsWhole e.code.structs (seen e)
   whole-seen fitting = subst (IsWhole e.code.structs) (sym (seen-same e finished)) (whole-engine e k finished fitting)

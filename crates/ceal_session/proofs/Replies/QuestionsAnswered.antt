@@ -1,12 +1,11 @@
 -- Which questions are answered, and about what.
 use Rattle.std.proofs.Common.{◌≡◌, ℕ, ◌<◌, ◌||◌, Bool, true, false, Option, Some, None, Result, Ok, Err, List, [], ◌∷◌}
-use Rattle.std.proofs.Common.{length, map, is_some, if◌then◌else◌, position, refl, ap, subst, slice_get, arith}
+use Rattle.std.proofs.Common.{length, map, is_none, is_some, if◌then◌else◌, position, refl, ap, subst, slice_get, arith}
 use Rattle.std.specs.List.{list_any}
 use Rattle.std.specs.Option.{option_map}
 use Rattle.std.specs.Prelude.{bytes_eq}
 use Rattle.std.proofs.lemmas.Option.{slice_get-map}
 use Rattle.ceal_base.specs.Block.{Block}
-use Rattle.ceal_base.specs.Finished.{Finished}
 use Rattle.ceal_base.specs.Fitting.{kind_in, kind_at, block_fits}
 use Rattle.ceal_base.specs.Shapes.{field_kinds, kind_of_field}
 use Rattle.ceal_base.specs.declared.kind.FieldKind.{FieldKind}
@@ -33,7 +32,7 @@ use Rattle.ceal_session.specs.Senses.{function_named}
 use Rattle.ceal_session.specs.State.{State}
 use Rattle.ceal_session.specs.Steps.{Step, refuses, made_with, made_of, fits_cell, set_word, set, fits_function}
 use Rattle.ceal_session.specs.Steps.{IsFirst, called_with, called_function, called, called_again, run_reply, runs}
-use Rattle.ceal_session.specs.Steps.{part_reply, runs_part, has_no_run, asked, got, shown, answered, block_of}
+use Rattle.ceal_session.specs.Steps.{has_no_run, asked, got, shown, answered, block_of}
 use Rattle.ceal_session.specs.declared.refusal.Refusal.{Refusal}
 use Rattle.ceal_session.specs.declared.refusal.Refusal.TheVariants.{C2, C3, C4, C5, C6, C7, C8}
 use Rattle.ceal_session.specs.declared.reply.Query.{Query}
@@ -126,22 +125,16 @@ module _ (s : State) where
   set-tells : (place value : Sense) → Tells s (set s place value)
   set-tells place value = either s (is_unknown place || is_unknown value) (refuses s C2) _ tt (set-word-tells place value)
 
-  runs-tells : (r : Result Call Refusal) → Tells s (runs s r)
-  runs-tells (Err r) = tt
-  runs-tells (Ok call) = go (run_of s call)
+  runs-tells : (reads : Option ℕ) (more : Bool) (r : Result Call Refusal) → Tells s (runs s reads more r)
+  runs-tells reads more (Err r) = tt
+  runs-tells reads more (Ok call) = go reads more (is_none (run_of s call))
     where
-      go : (o : Option Finished) → CanTell s (run_reply o)
-      go None = tt
-      go (Some f) = tt
-
-  part-tells : (more : Bool) (r : Result Call Refusal) → Tells s (runs_part s more r)
-  part-tells more (Err r) = tt
-  part-tells true (Ok call) = tt
-  part-tells false (Ok call) = go (run_of s call)
-    where
-      go : (o : Option Finished) → CanTell s (part_reply o)
-      go None = tt
-      go (Some f) = tt
+      go : (reads : Option ℕ) (more out : Bool) → CanTell s (run_reply reads more out)
+      go None more true = tt
+      go None more false = tt
+      go (Some n) true out = tt
+      go (Some n) false true = tt
+      go (Some n) false false = tt
 
   asked-tells : (q : Query) → IsFor s q → CanTell s (asked s q)
   asked-tells q h = go (has_no_run s) s.pending refl refl
@@ -168,9 +161,9 @@ module _ (s : State) where
   can-tell more c (Mod name kind value) = made-tells name (mod_shape s kind) (value_sense s value ∷ [])
   can-tell more c (New name shape values) = made-tells name (struct_shape (struct_named s shape)) (map (value_sense s) values)
   can-tell more c (Set place value) = set-tells (place_sense s place) (value_sense s value)
-  can-tell more c (Run function args) = runs-tells (called s (function_named s function) (map (value_sense s) args))
-  can-tell more c Propagate = runs-tells (called_again s.call)
-  can-tell more c (Slice reads) = part-tells more (called_again s.call)
+  can-tell more c (Run function args) = runs-tells None more (called s (function_named s function) (map (value_sense s) args))
+  can-tell more c Propagate = runs-tells None more (called_again s.call)
+  can-tell more c (Slice reads) = runs-tells (Some reads) more (called_again s.call)
   can-tell more c (Get place) = got-tells (place_sense s place) (cell-sense s place)
   can-tell more c (Show name) = shown-tells c name (input_named s name) refl
   can-tell more c Blocks = asked-tells BlocksOf tt

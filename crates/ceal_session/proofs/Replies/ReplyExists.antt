@@ -55,7 +55,7 @@ use Rattle.ceal_session.specs.Standing.{IsRepairIn, IsPastIn, Stands}
 use Rattle.ceal_session.specs.State.{State, Situation, numbers_in}
 use Rattle.ceal_session.specs.Steps.{Step, stays, refuses, with_input, block_of, made_with, made_of, with_base}
 use Rattle.ceal_session.specs.Steps.{fits_cell, set_word, set, is_call_of, IsCall, called, called_again, run_reply}
-use Rattle.ceal_session.specs.Steps.{runs, part_reply, runs_part, call_of, answered, answered_line}
+use Rattle.ceal_session.specs.Steps.{runs, call_of, answered, answered_line}
 use Rattle.ceal_session.specs.Texts.{input_name, TellsOf, IsText}
 use Rattle.ceal_session.specs.Works.{call_in, past_in, past_left, bound_in}
 use Rattle.ceal_theory.proofs.Store.MoreInputs.{inputs-law}
@@ -381,18 +381,18 @@ module _ (progress : ProgressLaw) (line_law : LineLaw) (whole_law : WholeLaw) (t
     ran-moves call out = record { called = λ c e. ap Some (cc e); inputs = λ c e. refl; same_call = λ r e. absurd (grind (arith, e)) }
 
     -- a completed run, or one that is out of fuel
-    module _ (call : Call) (a : Accepted s call) (reads : Option ℕ) (reply : Option Finished → Reply) (text : Option Finished → List ℕ)
-        (is : (o : Option Finished) → IsText s (numbers_in m) (reply o) (text o)) where
+    module _ (call : Call) (a : Accepted s call) (reads : Option ℕ) (reply : Bool → Reply) (text : Bool → List ℕ)
+        (is : (out : Bool) → IsText s (numbers_in m) (reply out) (text out)) where
       abbrev fits : Fits code s.inputs call.function call.args
       fits = fits-call call a.is
 
       abbrev step : Step
-      step = record { reply = reply (run_of s call); state = with_run s call (is_none (run_of s call)) }
+      step = record { reply = reply (is_none (run_of s call)); state = with_run s call (is_none (run_of s call)) }
 
       completed : (out : Bool) → is_none (run_of s call) ≡ out → (past : Past) → IsPastIn code (with_run s call out) (Some call) past → Good m (Ok call) step past
       completed out e past h = record {
-        text = text (run_of s call);
-        is = is (run_of s call);
+        text = text (is_none (run_of s call));
+        is = is (is_none (run_of s call));
         stands = with-call call (is_none (run_of s call)) past a.is (subst (λ b. IsPastIn code (with_run s call b) (Some call) past) (sym e) h);
         moves = ran-moves call (is_none (run_of s call));
         extended = extended-same code s.inputs;
@@ -403,21 +403,21 @@ module _ (progress : ProgressLaw) (line_law : LineLaw) (whole_law : WholeLaw) (t
       ran-good _ g (Ran.ended l r e replays honest few) = completed false (ap is_none e) (Traced l) (record { within = refl; replays = replays; was = replays; honest = honest; few = few; same = λ p. refl })
       ran-good _ g (Ran.going r sound some) = absurd (grind (arith, g))
 
-    abbrev run-text : Option Finished → List ℕ
-    run-text None = codes "out of fuel\n"
-    run-text (Some f) = codes "ok\n"
+    abbrev run-text : Bool → List ℕ
+    run-text true = codes "out of fuel\n"
+    run-text false = codes "ok\n"
 
-    run-is : (o : Option Finished) → IsText s (numbers_in m) (run_reply o) (run-text o)
-    run-is None = refl
-    run-is (Some f) = refl
+    run-is : (more out : Bool) → IsText s (numbers_in m) (run_reply None more out) (run-text out)
+    run-is more true = refl
+    run-is more false = refl
 
-    abbrev part-text : Option Finished → List ℕ
-    part-text None = codes "out of fuel\n"
-    part-text (Some f) = codes "done\n"
+    abbrev part-text : Bool → List ℕ
+    part-text true = codes "out of fuel\n"
+    part-text false = codes "done\n"
 
-    part-is : (o : Option Finished) → IsText s (numbers_in m) (part_reply o) (part-text o)
-    part-is None = refl
-    part-is (Some f) = refl
+    part-is : (reads : ℕ) (out : Bool) → IsText s (numbers_in m) (run_reply (Some reads) false out) (part-text out)
+    part-is reads true = refl
+    part-is reads false = refl
 
     -- a whole repair is not in progress
     whole-ends : (call : Call) (a : Accepted s call) (past : Past) → Ran code s.inputs call.function call.args (fits-call call a.is) s.fuel None (run_of s call) past → goes past ≡ false
@@ -434,16 +434,17 @@ module _ (progress : ProgressLaw) (line_law : LineLaw) (whole_law : WholeLaw) (t
       extended = extended-same code s.inputs;
     }
 
-    run-good : (r : Result Call Refusal) → ((call : Call) → r ≡ Ok call → Accepted s call) → Good m r (runs s r) (past_left code s r None m.past)
+    run-good : (r : Result Call Refusal) → ((call : Call) → r ≡ Ok call → Accepted s call)
+        → Good m r (runs s None (goes (past_left code s r None m.past)) r) (past_left code s r None m.past)
     run-good (Err r) h = refused-run r
     run-good (Ok call) h =
         let a = h call refl in
         let q = past_left code s (Ok call) None m.past in
-        ran-good call a None run_reply run-text run-is q (whole-ends call a q (ran-here call a None)) (ran-here call a None)
+        ran-good call a None (run_reply None (goes q)) run-text (run-is (goes q)) q (whole-ends call a q (ran-here call a None)) (ran-here call a None)
 
     -- a part of a repair in progress
-    part-going : (call : Call) → s.call ≡ Some call → (r : Repair) → IsRepairIn code (with_part s) call r → Good m (Ok call) (runs_part s true (Ok call)) (Going r)
-    part-going call same r h = record {
+    part-going : (reads : ℕ) (call : Call) → s.call ≡ Some call → (r : Repair) → IsRepairIn code (with_part s) call r → Good m (Ok call) (runs s (Some reads) true (Ok call)) (Going r)
+    part-going reads call same r h = record {
       text = codes "more\n";
       is = refl;
       stands = record {
@@ -462,16 +463,16 @@ module _ (progress : ProgressLaw) (line_law : LineLaw) (whole_law : WholeLaw) (t
     }
 
     part-good : (reads : ℕ) (r : Result Call Refusal) → ((call : Call) → r ≡ Ok call → Accepted s call × (s.call ≡ Some call))
-        → Good m r (runs_part s (goes (past_left code s r (Some reads) m.past)) r) (past_left code s r (Some reads) m.past)
+        → Good m r (runs s (Some reads) (goes (past_left code s r (Some reads) m.past)) r) (past_left code s r (Some reads) m.past)
     part-good reads (Err r) h = refused-run r
     part-good reads (Ok call) h =
         let a = h call refl in go a.0 a.1 (past_left code s (Ok call) (Some reads) m.past) (ran-here call a.0 (Some reads))
       where
         go : (a : Accepted s call) → s.call ≡ Some call → (q : Past) → Ran code s.inputs call.function call.args (fits-call call a.is) s.fuel (Some reads) (run_of s call) q
-            → Good m (Ok call) (runs_part s (goes q) (Ok call)) q
-        go a same _ (Ran.out e) = ran-good call a (Some reads) part_reply part-text part-is NoTrace refl (Ran.out e)
-        go a same _ (Ran.ended l r e replays honest few) = ran-good call a (Some reads) part_reply part-text part-is (Traced l) refl (Ran.ended l r e replays honest few)
-        go a same _ (Ran.going r sound some) = part-going call same r (record { within = refl; pending = refl; sound = sound })
+            → Good m (Ok call) (runs s (Some reads) (goes q) (Ok call)) q
+        go a same _ (Ran.out e) = ran-good call a (Some reads) (run_reply (Some reads) false) part-text (part-is reads) NoTrace refl (Ran.out e)
+        go a same _ (Ran.ended l r e replays honest few) = ran-good call a (Some reads) (run_reply (Some reads) false) part-text (part-is reads) (Traced l) refl (Ran.ended l r e replays honest few)
+        go a same _ (Ran.going r sound some) = part-going reads call same r (record { within = refl; pending = refl; sound = sound })
 
     again-call : (o : Option Call) → s.call ≡ o → IfSome o (IsCall s) → (call : Call) → called_again o ≡ Ok call → Accepted s call × (s.call ≡ Some call)
     again-call None i h call e = absurd (grind (arith, e))

@@ -1,12 +1,11 @@
 -- What a session saves holds, and resumed it answers as the session would have answered.
-use Rattle.std.proofs.Common.{◌≡◌, ℕ, ◌≤◌, Bool, true, false, ◌||◌, Option, Some, None, List, length, is_none, refl, sym, ap, ap₂, ◌∙◌, subst, arith}
+use Rattle.std.proofs.Common.{◌≡◌, ℕ, ◌≤◌, Bool, true, false, ◌||◌, Option, Some, List, length, is_none, refl, sym, ap, ap₂, ◌∙◌, subst, arith}
 use Rattle.ceal_base.proofs.TraceLemmas.{trace-flat, steps-flat}
 use Rattle.ceal_base.specs.Block.{Block}
 use Rattle.ceal_base.specs.Same.{index_of}
 use Rattle.ceal_base.specs.Trace.{Trace, flat, trace_of, steps_in, steps_of}
 use Rattle.ceal_base.specs.declared.call.Call.{Call}
 use Rattle.ceal_base.specs.declared.forest.Item.{Item}
-use Rattle.ceal_base.specs.declared.recorded.Record.{Record}
 use Rattle.ceal_base.specs.declared.typed.StructInfo.{StructInfo}
 use Rattle.ceal_base.specs.declared.typed.Typed.{Typed}
 use Rattle.ceal_base.specs.declared.word.Word.{Word}
@@ -16,27 +15,23 @@ use Rattle.ceal_code.specs.Fitting.{Fits}
 use Rattle.ceal_code.specs.Program.{Code}
 use Rattle.ceal_code.specs.Replay.{Replays, IsHonest}
 use Rattle.ceal_compile.specs.Compiled.{IsCompiled}
-use Rattle.ceal_compile.specs.declared.program.Program.{Program}
 use Rattle.ceal_record.proofs.Left.{ordered}
-use Rattle.ceal_record.specs.Recorded.{IsRecordOf, numbers_of, in_order}
+use Rattle.ceal_record.specs.Recorded.{numbers_of, in_order}
 use Rattle.ceal_session.proofs.Engine.ProgramAndCode.{same-structs}
 use Rattle.ceal_session.proofs.Saves.SaveThatHolds.{held}
 use Rattle.ceal_session.proofs.Saves.SaveOfSession.{traced-in}
 use Rattle.ceal_session.specs.Following.{IsAllowed}
 use Rattle.ceal_session.specs.Naming.{AreSpelled, AreDistinct, HaveKnownShapes}
 use Rattle.ceal_session.specs.Recording.{IsRecorded}
-use Rattle.ceal_session.specs.Saves.{AlikeLaw, GoesOn, OneSavedLaw, ResavedLaw, ResumedLaw, SavedLaw}
+use Rattle.ceal_session.specs.Saves.{AlikeLaw, OneSavedLaw, ResavedLaw, ResumedLaw, SavedLaw}
 use Rattle.ceal_session.specs.Saving.{IsSaved, Holding, saved_state, resumed}
 use Rattle.ceal_session.specs.Standing.{IsTraceIn, IsPastIn, IsIn, IsSamePast, Stands}
-use Rattle.ceal_session.specs.State.{State, Situation, latest_work, last}
+use Rattle.ceal_session.specs.State.{State, Situation, latest_work}
 use Rattle.ceal_session.specs.Steps.{has_no_run}
 use Rattle.ceal_snap.specs.SaveText.{Save}
-use Rattle.ceal_theory.specs.Computed.{Repaired}
 use Rattle.ceal_theory.specs.Laws.{RenamedRepair}
 use Rattle.ceal_theory.specs.Named.{RenamedBy, RenamingLaw}
 use Rattle.ceal_theory.specs.Pasts.{Past, Traced, SamePast}
-use Rattle.ceal_traceck.specs.Verdicts.{CallFits, Means}
-use Rattle.ceal_traceck.specs.declared.verdict.Verdict.TheVariants.{Yes}
 
 same-state : (s t : State) → s.program ≡ t.program → s.fuel ≡ t.fuel → s.names ≡ t.names → s.inputs ≡ t.inputs → s.settled ≡ t.settled → s.call ≡ t.call
     → s.out_of_fuel ≡ t.out_of_fuel → s.pending ≡ t.pending → s ≡ t

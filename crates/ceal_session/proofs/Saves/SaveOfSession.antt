@@ -1,10 +1,9 @@
 -- The save of a session is that of the situation that it is in, and there is one.
-use Rattle.std.proofs.Common.{◌≡◌, ℕ, Option, Some, List, refl, sym, ap, ◌∙◌, subst}
+use Rattle.std.proofs.Common.{◌≡◌, Some, sym, ap, ◌∙◌, subst}
 use Rattle.ceal_base.specs.declared.call.Call.{Call}
 use Rattle.ceal_base.specs.declared.recorded.Record.{Record}
 use Rattle.ceal_code.proofs.Words.SameIsEqual.{some-same}
 use Rattle.ceal_code.specs.Fitting.{Fits}
-use Rattle.ceal_code.specs.Program.{Code}
 use Rattle.ceal_code.specs.Replay.{Replays}
 use Rattle.ceal_record.specs.Laws.{OneRecordLaw, RenamedLaw}
 use Rattle.ceal_record.specs.Recorded.{IsRecordOf, IsTraceOf}

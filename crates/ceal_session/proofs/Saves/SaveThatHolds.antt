@@ -1,5 +1,5 @@
 -- A save that holds: its trace, its situation, and a session whose engine has run its call again.
-use Rattle.std.proofs.Common.{◌≡◌, ℕ, ◌≤◌, true, false, Option, Some, None, List, [], length, refl, sym, ap, ◌∙◌, subst, arith}
+use Rattle.std.proofs.Common.{◌≡◌, ◌≤◌, true, false, Option, Some, None, List, length, refl, sym, ap, ◌∙◌, subst, arith}
 use Rattle.std.specs.Option.{IsSomeAnd}
 use Rattle.std.specs.Prelude.{IfSome}
 use Rattle.ceal_base.proofs.TraceLemmas.{steps-flat}
@@ -21,11 +21,10 @@ use Rattle.ceal_session.proofs.Engine.ProgramAndCode.{call-back, same-structs}
 use Rattle.ceal_session.proofs.Inputs.ExtendedInputs.{extended-same}
 use Rattle.ceal_session.proofs.Engine.RunLeavesPast.{few-steps, has-first}
 use Rattle.ceal_session.specs.Journal.{settled_at}
-use Rattle.ceal_session.specs.Keeping.{past_of, situation_of, IsSettledOn, WasHonest, Holds}
+use Rattle.ceal_session.specs.Keeping.{situation_of, IsSettledOn, WasHonest, Holds}
 use Rattle.ceal_session.specs.Naming.{HaveKnownShapes}
 use Rattle.ceal_session.specs.Saves.{HeldLaw}
-use Rattle.ceal_session.specs.Saving.{Holding, IsResumed, resumed, saved_state}
-use Rattle.ceal_session.specs.Standing.{Stands}
+use Rattle.ceal_session.specs.Saving.{Holding, IsResumed, saved_state}
 use Rattle.ceal_snap.specs.SaveText.{Save}
 use Rattle.ceal_theory.specs.Laws.{RenamedRepair}
 use Rattle.ceal_theory.specs.Pasts.{Past, Traced, SamePast}

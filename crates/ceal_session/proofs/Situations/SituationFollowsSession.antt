@@ -1,5 +1,5 @@
 -- A situation of the definition continues as a session does that is in it.
-use Rattle.std.proofs.Common.{◌≡◌, ℕ, Bool, true, false, if◌then◌else◌, Option, Some, None, Result, Ok, Err, List, refl, sym, ap, ◌∙◌, subst, arith}
+use Rattle.std.proofs.Common.{◌≡◌, ℕ, Bool, true, false, Option, Some, None, Result, Ok, Err, List, refl, sym, ap, ◌∙◌, subst}
 use Rattle.ceal_base.specs.Block.{Block}
 use Rattle.ceal_base.specs.Finished.{Finished}
 use Rattle.ceal_base.specs.declared.call.Call.{Call}
@@ -8,15 +8,13 @@ use Rattle.ceal_code.proofs.Alike.BlockPairs.{zip-one}
 use Rattle.ceal_code.specs.Alike.{Pairs, OneToOne, TraceAlike, zipped}
 use Rattle.ceal_code.specs.Fitting.{Fits}
 use Rattle.ceal_code.specs.Fresh.{fresh}
-use Rattle.ceal_code.specs.Laws.{ProgressLaw}
 use Rattle.ceal_code.specs.Program.{Code}
 use Rattle.ceal_code.specs.Replay.{Replays, IsHonest, core_numbers}
-use Rattle.ceal_base.specs.Trace.{Trace, blocks_of}
+use Rattle.ceal_base.specs.Trace.{blocks_of}
 use Rattle.ceal_script.specs.declared.command.Command.{Command}
 use Rattle.ceal_session.proofs.Engine.RunLeavesPast.{is-above, above, next-sound}
 use Rattle.ceal_session.specs.Following.{Goes}
 use Rattle.ceal_session.specs.Replies.{behind}
-use Rattle.ceal_session.specs.Standing.{Stands}
 use Rattle.ceal_session.specs.State.{State, Situation}
 use Rattle.ceal_session.specs.Works.{call_in, reads_in, past_left, bound_by, bound_left, first_trace}
 use Rattle.ceal_session.specs.declared.refusal.Refusal.{Refusal}
@@ -27,7 +25,7 @@ use Rattle.ceal_theory.proofs.SlicedRepair.SliceLaws.{is-done-law, slice-law, sl
 use Rattle.ceal_theory.specs.Carried.{Carried, CarriedSlices}
 use Rattle.ceal_theory.specs.Computed.{Repaired, first_of}
 use Rattle.ceal_theory.specs.Laws.{FirstOutcome, RenamedRepair}
-use Rattle.ceal_theory.specs.Pasts.{Past, NoTrace, Traced, Going, SamePast, IsPastOf, first_past, done_past, left_by, next_repair, slice_of, past_after}
+use Rattle.ceal_theory.specs.Pasts.{Past, Traced, SamePast, IsPastOf, first_past, done_past, left_by, next_repair, slice_of, past_after}
 use Rattle.ceal_theory.specs.Repair.{own}
 use Rattle.ceal_theory.specs.Slices.{Repair, RepairHolds, beginning, sliced, is_done}
 

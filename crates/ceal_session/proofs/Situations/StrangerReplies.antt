@@ -1,5 +1,5 @@
 -- Two situations that differ only in the work and the bound, until a run is completed.
-use Rattle.std.proofs.Common.{◌≡◌, ◌⊎◌, inl, inr, ℕ, ◌≤◌, ◌||◌, Bool, true, false, if◌then◌else◌, Option, Some, None, Result, Ok, Err, List, [], ◌∷◌, map, refl, sym, ap, ap₂, ◌∙◌, subst, arith}
+use Rattle.std.proofs.Common.{◌≡◌, ◌⊎◌, inl, inr, ℕ, ◌≤◌, Bool, true, false, if◌then◌else◌, Option, Some, None, Result, Ok, Err, List, [], ◌∷◌, map, is_none, refl, sym, ap, ap₂, ◌∙◌, subst, arith}
 use Rattle.std.specs.List.{list_any}
 use Rattle.std.specs.Prelude.{IfSome, bytes_eq}
 use Rattle.ceal_base.specs.Block.{Block}
@@ -29,18 +29,18 @@ use Rattle.ceal_session.proofs.Replies.ReplyUpToNumbers.{more-past, same-goes, s
 use Rattle.ceal_session.proofs.Saves.SaveThatHolds.{held}
 use Rattle.ceal_session.proofs.Saves.ResumedReplies.{same-trace}
 use Rattle.ceal_session.specs.Laws.{OneAnswerLaw, OneCommandLaw}
-use Rattle.ceal_session.specs.Replies.{Reads, Replies, Leads, behind}
+use Rattle.ceal_session.specs.Replies.{Reads, Replies, behind}
 use Rattle.ceal_session.specs.Runs.{memory_of, run_of}
 use Rattle.ceal_session.specs.Saves.{AlikeLaw}
 use Rattle.ceal_session.specs.Saving.{saved_state, resumed}
 use Rattle.ceal_session.specs.Senses.{is_unknown, words_of, mod_shape, struct_shape, struct_named, function_named, place_sense, value_sense, input_named}
-use Rattle.ceal_session.specs.Standing.{IsPastIn, IsSamePast, IsIn, Stands}
+use Rattle.ceal_session.specs.Standing.{IsSamePast, IsIn, Stands}
 use Rattle.ceal_session.specs.State.{State, Situation, Numbers, completed, latest_work, numbers_in}
 use Rattle.ceal_session.specs.Steps.{Step, stays, refuses, block_of, made_with, made_of, with_base, with_input}
-use Rattle.ceal_session.specs.Steps.{fits_cell, set_base, set_word, set, called, called_again, run_reply, runs}
-use Rattle.ceal_session.specs.Steps.{part_reply, runs_part, has_no_run, asked, got, shown, call_of, answered}
+use Rattle.ceal_session.specs.Steps.{fits_cell, set_word, set, called, called_again, run_reply, runs}
+use Rattle.ceal_session.specs.Steps.{has_no_run, asked, got, shown, answered}
 use Rattle.ceal_session.specs.Steps.{answered_line}
-use Rattle.ceal_session.specs.Strangers.{AsksNumbers, Completes, LineAlike, AreOne, AreAlike, StrangerLaw}
+use Rattle.ceal_session.specs.Strangers.{AsksNumbers, LineAlike, AreOne, AreAlike, StrangerLaw}
 use Rattle.ceal_session.specs.Texts.{IsText}
 use Rattle.ceal_session.specs.Works.{call_in, reads_in, past_in, bound_in, past_left, bound_left, bound_by, first_trace}
 use Rattle.ceal_session.specs.declared.refusal.Refusal.{Refusal}
@@ -59,7 +59,7 @@ use Rattle.ceal_theory.specs.Adjust.{Extended}
 use Rattle.ceal_theory.specs.Carried.{Carried}
 use Rattle.ceal_theory.specs.Computed.{Repaired, first_of}
 use Rattle.ceal_theory.specs.Laws.{FirstOutcome, RenamedRepair}
-use Rattle.ceal_theory.specs.Pasts.{Past, NoTrace, Traced, Going, SamePast, IsPastOf, first_past, goes, left_by, next_repair, past_after, slice_of}
+use Rattle.ceal_theory.specs.Pasts.{Past, NoTrace, Traced, Going, SamePast, IsPastOf, first_past, goes, left_by, next_repair}
 use Rattle.ceal_theory.specs.Repair.{own}
 use Rattle.ceal_theory.specs.Slices.{Repair, RepairHolds, is_done}
 
@@ -107,22 +107,16 @@ module _ (s : State) where
   set-other : (place value : Sense) → Other (set s place value)
   set-other place value = if-both Other _ (refuses s C2) (set_word s place value) tt (word-other place value)
 
-  run-other : (o : Option Finished) → TellsOther (run_reply o)
-  run-other None = tt
-  run-other (Some f) = tt
+  run-other : (reads : Option ℕ) (more out : Bool) → TellsOther (run_reply reads more out)
+  run-other None more true = tt
+  run-other None more false = tt
+  run-other (Some n) true out = tt
+  run-other (Some n) false true = tt
+  run-other (Some n) false false = tt
 
-  part-other : (o : Option Finished) → TellsOther (part_reply o)
-  part-other None = tt
-  part-other (Some f) = tt
-
-  runs-other : (r : Result Call Refusal) → Other (runs s r)
-  runs-other (Err r) = tt
-  runs-other (Ok call) = run-other (run_of s call)
-
-  runs-part-other : (more : Bool) (r : Result Call Refusal) → Other (runs_part s more r)
-  runs-part-other more (Err r) = tt
-  runs-part-other true (Ok call) = tt
-  runs-part-other false (Ok call) = part-other (run_of s call)
+  runs-other : (reads : Option ℕ) (more : Bool) (r : Result Call Refusal) → Other (runs s reads more r)
+  runs-other reads more (Err r) = tt
+  runs-other reads more (Ok call) = run-other reads more (is_none (run_of s call))
 
   got-other : (sense : Sense) → TellsOther (got s sense)
   got-other (IsWord (AtPlace p)) = asks-other (GetOf p) tt
@@ -142,9 +136,9 @@ module _ (s : State) where
   other-of more (Mod name kind value) h = made-other name (mod_shape s kind) (value_sense s value ∷ [])
   other-of more (New name shape values) h = made-other name (struct_shape (struct_named s shape)) (map (value_sense s) values)
   other-of more (Set place value) h = set-other (place_sense s place) (value_sense s value)
-  other-of more (Run function args) h = runs-other (called s (function_named s function) (map (value_sense s) args))
-  other-of more Propagate h = runs-other (called_again s.call)
-  other-of more (Slice reads) h = runs-part-other more (called_again s.call)
+  other-of more (Run function args) h = runs-other None more (called s (function_named s function) (map (value_sense s) args))
+  other-of more Propagate h = runs-other None more (called_again s.call)
+  other-of more (Slice reads) h = runs-other (Some reads) more (called_again s.call)
   other-of more (Get place) h = got-other (place_sense s place)
   other-of more (Show name) h = shown-other (input_named s name)
   other-of more BlocksCommand h = asks-other BlocksOf tt

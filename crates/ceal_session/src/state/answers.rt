@@ -8,10 +8,12 @@ ghost use Rattle.ceal_session.specs.Runs.{present_run};
 ghost use Rattle.ceal_session.specs.Steps.{has_no_run};
 ghost use Rattle.ceal_session.specs.Texts.{value_text, TellsOf};
 ghost use Rattle.ceal_session.specs.State.{numbers_in};
+ghost use Rattle.ceal_session.specs.Values.{number_of_word, number_after};
 ghost use Rattle.ceal_session.specs.declared.reply.Query.TheVariants.{Show};
 
 use super::State;
 use crate::bound::bound_of;
+use crate::refusal::Refusal;
 use crate::view::graph;
 use ceal_base::no_memory::NoMemory;
 use ceal_base::recorded::Record;
@@ -21,6 +23,18 @@ use ceal_code::laws::progress_law;
 use ceal_record::record::record;
 use ceal_show::laws::{fitting_is_whole, same_text};
 use std::alloc::Global;
+
+/// A word as a number: a pointer is of the wrong kind.
+fn word_number(word: Word) -> Result<i64, Refusal>
+    ensures { result ≡ number_of_word word }
+{
+    match word {
+        Word::Num(number) => Ok(number),
+        Word::Null => Err(Refusal::C4),
+        Word::Block(_) => Err(Refusal::C4),
+        Word::At(_) => Err(Refusal::C4),
+    }
+}
 
 impl State {
     /// What a modifiable of an input has at the end of the run.
@@ -33,6 +47,17 @@ impl State {
         // for the proof: it is an engine, by the clause `whole`
         let _phase = self.engine.phase();
         self.engine.value(place)
+    }
+
+    /// The number that a modifiable of an input holds at the end of the run.
+    pub fn number(&self, place: Place) -> Result<i64, Refusal>
+        requires ready { IsReady self.now.state }
+        requires cell { IsCellOf self.now.state place }
+        ensures { result ≡ number_after place (present_run self.now.state) }
+    {
+        // for the proof: it is an engine, by the clause `whole`
+        let _phase = self.engine.phase();
+        word_number(self.engine.value(place))
     }
 
     /// How many core blocks the run made.

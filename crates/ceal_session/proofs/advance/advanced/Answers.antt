@@ -1,4 +1,55 @@
+use Rattle.std.proofs.Common.{◌∙◌, ap, sym, subst}
+use Rattle.std.specs.Option.{IsSomeAnd}
+use Rattle.std.specs.Prelude.{IfSome}
+use Rattle.ceal_code.specs.Fitting.{Fits}
+use Rattle.ceal_engine.specs.Engine.{has_run, trace}
+use Rattle.ceal_engine.specs.Repaired.{IsFirst}
+use Rattle.ceal_session.proofs.Engine.EngineKeepsPast.{brought-anew, brought-on, from-dropped, some-reads}
+use Rattle.ceal_session.specs.Advancing.{Outcome, Brings}
 use Rattle.ceal_session.proofs.advance.advanced.Goals as goal
 
+pub returns-in-Finished : goal.returns-in-Finished
+returns-in-Finished c = record {
+  brings = λ call again.
+      let e = c.args.engine.now in
+      let o = c.advance in
+      brought-on e o.new.self c.phase.ensures.whole call
+      (subst (λ a. IfSome a (λ call. Fits e.code e.inputs call.function call.args)) again c.phase.ensures.whole.call)
+      o.ensures.keeps.code o.ensures.keeps.fuel o.ensures.keeps.inputs (o.ensures.keeps.call ∙ again) c.args.reads (ap has_run (sym c.phase.ensures.value ∙ c.in-Finished.is)) again
+      o.result o.ensures.phase o.ensures.present o.ensures.comes (some-reads o.result c.args.reads o.ensures.more) o.ensures.keeps.out_of_fuel o.ensures.keeps.dropped;
+}
+
+pub returns-in-Pending : goal.returns-in-Pending
+returns-in-Pending c = record {
+  brings = λ call again.
+      let e = c.args.engine.now in
+      let o = c.advance-in-Pending in
+      brought-on e o.new.self c.phase.ensures.whole call
+      (subst (λ a. IfSome a (λ call. Fits e.code e.inputs call.function call.args)) again c.phase.ensures.whole.call)
+      o.ensures.keeps.code o.ensures.keeps.fuel o.ensures.keeps.inputs (o.ensures.keeps.call ∙ again) c.args.reads (ap has_run (sym c.phase.ensures.value ∙ c.in-Pending.is)) again
+      o.result o.ensures.phase o.ensures.present o.ensures.comes (some-reads o.result c.args.reads o.ensures.more) o.ensures.keeps.out_of_fuel o.ensures.keeps.dropped;
+}
+
+pub returns-in-Partial : goal.returns-in-Partial
+returns-in-Partial c = record {
+  brings = λ call again.
+      let e = c.args.engine.now in
+      let o = c.advance-in-Partial in
+      brought-on e o.new.self c.phase.ensures.whole call
+      (subst (λ a. IfSome a (λ call. Fits e.code e.inputs call.function call.args)) again c.phase.ensures.whole.call)
+      o.ensures.keeps.code o.ensures.keeps.fuel o.ensures.keeps.inputs (o.ensures.keeps.call ∙ again) c.args.reads (ap has_run (sym c.phase.ensures.value ∙ c.in-Partial.is)) again
+      o.result o.ensures.phase o.ensures.present o.ensures.comes (some-reads o.result c.args.reads o.ensures.more) o.ensures.keeps.out_of_fuel o.ensures.keeps.dropped;
+}
+
 pub returns-in-Dropped : goal.returns-in-Dropped
-returns-in-Dropped c = record { brings = c.run_anew.ensures.brings c.args.reads }
+returns-in-Dropped c = record {
+  brings = λ call again.
+      let e = c.args.engine.now in
+      let o = c.propagate-outcome in
+      let dropped = sym c.phase.ensures.value ∙ c.in-Dropped.is in
+      subst (λ (r : Outcome). Brings e call c.args.reads r o.new.self) (sym c.came_anew.ensures)
+      (brought-anew e o.new.self c.phase.ensures.whole call
+      (subst (λ a. IfSome a (λ call. Fits e.code e.inputs call.function call.args)) again c.phase.ensures.whole.call)
+      o.ensures.keeps.code o.ensures.keeps.fuel o.ensures.keeps.inputs (o.ensures.keeps.call ∙ again) c.args.reads
+      o.result (ap has_run dropped) o.ensures.phase o.ensures.present (from-dropped (IsSomeAnd (trace o.new.self) (IsFirst o.new.self)) o.result e.phase dropped o.ensures.first) o.ensures.keeps.out_of_fuel o.ensures.keeps.dropped);
+}

@@ -12,7 +12,7 @@ returns c = record {
       let e = c.args.engine.now in
       let o = c.run-outcome in
       subst (λ (r : Outcome). Brings e c.args.call.now _ r o.new.self) (sym c.came_anew.ensures)
-      (brought-anew e o.new.self c.phase-before.ensures.whole c.args.call.now c.requires.fits
+      (brought-anew e o.new.self c.phase-phase.ensures.whole c.args.call.now c.requires.fits
       o.ensures.keeps.code o.ensures.keeps.fuel o.ensures.keeps.inputs
       (o.ensures.keeps.call ∙ ap (λ (args : List Word). Some (record { function = c.args.call.now.function; args = args })) c.items.ensures.value) _
       o.result (ap has_run c.requires.new) o.ensures.phase o.ensures.present o.ensures.first o.ensures.keeps.out_of_fuel o.ensures.keeps.dropped);
