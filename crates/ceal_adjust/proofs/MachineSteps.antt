@@ -10,7 +10,7 @@ use Rattle.ceal_base.specs.declared.word.Word.{Word}
 use Rattle.ceal_code.specs.Init.{pointer}
 use Rattle.ceal_code.specs.Program.{Code}
 use Rattle.ceal_code.specs.Stacks.{stack_in}
-use Rattle.ceal_code.specs.Step.{Stack, Empty, Run, Act, Makes, Reads, entered, given}
+use Rattle.ceal_code.specs.Step.{Stack, Empty, Run, Act, Makes, Reads, entered, words_after_read}
 use Rattle.ceal_code.specs.Value.{Variables, set}
 use Rattle.ceal_code.specs.declared.stack.Closure.{Closure}
 use Rattle.ceal_code.specs.declared.stack.Stack.{Stack as CodeStack}
@@ -33,13 +33,13 @@ pub ruleset frame_steps = (frames-push, loose-one, skipped-levels)
 
 -- the stack of a unit that continues after a read, by itself
 resumed-in : (code : Code) (stack under : CodeStack) (c : Closure) (now : Word)
-    → stack_in stack ≡ entered code c.unit.0 (given code c.unit.0 c.var c.args now) (stack_in under) → stack_in under ≡ Empty
+    → stack_in stack ≡ entered code c.unit.0 (words_after_read code c.unit.0 c.var c.args now) (stack_in under) → stack_in under ≡ Empty
     → stack_in stack ≡ resumed code c.unit c.var c.args now
-resumed-in code stack under c now e l = e ∙ ap (entered code c.unit.0 (given code c.unit.0 c.var c.args now)) l
+resumed-in code stack under c now e l = e ∙ ap (entered code c.unit.0 (words_after_read code c.unit.0 c.var c.args now)) l
 
 -- the machine inside a read whose unit runs
 pub open-stale : (code : Code) (s : State) (fs : List Frame) (is : List Item) (stack under : CodeStack) (same : Bool) (c : Closure) (now : Word)
-    → same ≡ false → stack_in stack ≡ entered code c.unit.0 (given code c.unit.0 c.var c.args now) (stack_in under) → stack_in under ≡ Empty
+    → same ≡ false → stack_in stack ≡ entered code c.unit.0 (words_after_read code c.unit.0 c.var c.args now) (stack_in under) → stack_in under ≡ Empty
     → machine_of IsRunning s stack 1 fs is
     ≡ record { state = s; mode = opened code same c.unit c.var c.args now (first (levels is)); frames = frames_in (reverse fs) (around (levels is)) }
 unfolding machine_of
@@ -47,11 +47,11 @@ open-stale code s fs is stack under same c now e l n = rw (e, resumed-in code st
 
 -- the unit of a read by itself
 pub alone-begins : (code now : Code) (s : State) (is after : List Item) (stack under : CodeStack) (c : Closure) (content : Word) → now ≡ code
-    → stack_in stack ≡ entered now c.unit.0 (given now c.unit.0 c.var c.args content) (stack_in under) → stack_in under ≡ Empty → is ≡ after
+    → stack_in stack ≡ entered now c.unit.0 (words_after_read now c.unit.0 c.var c.args content) (stack_in under) → stack_in under ≡ Empty → is ≡ after
     → machine_of IsRunning s stack 1 [] is ≡ record { state = s; mode = MachineRunning (resumed code c.unit c.var c.args content) (first (levels after)); frames = Bottom }
 unfolding machine_of
 alone-begins code now s is after stack under c content k e l n =
-    rw (n, resumed-in code stack under c content (e ∙ ap (λ h. entered h c.unit.0 (given h c.unit.0 c.var c.args content) (stack_in under)) k) l, loose-one (levels after)) refl
+    rw (n, resumed-in code stack under c content (e ∙ ap (λ h. entered h c.unit.0 (words_after_read h c.unit.0 c.var c.args content) (stack_in under)) k) l, loose-one (levels after)) refl
 
 -- a block is taken
 pub make-taken : (code : Code) (s t : State) (fs : List Frame) (is : List Item) (n : ℕ) (key : Key) (v u i : ℕ) (env : Variables) (below : Stack)

@@ -39,8 +39,8 @@ use Rattle.ceal_theory.proofs.Store.FittingInputs.{fits-more}
 use Rattle.ceal_theory.specs.Laws.{Edited}
 use Rattle.ceal_theory.specs.Repair.{State, own, resumed}
 use Rattle.ceal_theory.specs.SliceLaws.{FirstStale, Turned, Turns, unit_alone}
-use Rattle.ceal_theory.specs.Slices.{Repair, Part, Runs, Slices, sliced, repair_at, goes_on, beginning, with_inputs, starting, Sound, is_done}
-use Rattle.ceal_theory.specs.Turns.{Machine, Running, Bottom, Leads}
+use Rattle.ceal_theory.specs.Slices.{Repair, Part, Runs, Slices, sliced, repair_at, goes_on, beginning, with_inputs, starting, RepairHolds, is_done}
+use Rattle.ceal_theory.specs.Turns.{Machine, Running, Bottom, BecomesBy}
 use Rattle.ceal_theory.proofs.Store.Walk.{agrees-front}
 use Rattle.ceal_theory.specs.Walk.{store_after, AgreesAll}
 
@@ -109,7 +109,7 @@ is-ran code fuel start s ran e n k below others = record {
 
 -- no block of a trace that may be edited has a number from the next one on
 none-above : (code : Code) (old inputs : List Block) (f : ℕ) (args : List Word) (l : Trace) (next : ℕ)
-    → Edited code old inputs f args l next → Sound code own inputs f args (beginning code inputs l next)
+    → Edited code old inputs f args l next → RepairHolds code own inputs f args (beginning code inputs l next)
 none-above code old inputs f args l next e = begin-law code own old inputs f args l next next e (λ j k h. h) e.above
 
 -- a repair that begins
@@ -137,7 +137,7 @@ module _ (code : Code) (inputs : List Block) (l : Trace) (next : ℕ) (q : Repai
   begun-for old f args m e edited =
       begun-stands old f args (subst (λ l. Edited code old inputs f args l next) (some-same m l (sym (trace-flat m) ∙ (ap trace_of (sym e) ∙ trace-flat l))) edited)
 
-module _ (code : Code) (inputs : List Block) (f : ℕ) (args : List Word) (fits : Fits code inputs f args) (fuel : ℕ) (r : Repair) (sound : Sound code own inputs f args r) where
+module _ (code : Code) (inputs : List Block) (f : ℕ) (args : List Word) (fits : Fits code inputs f args) (fuel : ℕ) (r : Repair) (sound : RepairHolds code own inputs f args r) where
   -- one turn
   module _ (q : RepairInCode) (stands : StandsFor q r) (m : TraceMemory) (x : Stale) (there : IsAt code inputs r m x) where
     abbrev first_read : FirstStale code own inputs r x.front.now x.closure.place x.closure.unit x.closure.var x.closure.args x.after.now
@@ -151,7 +151,7 @@ module _ (code : Code) (inputs : List Block) (f : ℕ) (args : List Word) (fits 
         begins-by code inputs r x.front.now x.closure.place x.closure.unit x.closure.var x.closure.args first_read.inside first_read.back x.after.now x.content (store_in m) (plain_in m) q.next q.spent
         there.plain there.store stands.next stands.spent there.stale.content first_read.items
 
-    course : (machine : Machine) (out : List Item) → Leads code own (alone code (state_of m q) x) machine out
+    course : (machine : Machine) (out : List Item) → BecomesBy code own (alone code (state_of m q) x) machine out
         → TurnCourse code own inputs r x.front.now x.closure.place x.closure.unit x.closure.var x.closure.args first_read.inside first_read.back machine out
     course machine out leads =
         turn-course-law code own inputs r x.front.now x.closure.place there.stale.value x.closure.unit x.closure.var
@@ -162,7 +162,7 @@ module _ (code : Code) (inputs : List Block) (f : ℕ) (args : List Word) (fits 
     pub is-over : IsBeyond code (Work fuel) (alone code (state_of m q) x) → IsTurn code inputs fuel r Over
     is-over b = (course b.machine b.out b.leads).over fuel b.beyond
 
-    known-all : (ran : Ran) (h : IsRan code fuel (alone code (state_of m q) x) ran) (l : Trace) → Sound code own inputs f args (repair_at h.ended.machine.state l)
+    known-all : (ran : Ran) (h : IsRan code fuel (alone code (state_of m q) x) ran) (l : Trace) → RepairHolds code own inputs f args (repair_at h.ended.machine.state l)
         → (b : ℕ) → knowing nothing ran.known (Core b) ≡ h.ended.machine.state.plain (Core b)
     known-all ran h l s b = of (cases_order b ran.next)
       where
@@ -202,7 +202,7 @@ module _ (code : Code) (inputs : List Block) (f : ℕ) (args : List Word) (fits 
 pub record Reached (code : Code) (inputs : List Block) (f : ℕ) (args : List Word) (n : ℕ) (r : Repair) (q : RepairInCode) : Type 0 where
   pub repair : Repair
   pub stands : StandsFor q repair
-  pub sound : Sound code own inputs f args repair
+  pub sound : RepairHolds code own inputs f args repair
   pub turns : Turns code own inputs n r repair
 
 -- n is at most the number of reads, if there is one
@@ -236,7 +236,7 @@ no-turns : {code : Code} {inputs : List Block} {n : ℕ} {r z : Repair} → Turn
 no-turns Turns.none e = refl
 no-turns (Turns.turn s h) e = absurd cc
 
-module _ (code : Code) (inputs : List Block) (f : ℕ) (args : List Word) (fits : Fits code inputs f args) (fuel : ℕ) (r : Repair) (sound : Sound code own inputs f args r) where
+module _ (code : Code) (inputs : List Block) (f : ℕ) (args : List Word) (fits : Fits code inputs f args) (fuel : ℕ) (r : Repair) (sound : RepairHolds code own inputs f args r) where
   pub reached-first : (q : RepairInCode) → StandsFor q r → Reached code inputs f args 0 r q
   reached-first q stands = record { repair = r; stands = stands; sound = sound; turns = Turns.none }
 

@@ -6,7 +6,7 @@ use Rattle.ceal_base.specs.declared.forest.Item.{Item}
 use Rattle.ceal_code.specs.Program.{Code}
 use Rattle.ceal_theory.specs.Computed.{Repaired}
 use Rattle.ceal_theory.specs.Repair.{State, own}
-use Rattle.ceal_theory.specs.Turns.{Machine, Ended, turn, Finishes, Leads}
+use Rattle.ceal_theory.specs.Turns.{Machine, Ended, turn, Finishes, BecomesBy}
 use Rattle.ceal_adjust.specs.declared.adjust.Adjusted.{Adjusted}
 use Rattle.ceal_adjust.specs.declared.adjust.Adjusted.TheVariants.{Done, OutOfFuel}
 use Rattle.ceal_adjust.specs.declared.complete.Limit.{Limit}
@@ -24,7 +24,7 @@ Keeps (Work n) steps work = work ≤ n
 -- The machine that began has ended, has written these items, and is within the limit.
 pub record HasEnded (code : Code) (limit : Limit) (start : Machine) (out : List Item) : Type 0 where
   pub machine : Machine
-  pub leads : Leads code own start machine out
+  pub leads : BecomesBy code own start machine out
   pub ended : turn code own machine ≡ Ended
   pub within : Keeps limit (steps_in out) machine.state.work
 
@@ -37,7 +37,7 @@ pub record EndsAt (code : Code) (limit : Limit) (start : Machine) (out : List It
 pub record IsBeyond (code : Code) (limit : Limit) (start : Machine) : Type 0 where
   pub machine : Machine
   pub out : List Item
-  pub leads : Leads code own start machine out
+  pub leads : BecomesBy code own start machine out
   pub beyond : Exceeds limit (steps_in out) machine.state.work
 
 -- the machine finishes with the forest and this work, within the fuel

@@ -17,7 +17,7 @@ use Rattle.ceal_adjust.specs.declared.stale.Stale.{Stale}
 use Rattle.ceal_adjust.specs.declared.turn.Turned.{Turned}
 use Rattle.ceal_adjust.specs.declared.turn.Turned.TheVariants.{Honest, Went, Over}
 use Rattle.ceal_theory.specs.Repair.{own}
-use Rattle.ceal_theory.specs.Slices.{Repair, Slices, sliced, Sound, is_done}
+use Rattle.ceal_theory.specs.Slices.{Repair, Slices, sliced, RepairHolds, is_done}
 use Rattle.ceal_theory.specs.Walk.{store_after, AgreesAll}
 
 -- The repair in code is this one: the flat items, the plain words of the known core blocks, the next number,
@@ -33,7 +33,7 @@ pub record HoldsFor (code : Code) (inputs : List Block) (f : ℕ) (args : List W
   pub fits : Fits code inputs f args
   pub repair : Repair
   pub stands : StandsFor q repair
-  pub sound : Sound code own inputs f args repair
+  pub sound : RepairHolds code own inputs f args repair
 
 -- the slice is there, is done or not, and is this repair
 pub record IsSliceOf (code : Code) (inputs : List Block) (reads : Option ℕ) (fuel : ℕ) (done : Bool) (r : Repair)

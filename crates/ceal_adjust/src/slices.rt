@@ -8,7 +8,7 @@ ghost use Rattle.ceal_code.specs.Fitting.{Fits};
 ghost use Rattle.ceal_code.specs.Replay.{IsHonest};
 ghost use Rattle.ceal_theory.specs.Laws.{Edited};
 ghost use Rattle.ceal_theory.specs.Repair.{own};
-ghost use Rattle.ceal_theory.specs.Slices.{Repair as AnyRepair, Sound, beginning};
+ghost use Rattle.ceal_theory.specs.Slices.{Repair as AnyRepair, RepairHolds, beginning};
 ghost use Rattle.ceal_adjust.specs.Slicing.{StandsFor, HoldsFor, Comes, IsConcluded, IfGiven};
 
 use crate::known::{Known, known_below};
@@ -74,7 +74,7 @@ pub fn begin_repair(
 fn is_honest(alloc: Global, code: &Code, repair: &Repair, inputs: &Inputs) -> Result<bool, NoMemory>
     ensures { IfOk result (λ honest. (r : AnyRepair) (f : ℕ) (args : List AnyWord)
         → Fits code.now inputs.now f args → StandsFor repair.now r
-        → Sound code.now own inputs.now f args r
+        → RepairHolds code.now own inputs.now f args r
         → IsTrue honest ↔ IsHonest code.now inputs.now r.items) }
 {
     let mut memory = memory_of(alloc, code, repair, inputs)?;
@@ -93,7 +93,8 @@ fn concluded(
 ) -> Result<Sliced, NoMemory>
     ensures { IfOk result (λ s. (r : AnyRepair) (f : ℕ) (args : List AnyWord)
         → Fits code.now inputs.now f args → StandsFor repair r
-        → Sound code.now own inputs.now f args r → IsConcluded code.now inputs.now r repair s) }
+        → RepairHolds code.now own inputs.now f args r
+        → IsConcluded code.now inputs.now r repair s) }
 {
     if is_honest(alloc, code, &repair, inputs)? {
         Ok(Sliced::Done(repair))
@@ -128,7 +129,7 @@ pub fn slice_repair(
     requires room { repair.next + fuel < 2 ^ 32 + repair.spent }
     ensures slice { IfOk result (λ s. (r : AnyRepair) (f : ℕ) (args : List AnyWord)
         → Fits code.now inputs.now f args → StandsFor repair r
-        → Sound code.now own inputs.now f args r → Comes code.now inputs.now reads fuel r s) }
+        → RepairHolds code.now own inputs.now f args r → Comes code.now inputs.now reads fuel r s) }
     ensures holds { IfOk result (λ s. (f : ℕ) (args : List AnyWord)
         → HoldsFor code.now inputs.now f args repair
         → IfGiven s (λ q. HoldsFor code.now inputs.now f args q)) }

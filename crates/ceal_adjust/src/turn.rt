@@ -8,7 +8,7 @@ ghost use Rattle.ceal_code.specs.Fitting.{Fits};
 ghost use Rattle.ceal_code.specs.Program.{Code as AnyCode};
 ghost use Rattle.ceal_code.specs.Tables.{code_in, plain_in, store_in};
 ghost use Rattle.ceal_theory.specs.Repair.{own};
-ghost use Rattle.ceal_theory.specs.Slices.{Repair as AnyRepair, Sound, with_inputs, starting};
+ghost use Rattle.ceal_theory.specs.Slices.{Repair as AnyRepair, RepairHolds, with_inputs, starting};
 ghost use Rattle.ceal_theory.specs.Levels.{skipped};
 ghost use Rattle.ceal_adjust.specs.Answers.{IsBeyond};
 ghost use Rattle.ceal_adjust.specs.Slicing.{StandsFor, IsTurn};
@@ -196,7 +196,7 @@ fn run_stale(
 ) -> Result<Turned, NoMemory>
     ensures { IfOk result
         (λ t. (code : AnyCode) (inputs : List Block) (r : AnyRepair) (f : ℕ) (args : List AnyWord)
-        → Fits code inputs f args → StandsFor repair.now r → Sound code own inputs f args r
+        → Fits code inputs f args → StandsFor repair.now r → RepairHolds code own inputs f args r
         → IsAt code inputs r memory.entry stale.entry → IsTurn code inputs fuel r t) }
 {
     match run_alone(alloc, memory, repair, &stale, fuel)? {
@@ -218,7 +218,7 @@ pub fn turn(
 ) -> Result<Turned, NoMemory>
     ensures { IfOk result (λ t. (r : AnyRepair) (f : ℕ) (args : List AnyWord)
         → Fits code.now inputs.now f args → StandsFor repair.now r
-        → Sound code.now own inputs.now f args r → IsTurn code.now inputs.now fuel r t) }
+        → RepairHolds code.now own inputs.now f args r → IsTurn code.now inputs.now fuel r t) }
 {
     let mut memory = memory_of(alloc, code, repair, inputs)?;
     match first_stale(&mut memory, repair.forest.items())? {

@@ -8,7 +8,7 @@ use Rattle.ceal_base.specs.declared.word.Word.{Word}
 use Rattle.ceal_base.specs.declared.word.Word.TheVariants.{At}
 use Rattle.ceal_code.specs.Init.{made, pointer}
 use Rattle.ceal_code.specs.Program.{Code}
-use Rattle.ceal_code.specs.Step.{Stack, Run, Act, Over, Quiet, Makes, Writes, Reads, variable_default, entered, started, given, next}
+use Rattle.ceal_code.specs.Step.{Stack, Run, Act, Over, Quiet, Makes, Writes, Reads, variable_default, entered, started, words_after_read, next}
 use Rattle.ceal_code.specs.Value.{set}
 
 -- after a step of this sort, where `again` is the run from there
@@ -19,7 +19,8 @@ ran code again steps m (Makes key v u i env below) =
     again (with_block m (made code (block_at m) key)) (Run u i (set env v (pointer key (Core (length m.made)))) below)
 ran code again steps m (Writes p value after) = again (written_at m p.block p.field value) after
 ran code again steps m (Reads p u v args below) =
-    again m (entered code u.0 (given code u.0 v args (content_of m (At p) (variable_default code u.0 v))) below)
+    again m
+    (entered code u.0 (words_after_read code u.0 v args (content_of m (At p) (variable_default code u.0 v))) below)
 
 -- what a run without fuel comes to: nothing, unless it is over
 abbrev pub only_over : ℕ → Blocks → Act → Option Finished

@@ -21,7 +21,7 @@ use Rattle.ceal_code.specs.Init.{made, pointer}
 use Rattle.ceal_code.specs.declared.function.FunctionCode.{FunctionCode}
 use Rattle.ceal_code.specs.declared.function.FunctionCode.TheVariants.{Core as CoreFunction, Init as InitFunction}
 use Rattle.ceal_code.specs.Program.{Code}
-use Rattle.ceal_code.specs.Step.{Stack, Empty, Run, Over, Quiet, Makes, Writes, Reads, entered, started, given, next}
+use Rattle.ceal_code.specs.Step.{Stack, Empty, Run, Over, Quiet, Makes, Writes, Reads, entered, started, words_after_read, next}
 use Rattle.ceal_code.specs.Value.{Plain, set, is_cell, field_kind, field_default}
 
 -- A stack yields exactly these items over the plain words, where each read is answered by its recorded value and
@@ -41,7 +41,7 @@ pub data Yields (code : Code) (x : Plain) : Stack → Trace → Type 0 where
       → Yields code x st (Stepped (Wrote p value rest))
   reads : {st below : Stack} {p : Place} {u : UnitId} {v : ℕ} {args : List Word} {value : Word} {inside rest : Trace}
       → next code x st ≡ Reads p u v args below
-      → Yields code x (entered code u.0 (given code u.0 v args value) Empty) inside
+      → Yields code x (entered code u.0 (words_after_read code u.0 v args value) Empty) inside
       → Yields code x below rest
       → Yields code x st (Stepped (WasRead p value u v args inside rest))
 

@@ -19,7 +19,7 @@ use Rattle.ceal_base.specs.declared.word.Word.{Word}
 use Rattle.ceal_base.specs.declared.word.Word.TheVariants.{Num, Null, Block as BlockWord, At}
 use Rattle.ceal_code.specs.Init.{arguments, made, pointer}
 use Rattle.ceal_code.specs.Program.{Code}
-use Rattle.ceal_code.specs.Step.{Stack, Empty, Run, Quiet, Makes, Writes, Reads, unit_at, command_at, entry_of, kinds_of, variable_default, entered, given, settled, next}
+use Rattle.ceal_code.specs.Step.{Stack, Empty, Run, Quiet, Makes, Writes, Reads, unit_at, command_at, entry_of, kinds_of, variable_default, entered, words_after_read, stack_after_quiet, next}
 use Rattle.ceal_code.specs.Valid.{others, is_core}
 use Rattle.ceal_code.specs.Value.{Variables, set, field_kind, is_cell, expr_value, operand_value, values}
 use Rattle.ceal_code.specs.declared.command.Cmd.{Cmd}
@@ -42,7 +42,7 @@ pub data Steps (code : Code) : Blocks → Stack → Blocks → Stack → Type 0 
   reads : {m : Blocks} {st below : Stack} {p : Place} {u : UnitId} {v : ℕ} {args : List Word}
       → next code (block_at m) st ≡ Reads p u v args below
       → Steps code m st m
-      (entered code u.0 (given code u.0 v args (content_of m (At p) (variable_default code u.0 v))) below)
+      (entered code u.0 (words_after_read code u.0 v args (content_of m (At p) (variable_default code u.0 v))) below)
 
 -- any number of steps
 pub data Reaches (code : Code) (m : Blocks) (st : Stack) : Blocks → Stack → Type 0 where
@@ -200,5 +200,5 @@ GoesOn code m st (Run u i env below) = (m' : Blocks) × (st' : Stack) × Steps c
 pub record NotStuck (code : Code) (m : Blocks) (st : Stack) : Type 0 where
   pub memory : memory_fits code.structs m ≡ true
   pub stack : StackThere code m st
-  pub settles : StackThere code m (settled code (block_at m) st)
-  pub goes_on : GoesOn code m st (settled code (block_at m) st)
+  pub settles : StackThere code m (stack_after_quiet code (block_at m) st)
+  pub goes_on : GoesOn code m st (stack_after_quiet code (block_at m) st)

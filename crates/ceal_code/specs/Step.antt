@@ -86,8 +86,8 @@ woven (p ∷ ps) v value args =
     if p.0 == v then value ∷ woven ps v value args else first_word args ∷ woven ps v value (later_words args)
 
 -- the words of a unit that goes on after a read
-abbrev pub given : Code → ℕ → ℕ → List Word → Word → List Word
-given code u v args value = woven (unit_at code u).params v value args
+abbrev pub words_after_read : Code → ℕ → ℕ → List Word → Word → List Word
+words_after_read code u v args value = woven (unit_at code u).params v value args
 
 -- what the next step of a stack is; each but `Over` takes one step
 pub data Act : Type 0 where
@@ -121,7 +121,8 @@ writes_at (Some p) value after = Writes p value after
 
 -- a read at a place; where there is none, its unit goes on with the default
 abbrev pub reads_at : Code → Option Place → UnitId → ℕ → List Word → Stack → Act
-reads_at code None u v args below = Quiet (entered code u.0 (given code u.0 v args (variable_default code u.0 v)) below)
+reads_at code None u v args below =
+    Quiet (entered code u.0 (words_after_read code u.0 v args (variable_default code u.0 v)) below)
 reads_at code (Some p) u v args below = Reads p u v args below
 
 -- the step of a command that stands in a unit at an index
@@ -149,16 +150,17 @@ landed (Tail w args) arrived rest = rest
 landed c arrived rest = arrived
 
 -- `Done` and `Tail` take no step
-abbrev pub settled_at : Code → Plain → Cmd → ℕ → ℕ → Variables → Stack → Stack → Stack
-settled_at code x Done u i env below rest = rest
-settled_at code x (Tail w args) u i env below rest =
+abbrev pub stack_after_quiet_at : Code → Plain → Cmd → ℕ → ℕ → Variables → Stack → Stack → Stack
+stack_after_quiet_at code x Done u i env below rest = rest
+stack_after_quiet_at code x (Tail w args) u i env below rest =
     landed (command_at code w.0 0) (entered code w.0 (values code.structs x env args) below) rest
-settled_at code x c u i env below rest = Run u i env below
+stack_after_quiet_at code x c u i env below rest = Run u i env below
 
 -- the stack after commands that take no step
-unfoldable pub settled : Code → Plain → Stack → Stack
-settled code x Empty = Empty
-settled code x (Run u i env below) = settled_at code x (command_at code u i) u i env below (settled code x below)
+unfoldable pub stack_after_quiet : Code → Plain → Stack → Stack
+stack_after_quiet code x Empty = Empty
+stack_after_quiet code x (Run u i env below) =
+    stack_after_quiet_at code x (command_at code u i) u i env below (stack_after_quiet code x below)
 
 -- the next step of a stack
 abbrev pub acted : Code → Plain → Stack → Act
@@ -167,4 +169,4 @@ acted code x (Run u i env below) = act code x (command_at code u i) u i env belo
 
 -- the next step, from plain words and a stack
 unfoldable pub next : Code → Plain → Stack → Act
-next code x st = acted code x (settled code x st)
+next code x st = acted code x (stack_after_quiet code x st)

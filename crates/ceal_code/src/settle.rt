@@ -4,7 +4,7 @@ ghost use Rattle.std.specs.Prelude.{◌≡◌, true, unwrap_or, if◌then◌else
 ghost use Rattle.std.specs.Option.{option_map};
 ghost use Rattle.ceal_code.specs.Init.{arguments};
 ghost use Rattle.ceal_code.specs.Stacks.{waits_in, stack_in, aside_in, landing, Stands};
-ghost use Rattle.ceal_code.specs.Step.{Stack as StackOf, Empty, command_at, entered, landed, settled_at, settled};
+ghost use Rattle.ceal_code.specs.Step.{Stack as StackOf, Empty, command_at, entered, landed, stack_after_quiet_at, stack_after_quiet};
 ghost use Rattle.ceal_code.specs.Value.{values};
 ghost use Rattle.ceal_code.specs.declared.command.Cmd.TheVariants.{Done};
 
@@ -76,8 +76,9 @@ impl Stack {
         requires stands { Stands code.now c.now self.old }
         ensures waits { OnOk result (self.new.waits ≡ self.old.waits) }
         ensures arrives { IfOk result (λ found. (rest : StackOf) →
-            settled_at code.now (P.plain plain.now) c.now self.old.top.unit self.old.top.index
-            (arguments self.old.top.env.items) (waits_in self.old.waits) rest
+            stack_after_quiet_at code.now (P.plain plain.now) c.now
+            self.old.top.unit self.old.top.index (arguments self.old.top.env.items)
+            (waits_in self.old.waits) rest
             ≡ landing found self.new rest) }
         ensures command { IfOk result
             (λ found. IfSome found (λ c. Stands code.now c.now self.new)) }
@@ -105,7 +106,7 @@ impl Stack {
         requires runs { self.old.runs ≡ true }
         ensures waits { OnOk result (self.new.waits ≡ self.old.waits) }
         ensures arrives { IfOk result (λ found. (rest : StackOf) →
-            settled_at code.now (P.plain plain.now)
+            stack_after_quiet_at code.now (P.plain plain.now)
             (command_at code.now self.old.top.unit self.old.top.index)
             self.old.top.unit self.old.top.index (arguments self.old.top.env.items)
             (waits_in self.old.waits) rest ≡ landing found self.new rest) }
@@ -125,7 +126,7 @@ impl Stack {
         plain: &P,
     ) -> Result<Option<&'c Cmd>, NoMemory>
         ensures settled { IfOk result (λ found.
-            settled code.now (P.plain plain.now) (stack_in self.old)
+            stack_after_quiet code.now (P.plain plain.now) (stack_in self.old)
             ≡ landing found self.new Empty) }
         ensures command { IfOk result
             (λ found. IfSome found (λ c. Stands code.now c.now self.new)) }

@@ -5,7 +5,7 @@ ghost use Rattle.std.specs.declared.alloc.Global.{Global as Allocator};
 ghost use Rattle.ceal_base.specs.Operators.{number_of};
 ghost use Rattle.ceal_code.specs.Init.{arguments};
 ghost use Rattle.ceal_code.specs.Stacks.{Began, over, waits_in, stack_in, aside_in, above_floor, under_floor, top_of, below_in, below_count, left_in};
-ghost use Rattle.ceal_code.specs.Step.{Empty, Run, entered, started, given};
+ghost use Rattle.ceal_code.specs.Step.{Empty, Run, entered, started, words_after_read};
 ghost use Rattle.ceal_code.specs.Value.{set, expr_value, values};
 
 use crate::binding::{bind, bind_given, bind_values, choose, set_variable};
@@ -219,7 +219,7 @@ impl Stack {
         value: Word,
     ) -> Result<(), NoMemory>
         ensures resumed { OnOk result (stack_in self.new ≡ entered code.now next.entry.unit.0
-            (given code.now next.entry.unit.0 next.entry.var next.entry.args.now value)
+            (words_after_read code.now next.entry.unit.0 next.entry.var next.entry.args.now value)
             (stack_in self.old)) }
         ensures aside { OnOk result (aside_in self.new ≡ aside_in self.old) }
     {

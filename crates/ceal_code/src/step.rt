@@ -5,7 +5,7 @@ ghost use Rattle.ceal_base.specs.Access.{holds};
 ghost use Rattle.ceal_code.specs.Init.{arguments};
 ghost use Rattle.ceal_code.specs.Program.{Code as Parts};
 ghost use Rattle.ceal_code.specs.Stacks.{waits_in, stack_in, aside_in, act_in, act_on, top_of, key_made, making_in, reading_in, step_in};
-ghost use Rattle.ceal_code.specs.Step.{Run, variable_default, entered, given, key_of, place_of, writes_at, next};
+ghost use Rattle.ceal_code.specs.Step.{Run, variable_default, entered, words_after_read, key_of, place_of, writes_at, next};
 ghost use Rattle.ceal_code.specs.Value.{Plain, set, values};
 ghost use Rattle.ceal_base.specs.declared.word.Word.TheVariants.{Num as IsNum};
 ghost use Rattle.ceal_code.specs.declared.step.Act.TheVariants.{Makes as IsMakes, Reads as IsReads};
@@ -164,7 +164,7 @@ fn read_null(
     args: &[Word],
 ) -> Result<(), NoMemory>
     ensures entered { OnOk result (stack_in stack.new ≡ entered code.now unit
-        (given code.now unit v args.now (variable_default code.now unit v))
+        (words_after_read code.now unit v args.now (variable_default code.now unit v))
         (waits_in stack.old.waits)) }
     ensures aside { OnOk result (aside_in stack.new ≡ aside_in stack.old) }
 {
@@ -184,7 +184,7 @@ fn read_nothing<P: PlainWords>(
     args: &CodeExprs,
 ) -> Result<(), NoMemory>
     ensures entered { OnOk result (stack_in stack.new ≡ entered code.now unit.0
-        (given code.now unit.0 var.0 (values code.now.structs (P.plain plain.now)
+        (words_after_read code.now unit.0 var.0 (values code.now.structs (P.plain plain.now)
         (arguments stack.old.top.env.items) args.now) (variable_default code.now unit.0 var.0))
         (waits_in stack.old.waits)) }
     ensures aside { OnOk result (aside_in stack.new ≡ aside_in stack.old) }

@@ -10,7 +10,7 @@ use Rattle.ceal_base.specs.declared.forest.Item.TheVariants as item
 use Rattle.ceal_base.specs.declared.forest.Key.TheVariants.{ModInt as IntKey}
 use Rattle.ceal_code.proofs.Replay.Increment.{inc, place, inputs, args, items}
 use Rattle.ceal_code.specs.Replay.{bases, input_plain, plain_of, stored}
-use Rattle.ceal_code.specs.Step.{settled, next, chosen, bound, woven}
+use Rattle.ceal_code.specs.Step.{stack_after_quiet, next, chosen, bound, woven}
 use Rattle.ceal_code.specs.Value.{expr_value, values, set, unset}
 use Rattle.ceal_cost.specs.Bounds.{first_cost}
 use Rattle.ceal_cost.specs.Along.{along}
@@ -23,18 +23,19 @@ use Rattle.ceal_theory.specs.Take.{take_read}
 
 -- where a is 4 on the one side and 9 on the other the reads differ, and the step inside the second one counts
 other_value : first_cost inc 2 (inputs 4 0) (inputs 9 0) 0 args ≡ 1
-unfolding first_of anew cost_from next settled chosen bound woven set unset expr_value values bases input_plain
+unfolding first_of anew cost_from next stack_after_quiet chosen bound woven set unset expr_value values bases input_plain
     stored take_read hidden-the_row-CodeExpr-0 shape-the_row-CodeExpr-0 denote.Hole.Carrier.hidden
 other_value = refl
 
 -- so much work is the repair
 its_work : adjusted inc (inputs 9 0) 0 2 (items 4 5) ≡ Some (record { items = items 9 10; work = 1 })
-unfolding adjusted anew next settled chosen bound woven set unset expr_value values bases input_plain plain_of stored hidden-the_row-CodeExpr-0 shape-the_row-CodeExpr-0 denote.Hole.Carrier.hidden
+unfolding adjusted anew next stack_after_quiet chosen bound woven set unset expr_value values bases input_plain
+    plain_of stored hidden-the_row-CodeExpr-0 shape-the_row-CodeExpr-0 denote.Hole.Carrier.hidden
 its_work = refl
 
 -- the value of b is not read, and costs nothing
 same_value : first_cost inc 2 (inputs 4 0) (inputs 4 7) 0 args ≡ 0
-unfolding first_of anew cost_from next settled chosen bound woven set unset expr_value values bases input_plain
+unfolding first_of anew cost_from next stack_after_quiet chosen bound woven set unset expr_value values bases input_plain
     stored take_read hidden-the_row-CodeExpr-0 shape-the_row-CodeExpr-0 denote.Hole.Carrier.hidden
 same_value = refl
 

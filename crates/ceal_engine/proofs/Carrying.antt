@@ -45,7 +45,7 @@ use Rattle.ceal_theory.specs.Adjust.{Above}
 use Rattle.ceal_theory.specs.Carried.{Carried, CarriedSlices, counted_anew}
 use Rattle.ceal_theory.specs.Laws.{Edited}
 use Rattle.ceal_theory.specs.Repair.{own}
-use Rattle.ceal_theory.specs.Slices.{Repair, beginning, sliced, is_done, Sound, Slices, ComesBehind, RenamedSlices}
+use Rattle.ceal_theory.specs.Slices.{Repair, beginning, sliced, is_done, RepairHolds, Slices, ComesBehind, RenamedSlices}
 
 -- ---- a new repair begins
 
@@ -148,10 +148,10 @@ pub record Carries (code : Code) (inputs : List Block) (f : ℕ) (args : List Wo
   pub is : sliced code own inputs k fuel r ≡ Some repair
   pub carried : Carried code inputs next' repair z
   pub honest : IsHonest code inputs repair.items ↔ IsHonest code inputs z.items
-  pub sound : Sound code own inputs f args repair
+  pub sound : RepairHolds code own inputs f args repair
 
 module _ (code : Code) (inputs : List Block) (f : ℕ) (args : List Word) (fuel : ℕ) (q : Repair) (run : Running) (part : IsPartRun code inputs f args fuel q run) (k : Option ℕ) where
-  module _ (next' : ℕ) (r : Repair) (sound : Sound code own inputs f args r) (carried : Carried code inputs next' r q) where
+  module _ (next' : ℕ) (r : Repair) (sound : RepairHolds code own inputs f args r) (carried : Carried code inputs next' r q) where
     by-names : (o : Option Repair) → IsSliceOf code inputs k fuel q o → CarriedSlices code inputs next' (sliced code own inputs k fuel r) o
     by-names o s = subst (λ z. CarriedSlices code inputs next' (sliced code own inputs k fuel r) z) s.is
         (carried-on-law code part.stands.names s.names inputs f args part.fits r q sound part.stands.sound s.single s.off next' carried k fuel)
@@ -178,7 +178,7 @@ module _ (code : Code) (inputs : List Block) (f : ℕ) (args : List Word) (fuel 
 
   -- the slice with the heap's numbers
   module _ (z : Repair) (s : IsSliceOf code inputs k fuel q (Some z)) where
-    anew-sound : Sound code s.names inputs f args (counted_anew q)
+    anew-sound : RepairHolds code s.names inputs f args (counted_anew q)
     anew-sound = other-names-law code part.stands.names s.names inputs f args q part.stands.sound s.single 0 (λ j h. s.off j)
 
     by-rules : Slices code s.names inputs k (counted_anew q) z
@@ -202,8 +202,8 @@ pub record Renames (code : Code) (next' : ℕ) (before now : Repair) (l m : Trac
   pub apart : (b c : ℕ) → Tied b c pairs → before.known (Core b) ≡ None → now.known (Core c) ≡ None
 
 module _ (code : Code) (inputs : List Block) (f : ℕ) (args : List Word) (fuel : ℕ) (q : Repair) (run : Running) (part : IsPartRun code inputs f args fuel q run) (k : Option ℕ) (next' : ℕ) (r : Repair)
-    (sound : Sound code own inputs f args r) (carried : Carried code inputs next' r q) (z z' : Repair) (s : IsSliceOf code inputs k fuel q (Some z)) (is : sliced code own inputs k fuel r ≡ Some z') where
-  names-sound : Sound code s.names inputs f args (counted_anew q)
+    (sound : RepairHolds code own inputs f args r) (carried : Carried code inputs next' r q) (z z' : Repair) (s : IsSliceOf code inputs k fuel q (Some z)) (is : sliced code own inputs k fuel r ≡ Some z') where
+  names-sound : RepairHolds code s.names inputs f args (counted_anew q)
   names-sound = anew-sound code inputs f args fuel q run part k z s
 
   same-carried : Carried code inputs next' r (counted_anew q)
@@ -254,9 +254,9 @@ module _ (code : Code) (fuel : ℕ) (inputs : List Block) (phase : Phase) (call 
   same = same-as phase before run is
 
   -- the engine's repair is carried to that of the run
-  pub here : (next' : ℕ) (r : Repair) → (c : CarriesFrom e next' r) → Sound code own inputs call.function call.args r × Carried code inputs next' r k.repair
+  pub here : (next' : ℕ) (r : Repair) → (c : CarriesFrom e next' r) → RepairHolds code own inputs call.function call.args r × Carried code inputs next' r k.repair
   here next' r c = (
-    subst (λ (d : Call). Sound code own inputs d.function d.args r) (some-same c.call call (sym c.called)) c.sound,
+    subst (λ (d : Call). RepairHolds code own inputs d.function d.args r) (some-same c.call call (sym c.called)) c.sound,
     carried-same-law code inputs next' r (carried_by e c.items) k.repair c.carried items
         (λ b. k.of.stands.known b ∙ ap (λ h. plain_of h (Core b)) same.heap)
         (k.of.stands.spent ∙ same.spent),
@@ -266,7 +266,7 @@ module _ (code : Code) (fuel : ℕ) (inputs : List Block) (phase : Phase) (call 
       items = some-same k.repair.items c.items (sym (part-trace code fuel inputs call run k) ∙ (ap (λ t. trace_of (Rattle.ceal_trace.specs.Items.forest_of t.nodes)) same.trace ∙ c.is))
 
   module _ (reads : Option ℕ) (next' : ℕ) (r : Repair) (c : CarriesFrom e next' r) where
-    abbrev h : Sound code own inputs call.function call.args r × Carried code inputs next' r k.repair
+    abbrev h : RepairHolds code own inputs call.function call.args r × Carried code inputs next' r k.repair
     h = here next' r c
 
     abbrev found : (z : Repair) → IsSliceOf code inputs reads fuel k.repair (Some z) → Carries code inputs call.function call.args fuel next' r reads z

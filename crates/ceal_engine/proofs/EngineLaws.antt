@@ -30,7 +30,7 @@ use Rattle.ceal_theory.specs.Adjust.{Extended}
 use Rattle.ceal_theory.specs.Carried.{Carried}
 use Rattle.ceal_theory.specs.Laws.{Edited}
 use Rattle.ceal_theory.specs.Repair.{own}
-use Rattle.ceal_theory.specs.Slices.{Repair, Sound, beginning}
+use Rattle.ceal_theory.specs.Slices.{Repair, RepairHolds, beginning}
 use Rattle.ceal_trace.specs.Items.{forest_of}
 use Rattle.ceal_trace.specs.Nodes.{Timeline}
 
@@ -82,7 +82,7 @@ kept-law e n k m same next' r c = record {
   called = same.call ∙ c.called;
   items = c.items;
   is = ap stands_for same.forest ∙ c.is;
-  sound = subst (λ code. Sound code own n.inputs c.call.function c.call.args r) (sym same.code) (more-law e.code own e.inputs n.inputs c.call.function c.call.args fits fit same.inputs r c.sound);
+  sound = subst (λ code. RepairHolds code own n.inputs c.call.function c.call.args r) (sym same.code) (more-law e.code own e.inputs n.inputs c.call.function c.call.args fits fit same.inputs r c.sound);
   carried = subst (λ code. Carried code n.inputs next' r (carried_by n c.items)) (sym same.code)
       (carried-same-law e.code n.inputs next' r (carried_by e c.items) (carried_by n c.items)
       (carried-more-law e.code e.inputs n.inputs fit same.inputs next' r (carried_by e c.items) c.carried) refl (λ b. ap (λ h. words_in h (Core b)) same.heap) same.spent);

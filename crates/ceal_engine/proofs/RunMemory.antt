@@ -45,7 +45,7 @@ use Rattle.ceal_theory.specs.Cover.{known_after}
 use Rattle.ceal_theory.specs.KnownContent.{allocs, written_after}
 use Rattle.ceal_theory.specs.Listed.{Listed}
 use Rattle.ceal_theory.specs.Repair.{own}
-use Rattle.ceal_theory.specs.Slices.{beginning, starting, default_in, Sound}
+use Rattle.ceal_theory.specs.Slices.{beginning, starting, default_in, RepairHolds}
 
 -- ---- the blocks that a trace allocates
 
@@ -142,7 +142,7 @@ module _ (code : Code) (inputs : List Block) (f : ℕ) (args : List Word) (fuel 
   abbrev words : Plain
   words = plain_of code inputs l
 
-  sound : Sound code own inputs f args (beginning code inputs l limit)
+  sound : RepairHolds code own inputs f args (beginning code inputs l limit)
   sound = begin-sound code own inputs inputs f args l limit limit (record { call = k.fits; fit = k.fits.blocks; extended = extended-refl code inputs; trace = k.replays; above = above }) own-single above
 
   again : HonestAgain code (length inputs) (starting code inputs words) l k.replays.known h.after

@@ -12,7 +12,7 @@ use Rattle.ceal_code.proofs.Replay.Increment.{inc, place, inputs, args, items}
 use Rattle.ceal_code.specs.After.{memory_after}
 use Rattle.ceal_code.specs.Fresh.{fresh, run}
 use Rattle.ceal_code.specs.Replay.{bases, input_plain, plain_of, stored, block_after}
-use Rattle.ceal_code.specs.Step.{settled, next, chosen, bound, woven}
+use Rattle.ceal_code.specs.Step.{stack_after_quiet, next, chosen, bound, woven}
 use Rattle.ceal_code.specs.Value.{expr_value, values, set, unset}
 use Rattle.ceal_engine.specs.Engine.{EngineState, trace, core, IsRun, IsPresent, takes, with_base, edited}
 use Rattle.ceal_engine.specs.Repaired.{first_trace}
@@ -55,7 +55,7 @@ unfolding input_plain plain_of bases stored block_after
 a_after = refl
 
 first : first_trace (engine IsFinished 4) ≡ Some (record { items = items 4 5; work = 2 })
-unfolding first_of anew next settled chosen bound woven set unset expr_value values bases input_plain stored take_read hidden-the_row-CodeExpr-0 shape-the_row-CodeExpr-0 denote.Hole.Carrier.hidden
+unfolding first_of anew next stack_after_quiet chosen bound woven set unset expr_value values bases input_plain stored take_read hidden-the_row-CodeExpr-0 shape-the_row-CodeExpr-0 denote.Hole.Carrier.hidden
 first = refl
 
 -- it is the run from scratch
@@ -78,7 +78,7 @@ its_run = record {
 }
 
 is_present : IsPresent (engine IsFinished 4)
-unfolding fresh run next settled chosen bound woven set unset expr_value values hidden-the_row-CodeExpr-0 shape-the_row-CodeExpr-0 denote.Hole.Carrier.hidden
+unfolding fresh run next stack_after_quiet chosen bound woven set unset expr_value values hidden-the_row-CodeExpr-0 shape-the_row-CodeExpr-0 denote.Hole.Carrier.hidden
 is_present = record { run = finished; fresh = refl; is = its_run }
 
 -- an edit: a takes a number and not null, and a core block takes nothing
@@ -99,5 +99,5 @@ is_pending = refl
 
 -- the trace after a propagation: one step is re-executed
 repaired : adjusted inc (engine Pending 9).inputs 0 2 (items 4 5) ≡ Some (record { items = items 9 10; work = 1 })
-unfolding adjusted anew next settled chosen bound woven set unset expr_value values bases input_plain plain_of stored hidden-the_row-CodeExpr-0 shape-the_row-CodeExpr-0 denote.Hole.Carrier.hidden
+unfolding adjusted anew next stack_after_quiet chosen bound woven set unset expr_value values bases input_plain plain_of stored hidden-the_row-CodeExpr-0 shape-the_row-CodeExpr-0 denote.Hole.Carrier.hidden
 repaired = refl

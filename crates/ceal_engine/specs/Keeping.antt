@@ -28,7 +28,7 @@ use Rattle.ceal_repair.specs.Slicing.{IsPartRun}
 use Rattle.ceal_repair.specs.declared.running.Running.{Running}
 use Rattle.ceal_theory.specs.Carried.{Carried}
 use Rattle.ceal_theory.specs.Repair.{own}
-use Rattle.ceal_theory.specs.Slices.{Repair, Sound as RepairSound}
+use Rattle.ceal_theory.specs.Slices.{Repair, RepairHolds}
 use Rattle.ceal_trace.specs.Items.{forest_of}
 use Rattle.ceal_trace.specs.Nodes.{Timeline}
 
@@ -158,7 +158,7 @@ pub record IsPartKept (code : Code) (fuel : ℕ) (inputs : List Block) (call : C
   pub of : IsPartRun code inputs call.function call.args fuel repair run
   pub next : ℕ
   pub ordered : Repair
-  pub sound : RepairSound code own inputs call.function call.args ordered
+  pub sound : RepairHolds code own inputs call.function call.args ordered
   pub carried : Carried code inputs next ordered repair
 
 -- A run of the call is kept in Finished and Pending, one of a repair that goes on in Partial.

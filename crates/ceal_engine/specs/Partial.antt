@@ -22,7 +22,7 @@ use Rattle.ceal_heap.specs.Heap.{Contents, plain_of}
 use Rattle.ceal_theory.specs.Adjust.{Above, Extended}
 use Rattle.ceal_theory.specs.Carried.{Carried}
 use Rattle.ceal_theory.specs.Repair.{own}
-use Rattle.ceal_theory.specs.Slices.{Repair, beginning, sliced, is_done, Sound}
+use Rattle.ceal_theory.specs.Slices.{Repair, beginning, sliced, is_done, RepairHolds}
 
 -- the phase after a slice, by how far it has come
 abbrev pub phase_after : Progress → Phase
@@ -64,7 +64,7 @@ pub record CarriesFrom (e : EngineState) (next : ℕ) (r : Repair) : Type 0 wher
   pub called : e.call ≡ Some call
   pub items : Trace
   pub is : trace e ≡ Some items
-  pub sound : Sound e.code own e.inputs call.function call.args r
+  pub sound : RepairHolds e.code own e.inputs call.function call.args r
   pub carried : Carried e.code e.inputs next r (carried_by e items)
 
 -- a repair of the call goes on, and no more steps were spent on it than the fuel

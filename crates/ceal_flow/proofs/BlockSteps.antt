@@ -12,7 +12,7 @@ use Rattle.ceal_base.specs.declared.typed.TypedStmt.TheBlock.{hidden-the_row-Typ
 use Rattle.ceal_base.specs.declared.typed.TypedStmt.TheVariants.{Declare, Assign, SetField, Write, Call, Return, Break, Continue}
 use Rattle.ceal_base.specs.declared.typed.TypedStmt.TheViews.{If, While}
 use Rattle.ceal_base.specs.declared.typed.TypedValue.{TypedValue}
-use Rattle.ceal_flow.specs.Blocks.{size, row_size, sizes, goes_on, row_goes_on, all_go_on, in_loop, row_entry, entry, blocks_of, row_blocks, all_blocks}
+use Rattle.ceal_flow.specs.Blocks.{size, row_size, sizes, may_continue, row_may_continue, all_may_continue, in_loop, row_entry, entry, blocks_of, row_blocks, all_blocks}
 use Rattle.ceal_flow.specs.declared.block.GraphBlock.{GraphBlock}
 use Rattle.ceal_flow.specs.declared.exits.Exits.{Exits}
 use Rattle.ceal_flow.specs.declared.block.GraphBlock.TheVariants.{Test, Act, Unreached}
@@ -23,10 +23,10 @@ unfolding size sizes hidden-the_row-TypedStmt-0 shape-the_row-TypedStmt-0 denote
 row-sizes [] = refl
 row-sizes (s ∷ xs) = ap (λ n. size s + n) (row-sizes xs)
 
-pub row-go_on : (xs : List TypedStmt) → row_goes_on (hidden-the_row-TypedStmt-0 xs) ≡ all_go_on xs
-unfolding goes_on all_go_on hidden-the_row-TypedStmt-0 shape-the_row-TypedStmt-0 denote.Hole.Carrier.hidden
-row-go_on [] = refl
-row-go_on (s ∷ xs) = ap (λ b. goes_on s && b) (row-go_on xs)
+pub row-may_continue : (xs : List TypedStmt) → row_may_continue (hidden-the_row-TypedStmt-0 xs) ≡ all_may_continue xs
+unfolding may_continue all_may_continue hidden-the_row-TypedStmt-0 shape-the_row-TypedStmt-0 denote.Hole.Carrier.hidden
+row-may_continue [] = refl
+row-may_continue (s ∷ xs) = ap (λ b. may_continue s && b) (row-may_continue xs)
 
 pub row-entry : (xs : List TypedStmt) (n after : ℕ) (exits : Exits) → row_entry (hidden-the_row-TypedStmt-0 xs) n after exits ≡ entry xs n after exits
 unfolding hidden-the_row-TypedStmt-0 shape-the_row-TypedStmt-0 denote.Hole.Carrier.hidden
@@ -37,9 +37,9 @@ pub row-blocks : (xs : List TypedStmt) (n after : ℕ) (exits : Exits) → row_b
 unfolding blocks_of all_blocks hidden-the_row-TypedStmt-0 shape-the_row-TypedStmt-0 denote.Hole.Carrier.hidden
 row-blocks [] n after exits = refl
 row-blocks (s ∷ xs) n after exits =
-    ap (λ m. blocks_of s n m exits ++ (if goes_on s then row_blocks (hidden-the_row-TypedStmt-0 xs) (n + size s) after exits else replicate (row_size (hidden-the_row-TypedStmt-0 xs)) Unreached))
+    ap (λ m. blocks_of s n m exits ++ (if may_continue s then row_blocks (hidden-the_row-TypedStmt-0 xs) (n + size s) after exits else replicate (row_size (hidden-the_row-TypedStmt-0 xs)) Unreached))
     (row-entry xs (n + size s) after exits)
-    ∙ ap₂ (λ bs k. blocks_of s n (entry xs (n + size s) after exits) exits ++ (if goes_on s then bs else replicate k Unreached)) (row-blocks xs (n + size s) after exits) (row-sizes xs)
+    ∙ ap₂ (λ bs k. blocks_of s n (entry xs (n + size s) after exits) exits ++ (if may_continue s then bs else replicate k Unreached)) (row-blocks xs (n + size s) after exits) (row-sizes xs)
 
 -- sizes
 pub size-declare : (at : Span) (n : ℕ) (kind : Kind) (v : TypedValue) → size (Declare at n kind v) ≡ 1
@@ -108,52 +108,52 @@ pub sizes-parts : (xs : List TypedStmt) (i : ℕ) → sizes (take i xs) + sizes 
 sizes-parts xs i = sym (sizes-append (take i xs) (drop i xs)) ∙ ap sizes (take-append-drop i xs)
 
 -- whether a path continues
-pub on-declare : (at : Span) (n : ℕ) (kind : Kind) (v : TypedValue) → goes_on (Declare at n kind v) ≡ true
-unfolding goes_on
+pub on-declare : (at : Span) (n : ℕ) (kind : Kind) (v : TypedValue) → may_continue (Declare at n kind v) ≡ true
+unfolding may_continue
 on-declare at n kind v = refl
 
-pub on-assign : (at : Span) (n : ℕ) (v : TypedValue) → goes_on (Assign at n v) ≡ true
-unfolding goes_on
+pub on-assign : (at : Span) (n : ℕ) (v : TypedValue) → may_continue (Assign at n v) ≡ true
+unfolding may_continue
 on-assign at n v = refl
 
-pub on-set : (at : Span) (left : TypedExpr) (s field : ℕ) (e : TypedExpr) → goes_on (SetField at left s field e) ≡ true
-unfolding goes_on
+pub on-set : (at : Span) (left : TypedExpr) (s field : ℕ) (e : TypedExpr) → may_continue (SetField at left s field e) ≡ true
+unfolding may_continue
 on-set at left s field e = refl
 
-pub on-write : (at : Span) (p e : TypedExpr) → goes_on (Write at p e) ≡ true
-unfolding goes_on
+pub on-write : (at : Span) (p e : TypedExpr) → may_continue (Write at p e) ≡ true
+unfolding may_continue
 on-write at p e = refl
 
-pub on-call : (at : Span) (f : ℕ) (args : List TypedExpr) → goes_on (Call at f args) ≡ true
-unfolding goes_on
+pub on-call : (at : Span) (f : ℕ) (args : List TypedExpr) → may_continue (Call at f args) ≡ true
+unfolding may_continue
 on-call at f args = refl
 
-pub on-return : (at : Span) → goes_on (Return at) ≡ false
-unfolding goes_on
+pub on-return : (at : Span) → may_continue (Return at) ≡ false
+unfolding may_continue
 on-return at = refl
 
-pub on-break : (at : Span) → goes_on (Break at) ≡ false
-unfolding goes_on
+pub on-break : (at : Span) → may_continue (Break at) ≡ false
+unfolding may_continue
 on-break at = refl
 
-pub on-continue : (at : Span) → goes_on (Continue at) ≡ false
-unfolding goes_on
+pub on-continue : (at : Span) → may_continue (Continue at) ≡ false
+unfolding may_continue
 on-continue at = refl
 
-pub on-if : (at : Span) (test : TypedExpr) (first second : List TypedStmt) → goes_on (If at test first second) ≡ (all_go_on first || all_go_on second)
-unfolding goes_on
-on-if at test first second = ap₂ (λ a b. a || b) (row-go_on first) (row-go_on second)
+pub on-if : (at : Span) (test : TypedExpr) (first second : List TypedStmt) → may_continue (If at test first second) ≡ (all_may_continue first || all_may_continue second)
+unfolding may_continue
+on-if at test first second = ap₂ (λ a b. a || b) (row-may_continue first) (row-may_continue second)
 
-pub on-while : (at : Span) (test : TypedExpr) (body : List TypedStmt) → goes_on (While at test body) ≡ true
-unfolding goes_on
+pub on-while : (at : Span) (test : TypedExpr) (body : List TypedStmt) → may_continue (While at test body) ≡ true
+unfolding may_continue
 on-while at test body = refl
 
-pub on-nil : all_go_on [] ≡ true
-unfolding all_go_on
+pub on-nil : all_may_continue [] ≡ true
+unfolding all_may_continue
 on-nil = refl
 
-pub on-cons : (s : TypedStmt) (rest : List TypedStmt) → all_go_on (s ∷ rest) ≡ (goes_on s && all_go_on rest)
-unfolding all_go_on
+pub on-cons : (s : TypedStmt) (rest : List TypedStmt) → all_may_continue (s ∷ rest) ≡ (may_continue s && all_may_continue rest)
+unfolding all_may_continue
 on-cons s rest = refl
 
 -- blocks
@@ -207,7 +207,7 @@ module _ (n after : ℕ) (exits : Exits) where
   all-nil = refl
 
   pub all-cons : (s : TypedStmt) (rest : List TypedStmt) → all_blocks (s ∷ rest) n after exits
-      ≡ blocks_of s n (entry rest (n + size s) after exits) exits ++ (if goes_on s then all_blocks rest (n + size s) after exits else replicate (sizes rest) Unreached)
+      ≡ blocks_of s n (entry rest (n + size s) after exits) exits ++ (if may_continue s then all_blocks rest (n + size s) after exits else replicate (sizes rest) Unreached)
   unfolding all_blocks
   all-cons s rest = refl
 
@@ -238,7 +238,7 @@ mutual
   row-length end_of-TypedStmt n after exits = refl
   row-length (more_of-TypedStmt s rest) n after exits =
       let a = blocks-length s n (row_entry rest (n + size s) after exits) exits in
-      let b = behind-length (goes_on s) (row_blocks rest (n + size s) after exits) (row_size rest) (row-length rest (n + size s) after exits) in
+      let b = behind-length (may_continue s) (row_blocks rest (n + size s) after exits) (row_size rest) (row-length rest (n + size s) after exits) in
       simp length-append (omega (arith, a, b))
 
 pub all-length : (xs : List TypedStmt) (n after : ℕ) (exits : Exits) → length (all_blocks xs n after exits) ≡ sizes xs

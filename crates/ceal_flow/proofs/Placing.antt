@@ -5,7 +5,7 @@ use Rattle.std.proofs.Common.{subst}
 use Rattle.std.proofs.lemmas.List.Elements.{All-head, All-tail}
 use Rattle.ceal_base.specs.declared.typed.TypedFunction.{TypedFunction}
 use Rattle.ceal_base.specs.declared.typed.TypedStmt.{TypedStmt}
-use Rattle.ceal_flow.specs.Blocks.{size, sizes, goes_on, entry, blocks_of, all_blocks}
+use Rattle.ceal_flow.specs.Blocks.{size, sizes, may_continue, entry, blocks_of, all_blocks}
 use Rattle.ceal_flow.specs.Lowering.{function_size, function_at, blocks_at, functions_from, blocks_from}
 use Rattle.ceal_flow.specs.declared.block.GraphBlock.{GraphBlock}
 use Rattle.ceal_flow.specs.declared.exits.Exits.{Exits}
@@ -40,9 +40,9 @@ module _ (blocks : List GraphBlock) where
   pub placed-first : (s : TypedStmt) (ss : List TypedStmt) (n after : ℕ) (exits : Exits) → Placed blocks n (all_blocks (s ∷ ss) n after exits)
       → Placed blocks n (blocks_of s n (entry ss (n + size s) after exits) exits)
   placed-first s ss n after exits h =
-      placed-left n _ (if goes_on s then all_blocks ss (n + size s) after exits else replicate (sizes ss) Unreached) (rw all-cons at h)
+      placed-left n _ (if may_continue s then all_blocks ss (n + size s) after exits else replicate (sizes ss) Unreached) (rw all-cons at h)
 
-  pub placed-rest : (s : TypedStmt) (ss : List TypedStmt) (n after : ℕ) (exits : Exits) → goes_on s ≡ true → Placed blocks n (all_blocks (s ∷ ss) n after exits)
+  pub placed-rest : (s : TypedStmt) (ss : List TypedStmt) (n after : ℕ) (exits : Exits) → may_continue s ≡ true → Placed blocks n (all_blocks (s ∷ ss) n after exits)
       → Placed blocks (n + size s) (all_blocks ss (n + size s) after exits)
   placed-rest s ss n after exits on h =
       placed-right n (blocks_of s n (entry ss (n + size s) after exits) exits) (all_blocks ss (n + size s) after exits) (size s)

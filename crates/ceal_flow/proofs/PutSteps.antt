@@ -10,7 +10,7 @@ use Rattle.ceal_base.specs.declared.typed.TypedFunction.{TypedFunction}
 use Rattle.ceal_flow.specs.Lowering.{function_size, function_at, blocks_at, functions_from, blocks_from}
 use Rattle.ceal_flow.specs.declared.function.GraphFunction.{GraphFunction}
 use Rattle.ceal_flow.proofs.FunctionSteps.{blocks_in-length, functions_from-drop, blocks_from-drop}
-use Rattle.ceal_flow.specs.Blocks.{size, sizes, goes_on, all_go_on, in_loop, entry, blocks_of, all_blocks}
+use Rattle.ceal_flow.specs.Blocks.{size, sizes, may_continue, all_may_continue, in_loop, entry, blocks_of, all_blocks}
 use Rattle.ceal_flow.specs.declared.block.GraphBlock.{GraphBlock}
 use Rattle.ceal_flow.specs.declared.exits.Exits.{Exits}
 use Rattle.ceal_flow.specs.declared.block.GraphBlock.TheVariants.{Test, Unreached}
@@ -37,15 +37,15 @@ put-while old a b at test body n body_at after exits n_is body_at_is a_is b_is =
 -- the statements from the one at `i` on
 pub all_blocks-drop : (xs : List TypedStmt) (i : ℕ) (s : TypedStmt) (n after : ℕ) (exits : Exits) → s ≡ get_or xs i s → i < length xs
     → all_blocks (drop i xs) n after exits ≡ blocks_of s n (entry (drop (i + 1) xs) (n + size s) after exits) exits
-    ++ (if goes_on s then all_blocks (drop (i + 1) xs) (n + size s) after exits else replicate (sizes (drop (i + 1) xs)) Unreached)
+    ++ (if may_continue s then all_blocks (drop (i + 1) xs) (n + size s) after exits else replicate (sizes (drop (i + 1) xs)) Unreached)
 all_blocks-drop xs i s n after exits is h = rw (drop-cons xs i s h, ← is, add-one) (all-cons n after exits s (drop (suc i) xs))
 
-pub all_go_on-drop : (xs : List TypedStmt) (i : ℕ) (s : TypedStmt) → s ≡ get_or xs i s → i < length xs → all_go_on (drop i xs) ≡ (goes_on s && all_go_on (drop (i + 1) xs))
-all_go_on-drop xs i s is h = rw (drop-cons xs i s h, ← is, add-one) (on-cons s (drop (suc i) xs))
+pub all_may_continue-drop : (xs : List TypedStmt) (i : ℕ) (s : TypedStmt) → s ≡ get_or xs i s → i < length xs → all_may_continue (drop i xs) ≡ (may_continue s && all_may_continue (drop (i + 1) xs))
+all_may_continue-drop xs i s is h = rw (drop-cons xs i s h, ← is, add-one) (on-cons s (drop (suc i) xs))
 
 -- a statement after which some path continues leaves the rest
 pub put-next : (xs : List TypedStmt) (i : ℕ) (s : TypedStmt) (old new all : List GraphBlock) (next after : ℕ) (exits : Exits) → s ≡ get_or xs i s → i < length xs
-    → next ≡ entry (drop (i + 1) xs) (length old + size s) after exits → new ≡ old ++ blocks_of s (length old) next exits → goes_on s ≡ true
+    → next ≡ entry (drop (i + 1) xs) (length old + size s) after exits → new ≡ old ++ blocks_of s (length old) next exits → may_continue s ≡ true
     → old ++ all_blocks (drop i xs) (length old) after exits ≡ all
     → new ++ all_blocks (drop (i + 1) xs) (length new) after exits ≡ all
 put-next xs i s old new all next after exits is h next_is new_is on all_is =
@@ -56,7 +56,7 @@ put-next xs i s old new all next after exits is h next_is new_is on all_is =
 
 -- after any other the rest is left out
 pub put-last : (xs : List TypedStmt) (i : ℕ) (s : TypedStmt) (old new : List GraphBlock) (all : List GraphBlock) (next after : ℕ) (exits : Exits) → s ≡ get_or xs i s → i < length xs
-    → next ≡ entry (drop (i + 1) xs) (length old + size s) after exits → new ≡ old ++ blocks_of s (length old) next exits → goes_on s ≡ false
+    → next ≡ entry (drop (i + 1) xs) (length old + size s) after exits → new ≡ old ++ blocks_of s (length old) next exits → may_continue s ≡ false
     → old ++ all_blocks (drop i xs) (length old) after exits ≡ all
     → new ++ replicate (sizes (drop (i + 1) xs)) Unreached ≡ all
 put-last xs i s old new all next after exits is h next_is new_is on all_is =

@@ -7,7 +7,7 @@ use Rattle.ceal_base.specs.declared.typed.Typed.{Typed}
 use Rattle.ceal_base.specs.declared.typed.TypedFunction.{TypedFunction}
 use Rattle.ceal_base.specs.declared.typed.TypedStmt.{TypedStmt, Declare, Assign, SetField, Write, Call, If', While', Return, Break, Continue, Row_of-TypedStmt, end_of-TypedStmt, more_of-TypedStmt}
 use Rattle.ceal_base.specs.declared.typed.TypedStmt.TheBlock.{hidden-the_row-TypedStmt-0}
-use Rattle.ceal_flow.specs.Blocks.{size, row_size, sizes, goes_on, row_goes_on, all_go_on, no_loop, in_loop, target, row_entry, entry, blocks_of, row_blocks, all_blocks}
+use Rattle.ceal_flow.specs.Blocks.{size, row_size, sizes, may_continue, row_may_continue, all_may_continue, no_loop, in_loop, target, row_entry, entry, blocks_of, row_blocks, all_blocks}
 use Rattle.ceal_flow.specs.Laws.{IsKept, firsts, IsReached, IsSimple}
 use Rattle.ceal_flow.specs.Lowering.{function_size, end_of, first_of, core_blocks, function_in, blocks_in, blocks_at, functions_from, blocks_from, graph_of}
 use Rattle.ceal_flow.specs.Paths.{stays, jumps_to, jumps, Leads}
@@ -15,7 +15,7 @@ use Rattle.ceal_flow.specs.declared.block.GraphBlock.{GraphBlock}
 use Rattle.ceal_flow.specs.declared.exits.Exits.{Exits}
 use Rattle.ceal_flow.specs.declared.block.GraphBlock.TheVariants.{Done, Act, Unreached}
 use Rattle.ceal_flow.specs.declared.function.GraphFunction.{GraphFunction}
-use Rattle.ceal_flow.proofs.BlockSteps.{row-go_on, row-entry, row-blocks, blocks-length, row-length, all-length}
+use Rattle.ceal_flow.proofs.BlockSteps.{row-may_continue, row-entry, row-blocks, blocks-length, row-length, all-length}
 use Rattle.ceal_flow.proofs.FunctionSteps.{blocks_in-length}
 use Rattle.ceal_flow.proofs.Owners.{owner-of}
 use Rattle.ceal_flow.proofs.Placing.{Placed, placed-head, placed-left, placed-right, placed-tail, placed-part}
@@ -34,9 +34,9 @@ module _ (blocks : List GraphBlock) where
   behind-placed xs ys n k m false long e h = cc
 
   mutual
-    unfolding blocks_of size goes_on
+    unfolding blocks_of size may_continue
 
-    stmt-laws : (s : TypedStmt) (n after : ℕ) (exits : Exits) → Placed blocks n (blocks_of s n after exits) → Laws blocks (target s n exits) (blocks_of s n after exits) n after exits (goes_on s)
+    stmt-laws : (s : TypedStmt) (n after : ℕ) (exits : Exits) → Placed blocks n (blocks_of s n after exits) → Laws blocks (target s n exits) (blocks_of s n after exits) n after exits (may_continue s)
     stmt-laws (Declare at v kind value) n after exits h = act-laws blocks (Declare at v kind value) n after exits (placed-head blocks n _ [] h) tt
     stmt-laws (Assign at v value) n after exits h = act-laws blocks (Assign at v value) n after exits (placed-head blocks n _ [] h) tt
     stmt-laws (SetField at left k field e) n after exits h = act-laws blocks (SetField at left k field e) n after exits (placed-head blocks n _ [] h) tt
@@ -48,33 +48,33 @@ module _ (blocks : List GraphBlock) where
         let long = row-length first (n + 1) after exits in
         let one = row-laws first (n + 1) after exits (placed-left blocks (n + 1) (row_blocks first (n + 1) after exits) (row_blocks second m after exits) parts) in
         let two = row-laws second m after exits (placed-right blocks (n + 1) (row_blocks first (n + 1) after exits) (row_blocks second m after exits) (row_size first) (sym long) parts) in
-        if-laws blocks test _ _ (row_blocks first (n + 1) after exits) (row_blocks second m after exits) n (row_size first) after exits (row_goes_on first) (row_goes_on second) long
+        if-laws blocks test _ _ (row_blocks first (n + 1) after exits) (row_blocks second m after exits) n (row_size first) after exits (row_may_continue first) (row_may_continue second) long
         (placed-head blocks n _ _ h) one two
     stmt-laws (While' at test _ body) n after exits h =
         let inside = in_loop exits n after in
         let part = placed-tail blocks n _ (row_blocks body (n + 1) n inside) h in
-        while-laws blocks test _ (row_blocks body (n + 1) n inside) n after exits (row_goes_on body) (placed-head blocks n _ _ h) (row-laws body (n + 1) n inside part)
+        while-laws blocks test _ (row_blocks body (n + 1) n inside) n after exits (row_may_continue body) (placed-head blocks n _ _ h) (row-laws body (n + 1) n inside part)
     stmt-laws (Return at) n after exits h = jump-laws blocks n after exits exits.done (inl refl)
     stmt-laws (Break at) n after exits h = jump-laws blocks n after exits exits.behind (inr (inl refl))
     stmt-laws (Continue at) n after exits h = jump-laws blocks n after exits exits.test (inr (inr refl))
 
     row-laws : {m : _} (r : Row_of-TypedStmt m) (n after : ℕ) (exits : Exits) → Placed blocks n (row_blocks r n after exits)
-        → Laws blocks (row_entry r n after exits) (row_blocks r n after exits) n after exits (row_goes_on r)
+        → Laws blocks (row_entry r n after exits) (row_blocks r n after exits) n after exits (row_may_continue r)
     row-laws end_of-TypedStmt n after exits h = nothing-laws blocks n after exits
     row-laws (more_of-TypedStmt s rest) n after exits h =
         let mid = row_entry rest (n + size s) after exits in
         let xs = blocks_of s n mid exits in
         let ys = row_blocks rest (n + size s) after exits in
         let long = blocks-length s n mid exits in
-        let here = placed-left blocks n xs (if goes_on s then ys else replicate (row_size rest) Unreached) h in
-        cons-laws (target s n exits) mid xs ys n (size s) (row_size rest) after exits (goes_on s) (row_goes_on rest) long (stmt-laws s n mid exits here)
-        (λ e. row-laws rest (n + size s) after exits (behind-placed xs ys n (size s) (row_size rest) (goes_on s) long e h))
+        let here = placed-left blocks n xs (if may_continue s then ys else replicate (row_size rest) Unreached) h in
+        cons-laws (target s n exits) mid xs ys n (size s) (row_size rest) after exits (may_continue s) (row_may_continue rest) long (stmt-laws s n mid exits here)
+        (λ e. row-laws rest (n + size s) after exits (behind-placed xs ys n (size s) (row_size rest) (may_continue s) long e h))
 
   all-laws : (ss : List TypedStmt) (n after : ℕ) (exits : Exits) → Placed blocks n (all_blocks ss n after exits)
-      → Laws blocks (entry ss n after exits) (all_blocks ss n after exits) n after exits (all_go_on ss)
+      → Laws blocks (entry ss n after exits) (all_blocks ss n after exits) n after exits (all_may_continue ss)
   all-laws ss n after exits h =
       let r = hidden-the_row-TypedStmt-0 ss in
-      rw (← row-entry, ← row-blocks, ← row-go_on) (row-laws r n after exits (rw row-blocks h))
+      rw (← row-entry, ← row-blocks, ← row-may_continue) (row-laws r n after exits (rw row-blocks h))
 
   -- a core function
   pub record Whole (body : List TypedStmt) (n : ℕ) : Type 0 where
@@ -99,7 +99,7 @@ module _ (blocks : List GraphBlock) where
         let done = end_of body n in
         placed-head blocks done Done [] (placed-right blocks n (all_blocks body n done (no_loop done)) (Done ∷ []) (sizes body) (sym (all-length body n done (no_loop done))) placed)
 
-    stmts : Laws blocks (first_of body n) (all_blocks body n (end_of body n) (no_loop (end_of body n))) n (end_of body n) (no_loop (end_of body n)) (all_go_on body)
+    stmts : Laws blocks (first_of body n) (all_blocks body n (end_of body n) (no_loop (end_of body n))) n (end_of body n) (no_loop (end_of body n)) (all_may_continue body)
     stmts =
         let done = end_of body n in
         all-laws body n done (no_loop done) (placed-left blocks n (all_blocks body n done (no_loop done)) (Done ∷ []) placed)
@@ -115,7 +115,7 @@ module _ (blocks : List GraphBlock) where
         let done = end_of body n in
         let long = all-length body n done (no_loop done) in
         let same : done ≡ n + i = omega (arith, e, long) in
-        subst (λ m. Leads blocks (first_of body n) m) same (either-way (all_go_on body) (first_of body n) done stmts.onward stmts.out)
+        subst (λ m. Leads blocks (first_of body n) m) same (either-way (all_may_continue body) (first_of body n) done stmts.onward stmts.out)
     at-last (suc j) i e h = absurd h
 
     whole-inside : (i : ℕ) → IsKept (slice_get (core_blocks body n) i) → Leads blocks (first_of body n) (n + i)

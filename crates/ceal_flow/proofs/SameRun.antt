@@ -30,7 +30,7 @@ use Rattle.ceal_mean.specs.Fresh.{run_settled}
 use Rattle.ceal_mean.specs.Init.{made_by}
 use Rattle.ceal_mean.specs.Jumps.{ready}
 use Rattle.ceal_mean.specs.Value.{value_of, values_of}
-use Rattle.ceal_flow.specs.Blocks.{sizes, all_go_on, no_loop, in_loop, target, entry, blocks_of, all_blocks}
+use Rattle.ceal_flow.specs.Blocks.{sizes, all_may_continue, no_loop, in_loop, target, entry, blocks_of, all_blocks}
 use Rattle.ceal_flow.specs.Fresh.{Point, State as GraphState, initialiser_in, taken as graph_taken}
 use Rattle.ceal_flow.specs.Fresh.{entered as graph_entered, given as graph_given, is_over as block_is_over}
 use Rattle.ceal_flow.specs.Fresh.{settled as graph_settled, stepped as graph_stepped, run_settled as graph_run_settled}
@@ -314,7 +314,7 @@ module _ (p : Typed) (kept : KeepsUsage p) where
           (λ on. fr.next (rw (is, on-if, on) refl)) in
           let two = part-stands p.functions g.blocks done fr.exits looped second rest other fr.after (row-usage p.functions looped second usage.1)
           (placed-right g.blocks k (all_blocks first k fr.after fr.exits) (all_blocks second other fr.after fr.exits) (sizes first) (sym (all-length first k fr.after fr.exits)) parts)
-          (λ on. fr.next (rw (is, on-if, on) (or-right (all_go_on first)))) in
+          (λ on. fr.next (rw (is, on-if, on) (or-right (all_may_continue first)))) in
           record { memory = refl; frames = if-along fr.exits (holds (value_of env m test)) first second _ _ fr.around one two }
       step-of s (OpenWhile sp test body) at e r fr =
           let is : s ≡ While sp test body = sym (roll-out-TypedStmt s) ∙ ap roll-TypedStmt e ∙ rolls-While sp test body in

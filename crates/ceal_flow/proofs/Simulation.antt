@@ -7,7 +7,7 @@ use Rattle.ceal_base.specs.declared.typed.TypedFunction.{TypedFunction}
 use Rattle.ceal_base.specs.declared.typed.TypedStmt.{TypedStmt, Declare, Assign, SetField, Write, Call, If', While', Return, Break, Continue}
 use Rattle.ceal_mean.specs.Frame.{Item, Do, Again, statement_of}
 use Rattle.ceal_mean.specs.Jumps.{next_turn, ready, ready_behind}
-use Rattle.ceal_flow.specs.Blocks.{size, goes_on, all_go_on, no_loop, target, entry, blocks_of, all_blocks}
+use Rattle.ceal_flow.specs.Blocks.{size, may_continue, all_may_continue, no_loop, target, entry, blocks_of, all_blocks}
 use Rattle.ceal_flow.specs.declared.block.GraphBlock.{GraphBlock}
 use Rattle.ceal_flow.specs.declared.exits.Exits.{Exits}
 use Rattle.ceal_flow.proofs.BlockSteps.{on-cons, on-nil}
@@ -49,7 +49,7 @@ module _ (fs : List TypedFunction) (blocks : List GraphBlock) (done : ℕ) where
   abbrev pub Stands : Exits → List Item → ℕ → Type 0
   Stands exits [] at = at ≡ done
   Stands exits (Do s ∷ rest) at =
-      (n : ℕ) × (after : ℕ) × (at ≡ target s n exits) × Placement exits s n after × (goes_on s ≡ true → Stands exits rest after)
+      (n : ℕ) × (after : ℕ) × (at ≡ target s n exits) × Placement exits s n after × (may_continue s ≡ true → Stands exits rest after)
   Stands exits (Again w ∷ rest) at = at ≡ exits.test
 
   -- the loop of these exits, which is among those outside of it
@@ -71,7 +71,7 @@ module _ (fs : List TypedFunction) (blocks : List GraphBlock) (done : ℕ) where
 
   -- a body before other items
   pub part-stands : (exits : Exits) (looped : Bool) (ss : List TypedStmt) (rest : List Item) (n after : ℕ) → All (CoreUsage fs looped) ss
-      → Placed blocks n (all_blocks ss n after exits) → (all_go_on ss ≡ true → Stands exits rest after) → Stands exits (map Do ss ++ rest) (entry ss n after exits)
+      → Placed blocks n (all_blocks ss n after exits) → (all_may_continue ss ≡ true → Stands exits rest after) → Stands exits (map Do ss ++ rest) (entry ss n after exits)
   part-stands exits looped [] rest n after usage placed next = next on-nil
   part-stands exits looped (s ∷ ss) rest n after usage placed next = (
     n,
@@ -131,7 +131,7 @@ module _ (fs : List TypedFunction) (blocks : List GraphBlock) (done : ℕ) where
     pub after : ℕ
     pub here : at ≡ target s n exits
     pub stands : Placement exits s n after
-    pub next : goes_on s ≡ true → Stands exits rest after
+    pub next : may_continue s ≡ true → Stands exits rest after
     pub around : Around exits rest
 
   pub front : (item : Item) (rest : List Item) (at : ℕ) → Ready (item ∷ rest) at → Front (statement_of item) rest at

@@ -29,22 +29,22 @@ sizes (s ∷ rest) = size s + sizes rest
 
 -- whether some path continues after a statement: not after a jump, nor after an `if` neither part of which continues
 unfoldable mutual
-  pub goes_on : TypedStmt → Bool
-  goes_on (If' at test _ first _ second) = row_goes_on first || row_goes_on second
-  goes_on (Return at) = false
-  goes_on (Break at) = false
-  goes_on (Continue at) = false
-  goes_on _ = true
+  pub may_continue : TypedStmt → Bool
+  may_continue (If' at test _ first _ second) = row_may_continue first || row_may_continue second
+  may_continue (Return at) = false
+  may_continue (Break at) = false
+  may_continue (Continue at) = false
+  may_continue _ = true
 
   -- whether some path continues after the statements of a row
-  pub row_goes_on : {n : _} → Row_of-TypedStmt n → Bool
-  row_goes_on end_of-TypedStmt = true
-  row_goes_on (more_of-TypedStmt s rest) = goes_on s && row_goes_on rest
+  pub row_may_continue : {n : _} → Row_of-TypedStmt n → Bool
+  row_may_continue end_of-TypedStmt = true
+  row_may_continue (more_of-TypedStmt s rest) = may_continue s && row_may_continue rest
 
 -- whether some path continues after the statements of a list
-unfoldable pub all_go_on : List TypedStmt → Bool
-all_go_on [] = true
-all_go_on (s ∷ rest) = goes_on s && all_go_on rest
+unfoldable pub all_may_continue : List TypedStmt → Bool
+all_may_continue [] = true
+all_may_continue (s ∷ rest) = may_continue s && all_may_continue rest
 
 -- where jumps lead in a body whose end is block `done`: in no loop `break` and `continue` lead there too
 abbrev pub no_loop : ℕ → Exits
@@ -91,11 +91,11 @@ unfoldable mutual
   row_blocks end_of-TypedStmt n after exits = []
   row_blocks (more_of-TypedStmt s rest) n after exits =
       blocks_of s n (row_entry rest (n + size s) after exits) exits
-      ++ (if goes_on s then row_blocks rest (n + size s) after exits else replicate (row_size rest) Unreached)
+      ++ (if may_continue s then row_blocks rest (n + size s) after exits else replicate (row_size rest) Unreached)
 
 -- the blocks of the statements of a list, from block `n` on
 unfoldable pub all_blocks : List TypedStmt → ℕ → ℕ → Exits → List GraphBlock
 all_blocks [] n after exits = []
 all_blocks (s ∷ rest) n after exits =
     blocks_of s n (entry rest (n + size s) after exits) exits
-    ++ (if goes_on s then all_blocks rest (n + size s) after exits else replicate (sizes rest) Unreached)
+    ++ (if may_continue s then all_blocks rest (n + size s) after exits else replicate (sizes rest) Unreached)

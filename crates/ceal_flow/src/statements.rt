@@ -1,7 +1,7 @@
 // The blocks of statements. The functions recurse as deep as statements are nested.
 
 ghost use Rattle.std.specs.Prelude.{◌≡◌, ◌≤◌, ◌+◌, ◌∷◌, [], ◌++◌, true, length, replicate, IfOk, OnOk};
-ghost use Rattle.ceal_flow.specs.Blocks.{size, sizes, goes_on, all_go_on, blocks_of, all_blocks};
+ghost use Rattle.ceal_flow.specs.Blocks.{size, sizes, may_continue, all_may_continue, blocks_of, all_blocks};
 ghost use Rattle.ceal_flow.specs.declared.block.GraphBlock.TheVariants.{Test, Act, Unreached};
 
 use crate::block::GraphBlock;
@@ -75,7 +75,7 @@ fn put_stmt(
     ensures blocks { OnOk result
         (blocks.new.items ≡ blocks.old.items
         ++ blocks_of s.now (length blocks.old.items) after exits) }
-    ensures on { IfOk result (λ on. on ≡ goes_on s.now) }
+    ensures on { IfOk result (λ on. on ≡ may_continue s.now) }
 {
     match s {
         TypedStmt::If(_, test, first, second) => {
@@ -122,7 +122,7 @@ pub fn put_stmts(
     ensures blocks { OnOk result
         (blocks.new.items ≡ blocks.old.items
         ++ all_blocks stmts.now (length blocks.old.items) after exits) }
-    ensures on { IfOk result (λ on. on ≡ all_go_on stmts.now) }
+    ensures on { IfOk result (λ on. on ≡ all_may_continue stmts.now) }
 {
     for (i, s) in stmts.iter().enumerate() {
         let rest = &stmts[i + 1..];

@@ -19,8 +19,8 @@ use Rattle.ceal_code.specs.Fresh.{ran, only_over, run, fresh}
 use Rattle.ceal_code.specs.Init.{made, pointer}
 use Rattle.ceal_code.specs.Program.{Unit as CodeUnit, Code}
 use Rattle.ceal_code.specs.Step.{Stack, Empty, Run, Act, Over, Quiet, Makes, Writes, Reads, unit_at, command_at}
-use Rattle.ceal_code.specs.Step.{entry_of, entry_in, kinds_of, variable_default, bound, entered, chosen, given, woven}
-use Rattle.ceal_code.specs.Step.{started, place_of, writes_at, reads_at, act, landed, settled_at, settled, acted, next}
+use Rattle.ceal_code.specs.Step.{entry_of, entry_in, kinds_of, variable_default, bound, entered, chosen, words_after_read, woven}
+use Rattle.ceal_code.specs.Step.{started, place_of, writes_at, reads_at, act, landed, stack_after_quiet_at, stack_after_quiet, acted, next}
 use Rattle.ceal_code.specs.Valid.{command_ok, onward, path_ok, paths_ok, all_forward, is_tree, with_params, is_core, below as all_below, body_ok, unit_ok, valid, followers}
 use Rattle.ceal_code.specs.Value.{Plain, Variables, set, expr_value, values}
 use Rattle.ceal_code.specs.declared.command.Cmd.{Cmd}
@@ -92,8 +92,8 @@ module _ (code : Code) (ok : valid code ≡ true) where
   default-is : (u v : ℕ) → variable_default after u v ≡ variable_default code u v
   default-is u v = ap (λ unit. default_of (slice_get (kinds_of code unit.function) v)) (unit-is u)
 
-  given-is : (u v : ℕ) (args : List Word) (w : Word) → given after u v args w ≡ given code u v args w
-  given-is u v args w = ap (λ unit. woven unit.params v w args) (unit-is u)
+  words_after_read-is : (u v : ℕ) (args : List Word) (w : Word) → words_after_read after u v args w ≡ words_after_read code u v args w
+  words_after_read-is u v args w = ap (λ unit. woven unit.params v w args) (unit-is u)
 
   pub made-is : (x : Plain) (key : Key) → made after x key ≡ made code x key
   unfolding made
@@ -171,16 +171,16 @@ module _ (code : Code) (ok : valid code ≡ true) where
   writes-tied (At p) value st st' t = ActsTied.writes t
 
   -- a unit continues with the same word
-  pub given-tied : (u v : ℕ) (args : List Word) (w w' : Word) → w' ≡ w → (st st' : Stack) → Tied st st' → Tied
-      (entered code u (given code u v args w) st) (entered after u (given after u v args w') st')
-  given-tied u v args w w' e st st' t =
-      subst (λ words. Tied (entered code u (given code u v args w) st) (entered after u words st')) (sym (given-is u v args w' ∙ ap (given code u v args) e))
-      (entered-tied u (given code u v args w) st st' t)
+  pub words_after_read-tied : (u v : ℕ) (args : List Word) (w w' : Word) → w' ≡ w → (st st' : Stack) → Tied st st' → Tied
+      (entered code u (words_after_read code u v args w) st) (entered after u (words_after_read after u v args w') st')
+  words_after_read-tied u v args w w' e st st' t =
+      subst (λ words. Tied (entered code u (words_after_read code u v args w) st) (entered after u words st')) (sym (words_after_read-is u v args w' ∙ ap (words_after_read code u v args) e))
+      (entered-tied u (words_after_read code u v args w) st st' t)
 
   reads-tied : (w : Word) (u : UnitId) (v : ℕ) (args : List Word) (st st' : Stack) → Tied st st' → ActsTied (reads_at code (place_of w) u v args st) (reads_at after (place_of w) u v args st')
-  reads-tied (Num n) u v args st st' t = ActsTied.quiet (given-tied u.0 v args (variable_default code u.0 v) (variable_default after u.0 v) (default-is u.0 v) st st' t)
-  reads-tied Null u v args st st' t = ActsTied.quiet (given-tied u.0 v args (variable_default code u.0 v) (variable_default after u.0 v) (default-is u.0 v) st st' t)
-  reads-tied (BlockWord b) u v args st st' t = ActsTied.quiet (given-tied u.0 v args (variable_default code u.0 v) (variable_default after u.0 v) (default-is u.0 v) st st' t)
+  reads-tied (Num n) u v args st st' t = ActsTied.quiet (words_after_read-tied u.0 v args (variable_default code u.0 v) (variable_default after u.0 v) (default-is u.0 v) st st' t)
+  reads-tied Null u v args st st' t = ActsTied.quiet (words_after_read-tied u.0 v args (variable_default code u.0 v) (variable_default after u.0 v) (default-is u.0 v) st st' t)
+  reads-tied (BlockWord b) u v args st st' t = ActsTied.quiet (words_after_read-tied u.0 v args (variable_default code u.0 v) (variable_default after u.0 v) (default-is u.0 v) st st' t)
   reads-tied (At p) u v args st st' t = ActsTied.reads t
 
   module _ (x : Plain) where
@@ -233,7 +233,7 @@ module _ (code : Code) (ok : valid code ≡ true) where
 
     settled_at-tied : (u i : ℕ) (env env' : Variables) {c c' : Cmd} (below below' rest rest' : Stack)
         → CmdsTied code ok u i env env' c c' → FrameTied code ok u i env env' → Tied below below' → Tied rest rest'
-        → Tied (settled_at code x c u i env below rest) (settled_at after x c' u i env' below' rest')
+        → Tied (stack_after_quiet_at code x c u i env below rest) (stack_after_quiet_at after x c' u i env' below' rest')
     settled_at-tied u i env env' below below' rest rest' (CmdsTied.move h) f t r = Tied.frame f t
     settled_at-tied u i env env' below below' rest rest' (CmdsTied.dropped h) f t r = Tied.frame f t
     settled_at-tied u i env env' below below' rest rest' (CmdsTied.tick h) f t r = Tied.frame f t
@@ -247,11 +247,11 @@ module _ (code : Code) (ok : valid code ≡ true) where
     settled_at-tied u i env env' below below' rest rest' (CmdsTied.read b d) f t r = Tied.frame f t
     settled_at-tied u i env env' below below' rest rest' (CmdsTied.call b d) f t r = Tied.frame f t
 
-    settled-tied : {st st' : Stack} → Tied st st' → Tied (settled code x st) (settled after x st')
-    unfolding settled
-    settled-tied Tied.empty = Tied.empty
-    settled-tied (Tied.frame {u = u} {i = i} {env = env} {env' = env'} {below = below} {below' = below'} f t) =
-        settled_at-tied u i env env' below below' (settled code x below) (settled after x below') (command-tied u i env env' f) f t (settled-tied t)
+    stack_after_quiet-tied : {st st' : Stack} → Tied st st' → Tied (stack_after_quiet code x st) (stack_after_quiet after x st')
+    unfolding stack_after_quiet
+    stack_after_quiet-tied Tied.empty = Tied.empty
+    stack_after_quiet-tied (Tied.frame {u = u} {i = i} {env = env} {env' = env'} {below = below} {below' = below'} f t) =
+        settled_at-tied u i env env' below below' (stack_after_quiet code x below) (stack_after_quiet after x below') (command-tied u i env env' f) f t (stack_after_quiet-tied t)
 
     acted-tied : {st st' : Stack} → Tied st st' → ActsTied (acted code x st) (acted after x st')
     acted-tied Tied.empty = ActsTied.over
@@ -259,7 +259,7 @@ module _ (code : Code) (ok : valid code ≡ true) where
 
     pub next-tied : (st st' : Stack) → Tied st st' → ActsTied (next code x st) (next after x st')
     unfolding next
-    next-tied st st' t = acted-tied (settled-tied t)
+    next-tied st st' t = acted-tied (stack_after_quiet-tied t)
 
   over-same : (steps : ℕ) (m : Blocks) {a a' : Act} → ActsTied a a' → only_over steps m a' ≡ only_over steps m a
   over-same steps m ActsTied.over = refl
@@ -280,8 +280,8 @@ module _ (code : Code) (ok : valid code ≡ true) where
   ran-same again again' h steps m (ActsTied.reads {p = p} {u = u} {v = v} {args = args} {below = below} {below' = below'} t) =
       let w = content_of m (At p) (variable_default code u.0 v) in
       let w' = content_of m (At p) (variable_default after u.0 v) in
-      h m (entered code u.0 (given code u.0 v args w) below) (entered after u.0 (given after u.0 v args w') below')
-      (given-tied u.0 v args w w' (ap (content_of m (At p)) (default-is u.0 v)) below below' t)
+      h m (entered code u.0 (words_after_read code u.0 v args w) below) (entered after u.0 (words_after_read after u.0 v args w') below')
+      (words_after_read-tied u.0 v args w w' (ap (content_of m (At p)) (default-is u.0 v)) below below' t)
 
   run-same : (fuel steps : ℕ) (m : Blocks) (st st' : Stack) → Tied st st' → run after fuel steps m st' ≡ run code fuel steps m st
   unfolding run

@@ -10,10 +10,10 @@ use Rattle.ceal_base.specs.declared.word.Word.{Word}
 use Rattle.ceal_code.specs.Init.{made, pointer}
 use Rattle.ceal_code.specs.Program.{Code}
 use Rattle.ceal_code.specs.Replay.{Yields, learnt, input_plain, plain_after, plain_of}
-use Rattle.ceal_code.specs.Step.{Stack, Empty, Run, Act, Over, Quiet, Makes, Writes, Reads, entered, given, started, next}
+use Rattle.ceal_code.specs.Step.{Stack, Empty, Run, Act, Over, Quiet, Makes, Writes, Reads, entered, words_after_read, started, next}
 use Rattle.ceal_code.specs.Valid.{valid}
 use Rattle.ceal_code.specs.Value.{Plain, Variables, set}
-use Rattle.ceal_fold.proofs.Runs.{Tied, ActsTied, made-is, entered-tied, given-tied, next-tied, started-tied}
+use Rattle.ceal_fold.proofs.Runs.{Tied, ActsTied, made-is, entered-tied, words_after_read-tied, next-tied, started-tied}
 use Rattle.ceal_fold.specs.Folding.{folded}
 use Rattle.ceal_fold.specs.Traces.{SameTraces, SameReplays}
 
@@ -30,7 +30,7 @@ pub data ActsAlike (T : Stack → Stack → Type 0) : Act → Act → Type 0 whe
 pub record StepsAlike (c d : Code) (x : Plain) (T : Stack → Stack → Type 0) : Type 0 where
   pub acts : (st st' : Stack) → T st st' → ActsAlike T (next c x st) (next d x st')
   pub same : (key : Key) → made c x key ≡ made d x key
-  pub enters : (u v : ℕ) (args : List Word) (value : Word) → T (entered c u (given c u v args value) Empty) (entered d u (given d u v args value) Empty)
+  pub enters : (u v : ℕ) (args : List Word) (value : Word) → T (entered c u (words_after_read c u v args value) Empty) (entered d u (words_after_read d u v args value) Empty)
 
 module _ (c d : Code) (x : Plain) (T : Stack → Stack → Type 0) (alike : StepsAlike c d x T) where
   from : (st st' : Stack) → T st st' → (a : Act) → next c x st ≡ a → ActsAlike T a (next d x st')
@@ -57,7 +57,7 @@ module _ (c d : Code) (x : Plain) (T : Stack → Stack → Type 0) (alike : Step
 
   reads-on : {p : Place} {u : UnitId} {v : ℕ} {args : List Word} {below : Stack} {a : Act} {value : Word} {inside rest : Trace}
       → ActsAlike T (Reads p u v args below) a → (st : Stack) → next d x st ≡ a
-      → Yields d x (entered d u.0 (given d u.0 v args value) Empty) inside
+      → Yields d x (entered d u.0 (words_after_read d u.0 v args value) Empty) inside
       → ((s' : Stack) → T below s' → Yields d x s' rest)
       → Yields d x st (Stepped (WasRead p value u v args inside rest))
   reads-on (ActsAlike.reads {below' = below'} t) st e inner again = Yields.reads e inner (again below' t)
@@ -71,7 +71,7 @@ module _ (c d : Code) (x : Plain) (T : Stack → Stack → Type 0) (alike : Step
   yields-on {st} (Yields.writes {after = after} {p = p} {value = value} e r) st' t = writes-on (from st st' t (Writes p value after) e) st' refl (λ s k. yields-on r s k)
   yields-on {st} (Yields.reads {below = below} {p = p} {u = u} {v = v} {args = args} {value = value} e r1 r2) st' t =
       reads-on (from st st' t (Reads p u v args below) e) st' refl
-      (yields-on r1 (entered d u.0 (given d u.0 v args value) Empty) (alike.enters u.0 v args value)) (λ s k. yields-on r2 s k)
+      (yields-on r1 (entered d u.0 (words_after_read d u.0 v args value) Empty) (alike.enters u.0 v args value)) (λ s k. yields-on r2 s k)
 
 module _ (code : Code) (ok : valid code ≡ true) where
   abbrev after : Code
@@ -95,8 +95,8 @@ module _ (code : Code) (ok : valid code ≡ true) where
   back (ActsTied.reads t) = ActsAlike.reads t
 
   module _ (x : Plain) where
-    enters : (u v : ℕ) (args : List Word) (value : Word) → Tied code ok (entered code u (given code u v args value) Empty) (entered after u (given after u v args value) Empty)
-    enters u v args value = given-tied code ok u v args value value refl Empty Empty Tied.empty
+    enters : (u v : ℕ) (args : List Word) (value : Word) → Tied code ok (entered code u (words_after_read code u v args value) Empty) (entered after u (words_after_read after u v args value) Empty)
+    enters u v args value = words_after_read-tied code ok u v args value value refl Empty Empty Tied.empty
 
     steps-on : StepsAlike code after x (Tied code ok)
     steps-on = record { acts = λ st st' t. on (next-tied code ok x st st' t); same = λ key. sym (made-is code ok x key); enters = enters }

@@ -21,7 +21,7 @@ use Rattle.ceal_theory.specs.Chosen.{Continues}
 use Rattle.ceal_theory.specs.Groves.{Grove, stepped, trace_in}
 use Rattle.ceal_theory.specs.Repair.{Single}
 use Rattle.ceal_theory.specs.SliceLaws.{unit_alone, Turns}
-use Rattle.ceal_theory.specs.Slices.{Repair, beginning, starting, Sound}
+use Rattle.ceal_theory.specs.Slices.{Repair, beginning, starting, RepairHolds}
 use Rattle.ceal_theory.specs.Walk.{store_after, AgreesAll}
 use Rattle.ceal_trace.specs.Items.{forest_of, unclosed, Nests}
 use Rattle.ceal_trace.specs.Nodes.{Entry, node_at, with_value}
@@ -74,7 +74,7 @@ pub record StandsFor (code : Code) (inputs : List Block) (f : ℕ) (args : List 
   pub blocks : HasBlocks code inputs run.heap run.tables
   pub spent : r.spent ≡ run.spent
   pub names : ℕ → ℕ
-  pub sound : Sound code names inputs f args r
+  pub sound : RepairHolds code names inputs f args r
 
 -- A repair from which turns are made, the numbers of the blocks that it knows, how many numbers had been given out
 -- then, and how many turns were made since.
@@ -109,7 +109,7 @@ NamesOff names first = (k : ℕ) → count (names k) first ≡ 0
 -- It is a repair of a call that fits, whatever the names of new blocks, if none is that of a known one.
 pub record IsOrigin (code : Code) (inputs : List Block) (f : ℕ) (args : List Word) (o : Since) : Type 0 where
   pub fits : Fits code inputs f args
-  pub sound : (names : ℕ → ℕ) → Single names → NamesOff names o.first → Sound code names inputs f args o.repair
+  pub sound : (names : ℕ → ℕ) → Single names → NamesOff names o.first → RepairHolds code names inputs f args o.repair
 
 -- A repair that has come so far by turns, whatever the names of the new blocks to come.
 pub record TurnedSoFar (code : Code) (inputs : List Block) (f : ℕ) (args : List Word)

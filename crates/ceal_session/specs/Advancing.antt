@@ -12,7 +12,7 @@ use Rattle.ceal_engine.specs.declared.phase.Phase.TheVariants.{Finished, Partial
 use Rattle.ceal_engine.specs.declared.run_error.RunError.{RunError}
 use Rattle.ceal_engine.specs.declared.run_error.RunError.TheVariants.{Memory, OutOfFuel}
 use Rattle.ceal_theory.specs.Computed.{first_of}
-use Rattle.ceal_theory.specs.Pasts.{Past, SamePast, IsPastOf, goes, slice_of, next_repair, past_behind}
+use Rattle.ceal_theory.specs.Pasts.{Past, SamePast, IsPastOf, goes, slice_of, next_repair, past_after}
 use Rattle.ceal_theory.specs.Slices.{Repair, is_done}
 use Rattle.ceal_session.specs.Following.{Retraces, dropped}
 use Rattle.ceal_session.specs.Journal.{JournalState, settled_at, completed}
@@ -89,7 +89,7 @@ Makes (Err Memory) e call reads p e' = ⊤
 Makes (Err OutOfFuel) e call reads p e' = ⊤
 Makes (Ok c) e call reads p e' =
     SamePast e.code e.inputs call.function call.args
-    (past_behind e.code e.inputs e.fuel (first_of e.code e.inputs e.fuel call.function call.args) reads p) (past_of e')
+    (past_after e.code e.inputs e.fuel (first_of e.code e.inputs e.fuel call.function call.args) reads p) (past_of e')
 
 -- The second engine is the first one after the call, with this outcome.
 pub record Brings

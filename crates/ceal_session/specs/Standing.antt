@@ -12,7 +12,7 @@ use Rattle.ceal_theory.specs.Adjust.{Extended}
 use Rattle.ceal_theory.specs.Computed.{Repaired}
 use Rattle.ceal_theory.specs.Pasts.{Past, NoTrace, Traced, Going, SamePast}
 use Rattle.ceal_theory.specs.Repair.{own}
-use Rattle.ceal_theory.specs.Slices.{Repair, Sound}
+use Rattle.ceal_theory.specs.Slices.{Repair, RepairHolds}
 use Rattle.ceal_session.specs.Naming.{AreSpelled, AreDistinct, HaveKnownShapes}
 use Rattle.ceal_session.specs.State.{State, Situation, last}
 use Rattle.ceal_session.specs.Steps.{IsCall}
@@ -31,7 +31,7 @@ pub record IsTraceIn (code : Code) (s : State) (call : Call) (l : Repaired) : Ty
 pub record IsRepairIn (code : Code) (s : State) (call : Call) (r : Repair) : Type 0 where
   pub within : s.out_of_fuel ≡ false
   pub pending : s.pending ≡ true
-  pub sound : Sound code own s.inputs call.function call.args r
+  pub sound : RepairHolds code own s.inputs call.function call.args r
 
 -- There is a trace, or a repair in progress, where a call was accepted and was not out of fuel, and it is
 -- one of that call.

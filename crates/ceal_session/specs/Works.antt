@@ -7,7 +7,7 @@ use Rattle.ceal_code.specs.Program.{Code}
 use Rattle.ceal_cost.specs.Bounds.{first_cost}
 use Rattle.ceal_script.specs.declared.command.Command.{Command}
 use Rattle.ceal_theory.specs.Computed.{Repaired, first_of}
-use Rattle.ceal_theory.specs.Pasts.{Past, past_behind, slice_of, next_repair}
+use Rattle.ceal_theory.specs.Pasts.{Past, past_after, slice_of, next_repair}
 use Rattle.ceal_theory.specs.Slices.{Repair, is_done}
 use Rattle.ceal_session.specs.State.{State, Situation}
 use Rattle.ceal_session.specs.Steps.{call_of, reads_of}
@@ -33,7 +33,7 @@ first_trace code s call = first_of code s.inputs s.fuel call.function call.args
 -- are more than the fuel, it is the first trace; and it is nothing where the run from scratch is out of fuel.
 abbrev pub past_left : Code → State → Result Call Refusal → Option ℕ → Past → Past
 past_left code s (Err r) reads past = past
-past_left code s (Ok call) reads past = past_behind code s.inputs s.fuel (first_trace code s call) reads past
+past_left code s (Ok call) reads past = past_after code s.inputs s.fuel (first_trace code s call) reads past
 
 -- the steps of a first trace
 abbrev pub steps_in_first : Option Repaired → ℕ

@@ -15,7 +15,7 @@ use Rattle.ceal_theory.specs.Computed.{Repaired, adjusted, first_of}
 use Rattle.ceal_theory.specs.Laws.{Edited}
 use Rattle.ceal_theory.specs.Named.{Named, then_from}
 use Rattle.ceal_theory.specs.Repair.{State, begins}
-use Rattle.ceal_theory.specs.Turns.{Machine, Fixing, Running, Bottom, Ended, turn, Leads}
+use Rattle.ceal_theory.specs.Turns.{Machine, Fixing, Running, Bottom, Ended, turn, BecomesBy}
 
 -- the names continue these numbers
 abbrev pub Continues : List ℕ → (ℕ → ℕ) → Type 0
@@ -25,7 +25,7 @@ Continues bs names = (k b : ℕ) → slice_get bs k ≡ Some b → names k ≡ b
 -- so it is with all names that continue them.
 pub record ComesBy (code : Code) (start m : Machine) (chosen : List ℕ) (out : List Item) : Type 0 where
   pub number : m.state.number ≡ length chosen
-  pub leads : (names : ℕ → ℕ) → Continues chosen names → Leads code names start m out
+  pub leads : (names : ℕ → ℕ) → Continues chosen names → BecomesBy code names start m out
 
 -- the numbers that were chosen are distinct, and no block of the trace has one of them
 pub record Free (chosen : List ℕ) (l : Trace) : Type 0 where
@@ -83,10 +83,10 @@ pub record ChosenLaws (code : Code) : Type 0 where
   -- a move that makes a block of any number
   pub begun : (m : Machine) (chosen : List ℕ) → m.state.number ≡ length chosen → ComesBy code m m chosen []
   pub more : (start m m' : Machine) (chosen : List ℕ) (out is : List Item) → ComesBy code start m chosen out
-      → ((names : ℕ → ℕ) → Leads code names m m' is) → m'.state.number ≡ m.state.number
+      → ((names : ℕ → ℕ) → BecomesBy code names m m' is) → m'.state.number ≡ m.state.number
       → ComesBy code start m' chosen (out ++ is)
   pub numbered : (start m m' : Machine) (chosen : List ℕ) (out is : List Item) → ComesBy code start m chosen out
-      → (b : ℕ) → ((names : ℕ → ℕ) → names m.state.number ≡ b → Leads code names m m' is)
+      → (b : ℕ) → ((names : ℕ → ℕ) → names m.state.number ≡ b → BecomesBy code names m m' is)
       → m'.state.number ≡ m.state.number + 1 → ComesBy code start m' (chosen ++ b ∷ []) (out ++ is)
   -- where the machine has ended
   pub ends : (old new : List Block) (f : ℕ) (args : List Word) (l : Trace) (number : ℕ)

@@ -24,10 +24,10 @@ use Rattle.ceal_theory.specs.Known.{Knows}
 use Rattle.ceal_theory.specs.Levels.{first, around, levels}
 use Rattle.ceal_theory.specs.Repair.{State, clears, puts, works, grows, resumed}
 use Rattle.ceal_theory.specs.SliceLaws.{unit_alone}
-use Rattle.ceal_theory.specs.Slices.{Repair, starting, repair_at, Slices, sliced, Sound}
+use Rattle.ceal_theory.specs.Slices.{Repair, starting, repair_at, Slices, sliced, RepairHolds}
 use Rattle.ceal_theory.specs.Take.{TakenAlloc, TakenRead, take_alloc, take_read}
 use Rattle.ceal_theory.specs.Turns.{Mode, Fixing, Running, Frames, Bottom, AfterFix, AfterMend, AfterRun, Machine}
-use Rattle.ceal_theory.specs.Turns.{Ended, turn, Finishes, Leads}
+use Rattle.ceal_theory.specs.Turns.{Ended, turn, Finishes, BecomesBy}
 use Rattle.ceal_theory.specs.Walk.{with_store, store_after, AgreesAll}
 
 -- what waits for the end of a read: kept items around it, a stack with the old items after it, or a stack
@@ -86,7 +86,7 @@ pub record BareSame (m m' : Machine) : Type 0 where
 
 -- steps between the items of what is left over may be dropped, or put in
 abbrev pub BareLaw : Type 0
-BareLaw = (code : Code) (names : ℕ → ℕ) (m m' : Machine) → BareSame m m' → Leads code names m m' []
+BareLaw = (code : Code) (names : ℕ → ℕ) (m m' : Machine) → BareSame m m' → BecomesBy code names m m' []
 
 -- What an engine does to its nodes. After the cursor are the nodes of a grove, which are left over, and
 -- then the end of the read that is repaired, or nothing.
@@ -94,37 +94,37 @@ pub record Moves (code : Code) (names : ℕ → ℕ) : Type 0 where
   -- kept items that agree with the store are passed
   pub passes : {ws vs : List Wait} {is : List Item} → Nested ws is vs → (s : State) → AgreesAll code s.store is
       → (rest : List Item)
-      → Leads code names (fixing_at s ws (is ++ rest))
+      → BecomesBy code names (fixing_at s ws (is ++ rest))
       (fixing_at (with_store s (store_after code s.store is)) vs rest) is
   -- a stale read among them: its unit runs, with what is inside it left over; its steps are dropped
   pub repairs : (s : State) (ws : List Wait) (p : Place) (value : Word) (u : UnitId) (v : ℕ) (args : List Word)
       (stamp n : ℕ) (back : List Knot) → same_word (s.store p) value ≡ false
-      → Leads code names (fixing_at s ws (items_in (knot stamp (Read p value u v args) n ∷ back)))
+      → BecomesBy code names (fixing_at s ws (items_in (knot stamp (Read p value u v args) n ∷ back)))
       (running_at s (resumed code u v args (s.store p)) (Fixes ∷ ws) (items_in back)) (Read p (s.store p) u v args ∷ [])
   -- its unit is over: what is left over is revoked, and what is kept continues after its end
   pub repaired : (s : State) (st : Stack) (ws : List Wait) (g : Grove) (e m : ℕ) (rest : List Knot)
       → next code s.plain st ≡ Over
-      → Leads code names (running_at s st (Fixes ∷ ws) (items_in (knots g ++ knot e End m ∷ rest)))
+      → BecomesBy code names (running_at s st (Fixes ∷ ws) (items_in (knots g ++ knot e End m ∷ rest)))
       (fixing_at s ws (ticks m ++ items_in rest)) (End ∷ [])
   -- a taken read that was re-executed is over: what is left over is revoked, and what is left over after its end is
   -- used from here on
   pub retaken : (s : State) (st below : Stack) (ws : List Wait) (g : Grove) (e m : ℕ) (rest : List Knot)
       → next code s.plain st ≡ Over
-      → Leads code names (running_at s st (Takes below ∷ ws) (items_in (knots g ++ knot e End m ∷ rest)))
+      → BecomesBy code names (running_at s st (Takes below ∷ ws) (items_in (knots g ++ knot e End m ∷ rest)))
       (running_at s below ws (items_in rest)) (End ∷ [])
   -- a taken read that was kept is over
   pub passed : (s : State) (below : Stack) (ws : List Wait) (e m : ℕ) (rest : List Knot)
-      → Leads code names (fixing_at s (Takes below ∷ ws) (items_in (knot e End m ∷ rest)))
+      → BecomesBy code names (fixing_at s (Takes below ∷ ws) (items_in (knot e End m ∷ rest)))
       (running_at s below ws (items_in rest)) (End ∷ [])
   -- a new read is over: its end is put in
   pub finished : (s : State) (st below : Stack) (ws : List Wait) (is : List Item) → next code s.plain st ≡ Over
-      → Leads code names (running_at s st (Begins below ∷ ws) is) (running_at s below ws is) (End ∷ [])
+      → BecomesBy code names (running_at s st (Begins below ∷ ws) is) (running_at s below ws is) (End ∷ [])
   -- an allocation is taken, and all before it is revoked
   pub alloc_taken : (s : State) (st : Stack) (ws : List Wait) (g : Grove) (tail : List Knot) (key : Key)
       (v u i : ℕ) (env : Variables) (below : Stack) (t : TakenAlloc) (rest : Grove)
       → Closes tail → next code s.plain st ≡ Makes key v u i env below → take_alloc key (trace_in g) ≡ Some t
       → bare t.leftover ≡ bare (trace_in rest)
-      → Leads code names (running_at s st ws (items_in (knots g ++ tail)))
+      → BecomesBy code names (running_at s st ws (items_in (knots g ++ tail)))
       (running_at (clears code (works s) t.block key) (Run u i (set env v (pointer key t.block)) below) ws
       (items_in (knots rest ++ tail)))
       (Step ∷ Alloc t.block key ∷ [])
@@ -133,22 +133,22 @@ pub record Moves (code : Code) (names : ℕ → ℕ) : Type 0 where
       (v u i : ℕ) (env : Variables) (below : Stack) (b : ℕ)
       → names s.number ≡ b → Closes tail → next code s.plain st ≡ Makes key v u i env below
       → take_alloc key (trace_in g) ≡ None
-      → Leads code names (running_at s st ws (items_in (knots g ++ tail)))
+      → BecomesBy code names (running_at s st ws (items_in (knots g ++ tail)))
       (running_at (grows code (λ k. b) (works s) key) (Run u i (set env v (pointer key (Core b))) below) ws
       (items_in (knots g ++ tail)))
       (Step ∷ Alloc (Core b) key ∷ [])
   -- a write, and a step that is neither
   pub write_put : (s : State) (st after : Stack) (ws : List Wait) (is : List Item) (p : Place) (value : Word)
       → next code s.plain st ≡ Writes p value after
-      → Leads code names (running_at s st ws is) (running_at (puts (works s) p value) after ws is)
+      → BecomesBy code names (running_at s st ws is) (running_at (puts (works s) p value) after ws is)
       (Step ∷ Write p value ∷ [])
   pub step_done : (s : State) (st after : Stack) (ws : List Wait) (is : List Item) → next code s.plain st ≡ Quiet after
-      → Leads code names (running_at s st ws is) (running_at (works s) after ws is) (Step ∷ [])
+      → BecomesBy code names (running_at s st ws is) (running_at (works s) after ws is) (Step ∷ [])
   -- a new read begins, and shares what is left over
   pub read_begun : (s : State) (st below : Stack) (ws : List Wait) (g : Grove) (tail : List Knot) (p : Place)
       (u : UnitId) (v : ℕ) (args : List Word) → Closes tail
       → next code s.plain st ≡ Reads p u v args below → take_read p u v args (trace_in g) ≡ None
-      → Leads code names (running_at s st ws (items_in (knots g ++ tail)))
+      → BecomesBy code names (running_at s st ws (items_in (knots g ++ tail)))
       (running_at (works s) (resumed code u v args (s.store p)) (Begins below ∷ ws) (items_in (knots g ++ tail)))
       (Step ∷ Read p (s.store p) u v args ∷ [])
   -- a read is taken, and all before it is revoked: it is honest, and what is inside it is gone through
@@ -157,7 +157,7 @@ pub record Moves (code : Code) (names : ℕ → ℕ) : Type 0 where
       → Closes tail → next code s.plain st ≡ Reads p u v args below → take_read p u v args (trace_in g) ≡ Some t
       → t.inside ≡ stepped n (trace_in inside) → bare t.leftover ≡ bare (trace_in rest)
       → same_word (s.store p) t.value ≡ true
-      → Leads code names (running_at s st ws (items_in (knots g ++ tail)))
+      → BecomesBy code names (running_at s st ws (items_in (knots g ++ tail)))
       (fixing_at (works s) (Takes below ∷ ws)
       (ticks n ++ items_in (knots inside ++ knot e End m ∷ (knots rest ++ tail))))
       (Step ∷ Read p (s.store p) u v args ∷ [])
@@ -167,7 +167,7 @@ pub record Moves (code : Code) (names : ℕ → ℕ) : Type 0 where
       → Closes tail → next code s.plain st ≡ Reads p u v args below → take_read p u v args (trace_in g) ≡ Some t
       → t.inside ≡ stepped n (trace_in inside) → bare t.leftover ≡ bare (trace_in rest)
       → same_word (s.store p) t.value ≡ false
-      → Leads code names (running_at s st ws (items_in (knots g ++ tail)))
+      → BecomesBy code names (running_at s st ws (items_in (knots g ++ tail)))
       (running_at (works s) (resumed code u v args (s.store p)) (Takes below ∷ ws)
       (items_in (knots inside ++ knot e End m ∷ (knots rest ++ tail))))
       (Step ∷ Read p (s.store p) u v args ∷ [])
@@ -178,7 +178,7 @@ MovesLaw = (code : Code) (names : ℕ → ℕ) → Moves code names
 -- whatever a machine finishes with has at least the work of each machine that it comes to, and the steps that
 -- it has written by then
 abbrev pub WorkLaw : Type 0
-WorkLaw = (code : Code) (names : ℕ → ℕ) (start m : Machine) (out : List Item) → Leads code names start m out
+WorkLaw = (code : Code) (names : ℕ → ℕ) (start m : Machine) (out : List Item) → BecomesBy code names start m out
     → (t : State) (items : List Item) → Finishes code names start t items
     → (m.state.work ≤ t.work) × (steps_in out ≤ steps_in items)
 
@@ -203,7 +203,7 @@ TurnCourseLaw =
     → AgreesAll code (starting code inputs r.known) front
     → ¬ (store_after code (starting code inputs r.known) front p ≡ value)
     → (m : Machine) (out : List Item)
-    → Leads code names (unit_alone code inputs r front p u v args inside) m out
+    → BecomesBy code names (unit_alone code inputs r front p u v args inside) m out
     → TurnCourse code names inputs r front p u v args inside back m out
 
 -- what the machine of a turn knows at its beginning: the blocks that the items before the read allocate, and
@@ -211,7 +211,7 @@ TurnCourseLaw =
 abbrev pub TurnKnownLaw : Type 0
 TurnKnownLaw =
     (code : Code) (names : ℕ → ℕ) (inputs : List Block) (f : ℕ) (ws : List Word) → Fits code inputs f ws
-    → (r : Repair) → (h : Sound code names inputs f ws r)
+    → (r : Repair) → (h : RepairHolds code names inputs f ws r)
     → (front : List Item) (p : Place) (value : Word) (u : UnitId) (v : ℕ) (args : List Word) (after : List Item)
     → flat r.items ≡ front ++ Read p value u v args ∷ after
     → AgreesAll code (starting code inputs r.known) front

@@ -17,7 +17,7 @@ use Rattle.ceal_theory.specs.Levels.{first, around, levels, loose, beyond, skipp
 use Rattle.ceal_theory.specs.Levels.{find_read}
 use Rattle.ceal_theory.specs.Repair.{State, clears, puts, works, grows, resumed}
 use Rattle.ceal_theory.specs.Turns.{Machine, Fixing, Running, Frames, Bottom, AfterFix, AfterMend, AfterRun, Ended}
-use Rattle.ceal_theory.specs.Turns.{turn, Leads}
+use Rattle.ceal_theory.specs.Turns.{turn, BecomesBy}
 use Rattle.ceal_theory.specs.Walk.{store_after, AgreesAll, with_store}
 
 -- items are walked, or a stack runs with `levels` levels left over
@@ -74,74 +74,76 @@ pub record FlatLaws (code : Code) (names : ℕ → ℕ) : Type 0 where
   -- items that agree with the store stay, at once up to any place
   pub stays : (s : State) (fs fs' : List FlatFrame) (front back : List Item) → AgreesAll code s.store front
       → passes_all front fs ≡ Some fs'
-      → Leads code names (flat_machine s GoesThrough fs (front ++ back))
+      → BecomesBy code names (flat_machine s GoesThrough fs (front ++ back))
       (flat_machine (with_store s (store_after code s.store front)) GoesThrough fs' back) front
   -- a read that does not agree
   pub stale : (s : State) (fs : List FlatFrame) (p : Place) (value : Word) (u : UnitId) (v : ℕ)
       (args : List Word) (is : List Item) → ¬ (s.store p ≡ value)
-      → Leads code names (flat_machine s GoesThrough fs (Read p value u v args ∷ is))
+      → BecomesBy code names (flat_machine s GoesThrough fs (Read p value u v args ∷ is))
       (flat_machine s (Runs (resumed code u v args (s.store p)) 1) (Fixes ∷ fs) is) (Read p (s.store p) u v args ∷ [])
   -- the End of a taken read
   pub mended : (s : State) (fs : List FlatFrame) (below : Stack) (n : ℕ) (is : List Item)
-      → Leads code names (flat_machine s GoesThrough (Mends below n ∷ fs) (End ∷ is))
+      → BecomesBy code names (flat_machine s GoesThrough (Mends below n ∷ fs) (End ∷ is))
       (flat_machine s (Runs below n) fs is) (End ∷ [])
   pub last : (s : State) → turn code names (flat_machine s GoesThrough [] []) ≡ Ended
   -- a stack that is over: what it leaves over is revoked, or continues to what follows
   pub over_fixes : (s : State) (fs : List FlatFrame) (st : Stack) (n : ℕ) (is : List Item) → next code s.plain st ≡ Over
-      → Leads code names (flat_machine s (Runs st n) (Fixes ∷ fs) is)
+      → BecomesBy code names (flat_machine s (Runs st n) (Fixes ∷ fs) is)
       (flat_machine s GoesThrough fs (skipped n is)) (End ∷ [])
   pub over_mends : (s : State) (fs : List FlatFrame) (st below : Stack) (n m : ℕ) (is : List Item)
       → next code s.plain st ≡ Over
-      → Leads code names (flat_machine s (Runs st n) (Mends below m ∷ fs) is)
+      → BecomesBy code names (flat_machine s (Runs st n) (Mends below m ∷ fs) is)
       (flat_machine s (Runs below m) fs (skipped n is)) (End ∷ [])
   pub over_goes_on : (s : State) (fs : List FlatFrame) (st below : Stack) (n : ℕ) (is : List Item)
       → next code s.plain st ≡ Over
-      → Leads code names (flat_machine s (Runs st n) (GoesOn below ∷ fs) is)
+      → BecomesBy code names (flat_machine s (Runs st n) (GoesOn below ∷ fs) is)
       (flat_machine s (Runs below n) fs is) (End ∷ [])
   pub over_last : (s : State) (st : Stack) (n : ℕ) (is : List Item) → next code s.plain st ≡ Over
       → turn code names (flat_machine s (Runs st n) [] is) ≡ Ended
   -- a stack that runs
   pub quiet : (s : State) (fs : List FlatFrame) (st after : Stack) (n : ℕ) (is : List Item)
       → next code s.plain st ≡ Quiet after
-      → Leads code names (flat_machine s (Runs st n) fs is) (flat_machine (works s) (Runs after n) fs is) (Step ∷ [])
+      → BecomesBy code names
+      (flat_machine s (Runs st n) fs is) (flat_machine (works s) (Runs after n) fs is) (Step ∷ [])
   pub writes : (s : State) (fs : List FlatFrame) (st after : Stack) (p : Place) (value : Word) (n : ℕ)
       (is : List Item) → next code s.plain st ≡ Writes p value after
-      → Leads code names (flat_machine s (Runs st n) fs is)
+      → BecomesBy code names (flat_machine s (Runs st n) fs is)
       (flat_machine (puts (works s) p value) (Runs after n) fs is) (Step ∷ Write p value ∷ [])
   pub makes : (s : State) (fs : List FlatFrame) (st below : Stack) (key : Key) (v u i : ℕ) (env : Variables)
       (n : ℕ) (is : List Item) → next code s.plain st ≡ Makes key v u i env below
       → find_alloc key n is ≡ None → (b : ℕ) → names s.number ≡ b
-      → Leads code names (flat_machine s (Runs st n) fs is)
+      → BecomesBy code names (flat_machine s (Runs st n) fs is)
       (flat_machine (grows code (λ k. b) (works s) key)
       (Runs (Run u i (set env v (pointer key (Core b))) below) n) fs is)
       (Step ∷ Alloc (Core b) key ∷ [])
   pub takes_alloc : (s : State) (fs : List FlatFrame) (st below : Stack) (key : Key) (v u i : ℕ)
       (env : Variables) (n : ℕ) (is : List Item) → next code s.plain st ≡ Makes key v u i env below
       → (f : FoundAlloc) → find_alloc key n is ≡ Some f
-      → Leads code names (flat_machine s (Runs st n) fs is)
+      → BecomesBy code names (flat_machine s (Runs st n) fs is)
       (flat_machine (clears code (works s) f.block key)
       (Runs (Run u i (set env v (pointer key f.block)) below) f.levels) fs f.rest)
       (Step ∷ Alloc f.block key ∷ [])
   pub reads : (s : State) (fs : List FlatFrame) (st below : Stack) (p : Place) (u : UnitId) (v : ℕ)
       (args : List Word) (n : ℕ) (is : List Item) → next code s.plain st ≡ Reads p u v args below
       → find_read p u v args n is ≡ None
-      → Leads code names (flat_machine s (Runs st n) fs is)
+      → BecomesBy code names (flat_machine s (Runs st n) fs is)
       (flat_machine (works s) (Runs (resumed code u v args (s.store p)) n) (GoesOn below ∷ fs) is)
       (Step ∷ Read p (s.store p) u v args ∷ [])
   pub takes_read : (s : State) (fs : List FlatFrame) (st below : Stack) (p : Place) (u : UnitId) (v : ℕ)
       (args : List Word) (n : ℕ) (is : List Item) → next code s.plain st ≡ Reads p u v args below
       → (f : FoundRead) → find_read p u v args n is ≡ Some f → s.store p ≡ f.value
-      → Leads code names (flat_machine s (Runs st n) fs is)
+      → BecomesBy code names (flat_machine s (Runs st n) fs is)
       (flat_machine (works s) GoesThrough (Mends below f.levels ∷ fs) f.rest) (Step ∷ Read p (s.store p) u v args ∷ [])
   pub takes_stale : (s : State) (fs : List FlatFrame) (st below : Stack) (p : Place) (u : UnitId) (v : ℕ)
       (args : List Word) (n : ℕ) (is : List Item) → next code s.plain st ≡ Reads p u v args below
       → (f : FoundRead) → find_read p u v args n is ≡ Some f → ¬ (s.store p ≡ f.value)
-      → Leads code names (flat_machine s (Runs st n) fs is)
+      → BecomesBy code names (flat_machine s (Runs st n) fs is)
       (flat_machine (works s) (Runs (resumed code u v args (s.store p)) 1) (Mends below f.levels ∷ fs) f.rest)
       (Step ∷ Read p (s.store p) u v args ∷ [])
   -- a step in front of what is left over does not matter
   pub bare : (s : State) (fs : List FlatFrame) (st : Stack) (n : ℕ) (is : List Item)
-      → Leads code names (flat_machine s (Runs st (suc n)) fs (Step ∷ is)) (flat_machine s (Runs st (suc n)) fs is) []
+      → BecomesBy code names
+      (flat_machine s (Runs st (suc n)) fs (Step ∷ is)) (flat_machine s (Runs st (suc n)) fs is) []
 
 abbrev pub FlatMachineLaw : Type 0
 FlatMachineLaw = (code : Code) (names : ℕ → ℕ) → FlatLaws code names

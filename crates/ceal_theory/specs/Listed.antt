@@ -11,7 +11,7 @@ use Rattle.ceal_code.specs.Replay.{KnownBlock, Distinct}
 use Rattle.ceal_theory.specs.Cover.{known_after}
 use Rattle.ceal_theory.specs.Known.{KnownItems}
 use Rattle.ceal_theory.specs.KnownContent.{allocs, written_after}
-use Rattle.ceal_theory.specs.Slices.{Repair, starting, Sound}
+use Rattle.ceal_theory.specs.Slices.{Repair, starting, RepairHolds}
 use Rattle.ceal_theory.specs.Walk.{store_after, AgreesAll}
 
 -- It mentions only known blocks and allocates each once, and at each place of
@@ -26,6 +26,6 @@ pub record Listed (code : Code) (inputs : List Block) (r : Repair) (front : List
 abbrev pub ListedLaw : Type 0
 ListedLaw =
     (code : Code) (names : ℕ → ℕ) (inputs : List Block) (f : ℕ) (args : List Word) → Fits code inputs f args
-    → (r : Repair) → Sound code names inputs f args r
+    → (r : Repair) → RepairHolds code names inputs f args r
     → (front back : List Item) → flat r.items ≡ front ++ back
     → AgreesAll code (starting code inputs r.known) front → Listed code inputs r front

@@ -11,7 +11,7 @@ use Rattle.ceal_theory.specs.Carried.{Carried}
 use Rattle.ceal_theory.specs.Computed.{Repaired}
 use Rattle.ceal_theory.specs.Laws.{RenamedRepair}
 use Rattle.ceal_theory.specs.Repair.{own}
-use Rattle.ceal_theory.specs.Slices.{Repair, beginning, sliced, is_done, Sound}
+use Rattle.ceal_theory.specs.Slices.{Repair, beginning, sliced, is_done, RepairHolds}
 
 -- no trace, a trace with its work, or a repair in progress
 pub data Past : Type 0 where
@@ -53,8 +53,8 @@ slice_of code inputs fuel k (Some r) = sliced code own inputs k fuel r
 
 -- What is after a `propagate`, or a `propagate K`, of a call whose first trace on the present inputs is
 -- this, if the run ends.
-abbrev pub past_behind : Code → List Block → ℕ → Option Repaired → Option ℕ → Past → Past
-past_behind code inputs fuel first k past =
+abbrev pub past_after : Code → List Block → ℕ → Option Repaired → Option ℕ → Past → Past
+past_after code inputs fuel first k past =
     left_by code inputs first (slice_of code inputs fuel k (next_repair code inputs past))
 
 -- whether a repair is in progress
@@ -67,14 +67,14 @@ goes (Going r) = true
 pub data SamePast (code : Code) (inputs : List Block) (f : ℕ) (args : List Word) : Past → Past → Type 0 where
   none : SamePast code inputs f args NoTrace NoTrace
   traced : {a b : Repaired} → RenamedRepair (Some a) (Some b) → SamePast code inputs f args (Traced a) (Traced b)
-  going : {r q : Repair} → Sound code own inputs f args r → Carried code inputs 0 r q
+  going : {r q : Repair} → RepairHolds code own inputs f args r → Carried code inputs 0 r q
       → SamePast code inputs f args (Going r) (Going q)
 
 -- what is past belongs to the call: a trace of it, or a repair that holds for it
 abbrev pub IsPastOf : Code → List Block → ℕ → List Word → Past → Type 0
 IsPastOf code inputs f args NoTrace = ⊤
 IsPastOf code inputs f args (Traced l) = Replays code inputs f args l.items
-IsPastOf code inputs f args (Going r) = Sound code own inputs f args r
+IsPastOf code inputs f args (Going r) = RepairHolds code own inputs f args r
 
 -- so it is after each line that repairs
 abbrev pub PastLaw : Type 0
@@ -82,4 +82,4 @@ PastLaw =
     (code : Code) (inputs : List Block) (f : ℕ) (args : List Word) → Fits code inputs f args
     → (fuel : ℕ) (first : Option Repaired) → IfSome first (λ l. Replays code inputs f args l.items)
     → (k : Option ℕ) (p : Past) → IsPastOf code inputs f args p
-    → IsPastOf code inputs f args (past_behind code inputs fuel first k p)
+    → IsPastOf code inputs f args (past_after code inputs fuel first k p)

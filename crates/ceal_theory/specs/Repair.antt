@@ -11,7 +11,7 @@ use Rattle.ceal_base.specs.declared.word.Word.{Word}
 use Rattle.ceal_code.specs.Init.{made, pointer}
 use Rattle.ceal_code.specs.Program.{Code}
 use Rattle.ceal_code.specs.Replay.{Store, learnt, bases, cleared, stored}
-use Rattle.ceal_code.specs.Step.{Stack, Empty, Run, Over, Quiet, Makes, Writes, Reads, entered, given, next}
+use Rattle.ceal_code.specs.Step.{Stack, Empty, Run, Over, Quiet, Makes, Writes, Reads, entered, words_after_read, next}
 use Rattle.ceal_code.specs.Value.{Plain, Variables, set}
 use Rattle.ceal_theory.specs.Take.{TakenAlloc, TakenRead, take_alloc, take_read}
 
@@ -57,7 +57,7 @@ grows code names s key = record {
 
 -- the unit of a read by itself, on the value for its variable and on its arguments
 abbrev pub resumed : Code → UnitId → ℕ → List Word → Word → Stack
-resumed code u v args value = entered code u.0 (given code u.0 v args value) Empty
+resumed code u v args value = entered code u.0 (words_after_read code u.0 v args value) Empty
 
 -- The new blocks have the names of the numbers from the next one on.
 mutual

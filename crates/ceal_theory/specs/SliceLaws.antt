@@ -29,7 +29,7 @@ use Rattle.ceal_theory.specs.Cover.{known_after, Nodes, Nil, Node, items_of, bef
 use Rattle.ceal_theory.specs.Cover.{first_read, NoneQueued, waits_after, Queued, MoreOn, At}
 use Rattle.ceal_theory.specs.Walk.{store_after, AgreesAll}
 use Rattle.ceal_theory.specs.Slices.{NamesApart, Repair, with_inputs, starting, Runs, repair_at, goes_on, Slices}
-use Rattle.ceal_theory.specs.Slices.{sliced, Sound, beginning, AlikeRepairs, RenamedSlices, is_done}
+use Rattle.ceal_theory.specs.Slices.{sliced, RepairHolds, beginning, AlikeRepairs, RenamedSlices, is_done}
 
 -- how often a core block occurs among the items
 abbrev pub held : ℕ → Trace → ℕ
@@ -41,14 +41,14 @@ abbrev pub BeginLaw : Type 0
 BeginLaw =
     (code : Code) (names : ℕ → ℕ) (old new : List Block) (f : ℕ) (args : List Word) (l : Trace)
     (above number : ℕ) → Edited code old new f args l above
-    → Single names → NamesApart names number l → Sound code names new f args (beginning code new l number)
+    → Single names → NamesApart names number l → RepairHolds code names new f args (beginning code new l number)
 
 -- it holds on inputs that extend its own, whatever their bases
 abbrev pub MoreLaw : Type 0
 MoreLaw =
     (code : Code) (names : ℕ → ℕ) (old new : List Block) (f : ℕ) (args : List Word) → Fits code old f args
     → inputs_fit code.structs new ≡ true → Extended code old new
-    → (r : Repair) → Sound code names old f args r → Sound code names new f args r
+    → (r : Repair) → RepairHolds code names old f args r → RepairHolds code names new f args r
 
 -- the block has the name of one of these numbers
 abbrev pub IsNamed : (ℕ → ℕ) → ℕ → ℕ → ℕ → Type 0
@@ -59,16 +59,16 @@ IsNamed names from to b = (k : ℕ) × (from ≤ k) × (k < to) × (b ≡ names 
 abbrev pub OtherNamesLaw : Type 0
 OtherNamesLaw =
     (code : Code) (names names' : ℕ → ℕ) (inputs : List Block) (f : ℕ) (args : List Word) (r : Repair)
-    → Sound code names inputs f args r
+    → RepairHolds code names inputs f args r
     → Single names' → (number : ℕ) → ((k : ℕ) → number ≤ k → r.known (Core (names' k)) ≡ None)
-    → Sound code names' inputs f args (record r { number = number })
+    → RepairHolds code names' inputs f args (record r { number = number })
 
 -- What a slice comes to. Known blocks stay known, and what is known besides has names of numbers from the
 -- next one on, each of which the items have once. Of the other blocks the items have those that they had, or
 -- fewer: what was revoked stays so.
 pub record Sliced
     (code : Code) (names : ℕ → ℕ) (inputs : List Block) (f : ℕ) (args : List Word) (r r' : Repair) : Type 0 where
-  pub sound : Sound code names inputs f args r'
+  pub sound : RepairHolds code names inputs f args r'
   pub kept : (b : ℕ) (block : Block) → r.known (Core b) ≡ Some block → r'.known (Core b) ≡ Some block
   pub known : (b : ℕ) (block : Block) → r'.known (Core b) ≡ Some block
       → (r.known (Core b) ≡ Some block) ⊎ IsNamed names r.number r'.number b
@@ -80,7 +80,7 @@ pub record Sliced
 abbrev pub SliceLaw : Type 0
 SliceLaw =
     (code : Code) (names : ℕ → ℕ) (inputs : List Block) (f : ℕ) (args : List Word) → Fits code inputs f args
-    → (r : Repair) → Sound code names inputs f args r
+    → (r : Repair) → RepairHolds code names inputs f args r
     → (k : Option ℕ) (r' : Repair) → Slices code names inputs k r r' → Sliced code names inputs f args r r'
 
 -- a repair whose items are honest has a trace of the call, which determines the run from scratch: its memory,
@@ -94,28 +94,28 @@ pub record Ended
 abbrev pub DoneLaw : Type 0
 DoneLaw =
     (code : Code) (names : ℕ → ℕ) (inputs : List Block) (f : ℕ) (args : List Word) → Fits code inputs f args
-    → (r : Repair) → Sound code names inputs f args r
+    → (r : Repair) → RepairHolds code names inputs f args r
     → (h : IsHonest code inputs r.items) → Ended code inputs f args r.items h
 
 -- the store in which a slice begins says of the items whether they are honest, as only the bases do
 abbrev pub StartLaw : Type 0
 StartLaw =
     (code : Code) (names : ℕ → ℕ) (inputs : List Block) (f : ℕ) (args : List Word) → Fits code inputs f args
-    → (r : Repair) → Sound code names inputs f args r
+    → (r : Repair) → RepairHolds code names inputs f args r
     → IsHonest code inputs r.items ↔ AgreesAll code (starting code inputs r.known) (flat r.items)
 
 -- without a number of reads a slice is done
 abbrev pub WholeLaw : Type 0
 WholeLaw =
     (code : Code) (names : ℕ → ℕ) (inputs : List Block) (f : ℕ) (args : List Word) → Fits code inputs f args
-    → (r : Repair) → Sound code names inputs f args r
+    → (r : Repair) → RepairHolds code names inputs f args r
     → (r' : Repair) → Slices code names inputs None r r' → IsHonest code inputs r'.items
 
 -- a slice of what is done leaves it
 abbrev pub StaysLaw : Type 0
 StaysLaw =
     (code : Code) (names : ℕ → ℕ) (inputs : List Block) (f : ℕ) (args : List Word) → Fits code inputs f args
-    → (r : Repair) → Sound code names inputs f args r
+    → (r : Repair) → RepairHolds code names inputs f args r
     → IsHonest code inputs r.items → (k : Option ℕ) (r' : Repair) → Slices code names inputs k r r'
     → r' ≡ repair_at (goes_on code inputs r) r.items
 
@@ -187,7 +187,7 @@ and_more k (Some j) = Some (k + j)
 abbrev pub FollowLaw : Type 0
 FollowLaw =
     (code : Code) (names : ℕ → ℕ) (inputs : List Block) (f : ℕ) (args : List Word) → Fits code inputs f args
-    → (r : Repair) → Sound code names inputs f args r
+    → (r : Repair) → RepairHolds code names inputs f args r
     → (k : ℕ) (r' : Repair) → Slices code names inputs (Some k) r r' → (o : Option ℕ) (z : Repair)
     → Slices code names inputs o r' z → Slices code names inputs (and_more k o) r z
 
@@ -217,7 +217,7 @@ pub record FromBases (code : Code) (names : ℕ → ℕ) (inputs : List Block) (
 abbrev pub BasesLaw : Type 0
 BasesLaw =
     (code : Code) (names : ℕ → ℕ) (inputs : List Block) (f : ℕ) (args : List Word) → Fits code inputs f args
-    → (r : Repair) → Sound code names inputs f args r
+    → (r : Repair) → RepairHolds code names inputs f args r
     → (k : Option ℕ) (r' : Repair)
     → (Slices code names inputs k r r' → FromBases code names inputs k r r')
     × (FromBases code names inputs k r r' → Slices code names inputs k r r')
@@ -285,7 +285,7 @@ pub record KnownThere
 abbrev pub ReadyLaw : Type 0
 ReadyLaw =
     (code : Code) (names : ℕ → ℕ) (inputs : List Block) (f : ℕ) (ws : List Word) → Fits code inputs f ws
-    → (r : Repair) → Sound code names inputs f ws r
+    → (r : Repair) → RepairHolds code names inputs f ws r
     → (front : List Item) (p : Place) (value : Word) (u : UnitId) (v : ℕ) (args : List Word) (after : List Item)
     → flat r.items ≡ front ++ Read p value u v args ∷ after
     → AgreesAll code (starting code inputs r.known) front
@@ -309,7 +309,7 @@ pub record Turned (code : Code) (names : ℕ → ℕ) (inputs : List Block) (n :
 abbrev pub TurnsLaw : Type 0
 TurnsLaw =
     (code : Code) (names : ℕ → ℕ) (inputs : List Block) (f : ℕ) (args : List Word) → Fits code inputs f args
-    → (r : Repair) → Sound code names inputs f args r
+    → (r : Repair) → RepairHolds code names inputs f args r
     → (n : ℕ) (z : Repair) → Turns code names inputs n r z → Turned code names inputs n r z
 
 -- A repair with its history: it began from a trace of the call; since then inputs were edited and added, and
@@ -325,7 +325,7 @@ pub data History (code : Code) (names : ℕ → ℕ) (f : ℕ) (args : List Word
 pub record HeldUp
     (code : Code) (names : ℕ → ℕ) (inputs : List Block) (f : ℕ) (args : List Word) (r : Repair) : Type 0 where
   pub call : Fits code inputs f args
-  pub sound : Sound code names inputs f args r
+  pub sound : RepairHolds code names inputs f args r
   pub ended : (h : IsHonest code inputs r.items) → Ended code inputs f args r.items h
   -- where they are a trace of the call its blocks have the words that are known; and when done a new repair may begin
   pub words : Replays code inputs f args r.items → (b : BlockId) (block : Block)
@@ -362,9 +362,9 @@ pub record StandsFor
 abbrev pub RenamedSoundLaw : Type 0
 RenamedSoundLaw =
     (code : Code) (names names' : ℕ → ℕ) → Single names' → (inputs : List Block) (f : ℕ) (args : List Word)
-    → Fits code inputs f args → (r : Repair) → (h : Sound code names inputs f args r)
+    → Fits code inputs f args → (r : Repair) → (h : RepairHolds code names inputs f args r)
     → (ps : Pairs) (q : Repair) → AlikeRepairs code names names' inputs ps r q
-    → StandsFor code names' inputs ps h.blocks q → Sound code names' inputs f args q
+    → StandsFor code names' inputs ps h.blocks q → RepairHolds code names' inputs f args q
 
 -- A slice of k reads and m more, or of all, is what a slice of m, or of all, makes of what one of k comes to; so
 -- where the later one is not there within n steps spent, no more is the whole.
@@ -376,7 +376,7 @@ pub record Split
 abbrev pub SplitLaw : Type 0
 SplitLaw =
     (code : Code) (names : ℕ → ℕ) (inputs : List Block) (f : ℕ) (args : List Word) → Fits code inputs f args
-    → (r : Repair) → Sound code names inputs f args r
+    → (r : Repair) → RepairHolds code names inputs f args r
     → (k : ℕ) (r' : Repair) → Slices code names inputs (Some k) r r' → (o : Option ℕ) → ¬ (o ≡ Some zero)
     → Split code names inputs k r r' o
 
@@ -389,7 +389,7 @@ pub record TurnedOver (code : Code) (names : ℕ → ℕ) (inputs : List Block) 
 abbrev pub TurnsOverLaw : Type 0
 TurnsOverLaw =
     (code : Code) (names : ℕ → ℕ) (inputs : List Block) (f : ℕ) (args : List Word) → Fits code inputs f args
-    → (r : Repair) → Sound code names inputs f args r
+    → (r : Repair) → RepairHolds code names inputs f args r
     → (turns : ℕ) (z : Repair) → Turns code names inputs turns r z → TurnedOver code names inputs turns r z
 
 -- A turn keeps the cover, from the start of the old repair to that of the new one, whose known blocks are
@@ -398,7 +398,7 @@ TurnsOverLaw =
 abbrev pub KeepLaw : Type 0
 KeepLaw =
     (code : Code) (names : ℕ → ℕ) (inputs : List Block) (f : ℕ) (ws : List Word) → Fits code inputs f ws
-    → (r : Repair) → Sound code names inputs f ws r
+    → (r : Repair) → RepairHolds code names inputs f ws r
     → (front old fresh behind : Nodes) (w : Store) (p : Place) (value : Word) (u : UnitId) (v : ℕ)
     (args : List Word) (inside : Trace) (back : List Item)
     → At code (starting code inputs r.known) r.items (items_of front) w p value u v args inside back

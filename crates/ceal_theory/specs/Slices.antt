@@ -173,7 +173,7 @@ Uses n bs (WasRead p value u v args inside rest) =
 -- block of them has the words that its key gives. Its blocks are distinct. All that is mentioned is an input
 -- or a known block. No known block has a name of a number from the next one on; where each number is its own
 -- name, the next one lies above all of them.
-pub record Sound
+pub record RepairHolds
     (code : Code) (names : ℕ → ℕ) (inputs : List Block) (f : ℕ) (args : List Word) (r : Repair) : Type 0 where
   pub yields : Yields code (with_inputs code inputs r.known) (started code f args) r.items
   pub distinct : Distinct (core_numbers (blocks_of r.items))

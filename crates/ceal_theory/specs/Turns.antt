@@ -132,7 +132,7 @@ pub record Goes (code : Code) (names : ℕ → ℕ) (m : Machine) (s' : State) (
   pub finishes : Finishes code names m s' rest
 
 -- the one machine becomes the other, and has written these items: each finishes where the other does
-pub record Leads (code : Code) (names : ℕ → ℕ) (m m' : Machine) (written : List Item) : Type 0 where
+pub record BecomesBy (code : Code) (names : ℕ → ℕ) (m m' : Machine) (written : List Item) : Type 0 where
   pub back : (s' : State) (rest : List Item) → Finishes code names m' s' rest
       → Finishes code names m s' (written ++ rest)
   pub ahead : (s' : State) (items : List Item) → Finishes code names m s' items → Goes code names m' s' written items
@@ -145,14 +145,14 @@ pub record Ends (code : Code) (names : ℕ → ℕ) (m : Machine) : Type 0 where
 -- the move is one by the rules
 abbrev pub TakesTurn : Code → (ℕ → ℕ) → Machine → Turn → Type 0
 TakesTurn code names m Ended = Ends code names m
-TakesTurn code names m (Went written m') = Leads code names m m' written
+TakesTurn code names m (Went written m') = BecomesBy code names m m' written
 
 -- The machine: one move, moves after one another, the machine of a repair and that of a first trace.
 pub record MachineLaws (code : Code) (names : ℕ → ℕ) : Type 0 where
   pub turns : (m : Machine) → TakesTurn code names m (turn code names m)
-  pub stays : (m : Machine) → Leads code names m m []
-  pub leads : (m m' m'' : Machine) (is js : List Item) → Leads code names m m' is → Leads code names m' m'' js
-      → Leads code names m m'' (is ++ js)
+  pub stays : (m : Machine) → BecomesBy code names m m []
+  pub leads : (m m' m'' : Machine) (is js : List Item) → BecomesBy code names m m' is → BecomesBy code names m' m'' js
+      → BecomesBy code names m m'' (is ++ js)
   pub fixes : (s s' : State) (l : Trace) (items : List Item)
       → Finishes code names (record { state = s; mode = Fixing l; frames = Bottom }) s' items
       ↔ ((m : Trace) × (items ≡ flat m) × Fix code names s l s' m)
@@ -161,10 +161,10 @@ pub record MachineLaws (code : Code) (names : ℕ → ℕ) : Type 0 where
       ↔ ((m left : Trace) × (items ≡ flat m) × Anew code names s st l s' m left)
   -- steps in front of what is left over do not matter
   pub bare : (s : State) (st : Stack) (l : Trace) (fs : Frames)
-      → Leads code names (record { state = s; mode = Running st (Stepped l); frames = fs })
+      → BecomesBy code names (record { state = s; mode = Running st (Stepped l); frames = fs })
       (record { state = s; mode = Running st l; frames = fs }) []
   pub bare_after : (s : State) (mode : Mode) (below : Stack) (l : Trace) (fs : Frames)
-      → Leads code names (record { state = s; mode = mode; frames = AfterMend below (Stepped l) fs })
+      → BecomesBy code names (record { state = s; mode = mode; frames = AfterMend below (Stepped l) fs })
       (record { state = s; mode = mode; frames = AfterMend below l fs }) []
 
 abbrev pub MachineLaw : Type 0

@@ -8,7 +8,7 @@ use Rattle.ceal_base.specs.declared.word.BlockId.TheVariants.{Input, Core}
 use Rattle.ceal_code.specs.Init.{made, pointer}
 use Rattle.ceal_code.specs.Program.{Code}
 use Rattle.ceal_code.specs.Replay.{Yields}
-use Rattle.ceal_code.specs.Step.{Stack, Empty, Run, Act, Over, Quiet, Makes, Writes, Reads, entered, given, next}
+use Rattle.ceal_code.specs.Step.{Stack, Empty, Run, Act, Over, Quiet, Makes, Writes, Reads, entered, words_after_read, next}
 use Rattle.ceal_code.specs.Value.{Plain, set}
 use Rattle.ceal_traceck.specs.Walk.{Accepts}
 
@@ -63,14 +63,14 @@ module _ (code : Code) (x : Plain) where
   accepts-parsed (Accepts.reads {p = p} {u = u} {v = v} {args = args} {value = value} {st = st} {below = below} {is = is} h) g =
       around (accepts-parsed h g)
     where
-      around : Parsed (st ∷ below) (next code x (entered code u.0 (given code u.0 v args value) Empty)) is → Parsed below (Reads p u v args st) (Step ∷ Read p value u v args ∷ is)
+      around : Parsed (st ∷ below) (next code x (entered code u.0 (words_after_read code u.0 v args value) Empty)) is → Parsed below (Reads p u v args st) (Step ∷ Read p value u v args ∷ is)
       around (l, rest, k, y, q) =
           let front : List Item = Step ∷ Read p value u v args ∷ (flat l ++ End ∷ []) in
           let same : front ++ rest ≡ Step ∷ Read p value u v args ∷ is = ap (λ is. Step ∷ Read p value u v args ∷ is) (append_assoc (flat l) (End ∷ []) rest ∙ sym k) in
           subst (λ is. Parsed below (Reads p u v args st) is) same
           (lift below (next code x st) (Reads p u v args st) (λ m. Stepped (WasRead p value u v args l m)) front
           (λ m. ap (λ is. Step ∷ Read p value u v args ∷ is) (sym (append_assoc (flat l) (End ∷ []) (flat m))))
-          (λ m z s e. Yields.reads e (y (entered code u.0 (given code u.0 v args value) Empty) refl) (z st refl)) rest q)
+          (λ m z s e. Yields.reads e (y (entered code u.0 (words_after_read code u.0 v args value) Empty) refl) (z st refl)) rest q)
 
   -- items that are accepted with nothing that waits are those of a trace that the stack yields
   pub accepted : (st : Stack) (is : List Item) → Accepts code x (next code x st) [] is → MadeItems code x is → (l : Trace) × (is ≡ flat l) × Yields code x st l

@@ -7,7 +7,7 @@ use Rattle.ceal_base.specs.declared.word.Word.{Word}
 use Rattle.ceal_base.specs.declared.word.Word.TheVariants.{Num}
 use Rattle.ceal_code.proofs.Replay.Increment.{inc, place, inputs, args, items}
 use Rattle.ceal_code.specs.Replay.{Store, Yields, Honest, Mentions, bases, stored}
-use Rattle.ceal_code.specs.Step.{first_word, settled, next, chosen, bound, woven}
+use Rattle.ceal_code.specs.Step.{first_word, stack_after_quiet, next, chosen, bound, woven}
 use Rattle.ceal_code.specs.Valid.{valid, structs_ok, functions_ok, units_ok, unit_ok, is_prefix, kinds_ok, below}
 use Rattle.ceal_code.specs.Valid.{all_forward, is_tree, reached, all_followers, all_true, paths_ok, with_params}
 use Rattle.ceal_code.specs.Valid.{type_of, params_fit, others}
@@ -33,7 +33,7 @@ unfolding valid structs_ok functions_ok units_ok unit_ok is_prefix kinds_ok belo
 fits read written after = record { call = record { is_valid = refl; blocks = refl; words = refl }; shapes = refl }
 
 replays : (after : ℕ) → Replayed inc (recorded 4 5 after) (items 4 5)
-unfolding next settled chosen bound woven set unset expr_value values hidden-the_row-CodeExpr-0 shape-the_row-CodeExpr-0 denote.Hole.Carrier.hidden
+unfolding next stack_after_quiet chosen bound woven set unset expr_value values hidden-the_row-CodeExpr-0 shape-the_row-CodeExpr-0 denote.Hole.Carrier.hidden
 replays after = record {
   items = refl;
   replays = record {
@@ -71,7 +71,7 @@ other_memory = (fits 4 5 6, (items 4 5, replays 6, honest 6, λ same. differ sam
 
 -- the record says that 3 was read where a holds 4, and 4 written
 replays-three : Replayed inc (recorded 3 4 4) (items 3 4)
-unfolding next settled chosen bound woven set unset expr_value values hidden-the_row-CodeExpr-0 shape-the_row-CodeExpr-0 denote.Hole.Carrier.hidden
+unfolding next stack_after_quiet chosen bound woven set unset expr_value values hidden-the_row-CodeExpr-0 shape-the_row-CodeExpr-0 denote.Hole.Carrier.hidden
 replays-three = record {
   items = refl;
   replays = record {

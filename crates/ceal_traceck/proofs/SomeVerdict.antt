@@ -18,7 +18,7 @@ use Rattle.ceal_code.specs.Fitting.{args_fit, Fits}
 use Rattle.ceal_code.specs.Init.{pointer}
 use Rattle.ceal_code.specs.Program.{Code}
 use Rattle.ceal_code.specs.Replay.{bases, input_plain, inputs_after}
-use Rattle.ceal_code.specs.Step.{Stack, Empty, Run, Act, Over, Quiet, Makes, Writes, Reads, entered, given, next, started}
+use Rattle.ceal_code.specs.Step.{Stack, Empty, Run, Act, Over, Quiet, Makes, Writes, Reads, entered, words_after_read, next, started}
 use Rattle.ceal_code.specs.Tables.{plain_flat}
 use Rattle.ceal_code.specs.Valid.{valid}
 use Rattle.ceal_code.specs.Value.{Plain, Variables, set}
@@ -87,7 +87,7 @@ module _ (code : Code) (x : Plain) where
   module _ (p : Place) (u : UnitId) (v : ℕ) (args : List Word) (st : Stack) (below : List Stack) (is : List Item) (later : Fewer is) where
     read-told : (js : List Item) → is ≡ Step ∷ js → Decided ((w : Word) × (ks : List Item) × (js ≡ Read p w u v args ∷ ks)) → Told (Reads p u v args st) below is
     read-told js e (inl (w, ks, f)) =
-        let run = entered code u.0 (given code u.0 v args w) Empty in
+        let run = entered code u.0 (words_after_read code u.0 v args w) Empty in
         let more = reads-more code x p u v args w st run Empty below (st ∷ below) is js ks e f refl refl refl in
         moved more.1 more.0 (later ks (omega (arith, ap length e, ap length f)) (next code x run) (st ∷ below))
     read-told js e (inr none) = inr (λ h. let q = begins code x h in none (q.0, q.1, behind-step is js (Read p q.0 u v args ∷ q.1) e q.2))

@@ -12,7 +12,7 @@ use Rattle.ceal_base.specs.declared.word.Word.{Word}
 use Rattle.ceal_code.specs.Init.{arguments, pointer}
 use Rattle.ceal_code.specs.Program.{Code}
 use Rattle.ceal_code.specs.Stacks.{over, stack_in}
-use Rattle.ceal_code.specs.Step.{Stack, Empty, Run, Act, Over, Quiet, Makes, Writes, Reads, entered, given, next}
+use Rattle.ceal_code.specs.Step.{Stack, Empty, Run, Act, Over, Quiet, Makes, Writes, Reads, entered, words_after_read, next}
 use Rattle.ceal_code.specs.Value.{Plain, Variables, set}
 use Rattle.ceal_code.specs.declared.stack.Activation.{Activation}
 use Rattle.ceal_code.specs.declared.stack.Stack.{Stack as CodeStack}
@@ -49,7 +49,7 @@ module _ (code : Code) (x : Plain) where
       (b : ℕ) × (js : List Item) × (is ≡ Step ∷ Alloc (Core b) key ∷ js) × Accepts code x (next code x (Run u i (set env v (pointer key (Core b))) st)) below js
   Begins (Writes p w st) below is = (js : List Item) × (is ≡ Step ∷ Write p w ∷ js) × Accepts code x (next code x st) below js
   Begins (Reads p u v args st) below is =
-      (w : Word) × (js : List Item) × (is ≡ Step ∷ Read p w u v args ∷ js) × Accepts code x (next code x (entered code u.0 (given code u.0 v args w) Empty)) (st ∷ below) js
+      (w : Word) × (js : List Item) × (is ≡ Step ∷ Read p w u v args ∷ js) × Accepts code x (next code x (entered code u.0 (words_after_read code u.0 v args w) Empty)) (st ∷ below) js
 
   pub begins : {a : Act} {below : List Stack} {is : List Item} → Accepts code x a below is → Begins a below is
   begins Accepts.ends = refl
@@ -103,12 +103,12 @@ module _ (code : Code) (x : Plain) where
       )
 
   pub reads-more : (p : Place) (u : UnitId) (v : ℕ) (args : List Word) (w : Word) (st st' bottom : Stack) (below all : List Stack) (is js ks : List Item) → is ≡ Step ∷ js → js ≡ Read p w u v args ∷ ks
-      → st' ≡ entered code u.0 (given code u.0 v args w) bottom → bottom ≡ Empty → all ≡ st ∷ below
+      → st' ≡ entered code u.0 (words_after_read code u.0 v args w) bottom → bottom ≡ Empty → all ≡ st ∷ below
       → Turned None (Accepts code x (Reads p u v args st) below is) (Accepts code x (next code x st') all ks)
   reads-more p u v args w st st' bottom below all is js ks e f g k l =
       rw (e, f, g, k, l) (
         λ h. let q = begins h in let same : ks ≡ q.1 = cc (q.2) in let word : w ≡ q.0 = cc (q.2) in
-            subst (λ w. Accepts code x (next code x (entered code u.0 (given code u.0 v args w) Empty)) (st ∷ below) ks) (sym word)
-            (subst (λ js. Accepts code x (next code x (entered code u.0 (given code u.0 v args q.0) Empty)) (st ∷ below) js) (sym same) q.3),
+            subst (λ w. Accepts code x (next code x (entered code u.0 (words_after_read code u.0 v args w) Empty)) (st ∷ below) ks) (sym word)
+            (subst (λ js. Accepts code x (next code x (entered code u.0 (words_after_read code u.0 v args q.0) Empty)) (st ∷ below) js) (sym same) q.3),
         λ h. Accepts.reads h,
       )

@@ -11,7 +11,8 @@ use Rattle.ceal_base.specs.declared.word.Word.{Word}
 use Rattle.ceal_code.specs.Init.{pointer}
 use Rattle.ceal_code.specs.Program.{Code}
 use Rattle.ceal_code.specs.Stacks.{stack_in}
-use Rattle.ceal_code.specs.Step.{Stack, Empty, Run, Act, Over, Quiet, Makes, Writes, Reads, entered, given, next}
+use Rattle.ceal_code.specs.Step.{Stack, Empty, Run, Act, Over, Quiet, Makes, Writes, Reads}
+use Rattle.ceal_code.specs.Step.{entered, words_after_read, next}
 use Rattle.ceal_code.specs.Tables.{code_in, plain_in}
 use Rattle.ceal_code.specs.Value.{Plain, Variables, set}
 use Rattle.ceal_code.specs.declared.stack.Stack.{Stack as CodeStack}
@@ -32,7 +33,7 @@ pub data Accepts (code : Code) (x : Plain) : Act → List Stack → List Item �
       → Accepts code x (next code x st) below is → Accepts code x (Writes p value st) below (Step ∷ Write p value ∷ is)
   reads : {p : Place} {u : UnitId} {v : ℕ} {args : List Word} {value : Word} {st : Stack} {below : List Stack}
       {is : List Item}
-      → Accepts code x (next code x (entered code u.0 (given code u.0 v args value) Empty)) (st ∷ below) is
+      → Accepts code x (next code x (entered code u.0 (words_after_read code u.0 v args value) Empty)) (st ∷ below) is
       → Accepts code x (Reads p u v args st) below (Step ∷ Read p value u v args ∷ is)
 
 -- stacks that wait, as the code keeps them, the innermost last

@@ -26,7 +26,7 @@ use Rattle.ceal_code.proofs.Words.PickedRows.{IfPick}
 use Rattle.ceal_code.specs.Alike.{Pairs, Tied, IdAlike, PlaceAlike, WordAlike, WordsAlike, KeyAlike, VariablesAlike, StackAlike, ActAlike, FieldsAlike, BlockAlike, MaybeAlike, PlainAlike, TraceAlike, Within, OneToOne}
 use Rattle.ceal_code.specs.Init.{set_plain, set_by, set_by_row, set_by_all, arguments, made_by, made, pointer}
 use Rattle.ceal_code.specs.Program.{Code}
-use Rattle.ceal_code.specs.Step.{Stack, Run, Quiet, unit_at, command_at, entry_of, variable_default, kinds_of, bound, entered, first_word, later_words, woven, given, key_of, place_of, writes_at, reads_at, act, landed, settled_at, settled, acted, next}
+use Rattle.ceal_code.specs.Step.{Stack, Run, Quiet, unit_at, command_at, entry_of, variable_default, kinds_of, bound, entered, first_word, later_words, woven, words_after_read, key_of, place_of, writes_at, reads_at, act, landed, stack_after_quiet_at, stack_after_quiet, acted, next}
 use Rattle.ceal_code.specs.Value.{Plain, Variables, unset, set, field_kind, is_cell, field_default, plain_word, field_in, field_value, address_value, expr_value, operand_value, values}
 use Rattle.ceal_code.specs.declared.command.Cmd.{Cmd}
 use Rattle.ceal_code.specs.declared.command.Cmd.TheVariants.{Move, Tick, Alloc, Modref, Write, If, Done, Tail, Read, Call}
@@ -208,9 +208,9 @@ module _ (ps : Pairs) where
   entered-alike code u h k = StackAlike.run (bound-alike (unit_at code u).params h) k
 
   -- a unit that continues after a read
-  pub given-alike : (code : Code) (u n : ℕ) {vs ws : List Word} {v w : Word} {st st' : Stack} → WordsAlike ps vs ws → WordAlike ps v w → StackAlike ps st st'
-      → StackAlike ps (entered code u (given code u n vs v) st) (entered code u (given code u n ws w) st')
-  given-alike code u n h k l = entered-alike code u (woven-alike (unit_at code u).params n k h) l
+  pub words_after_read-alike : (code : Code) (u n : ℕ) {vs ws : List Word} {v w : Word} {st st' : Stack} → WordsAlike ps vs ws → WordAlike ps v w → StackAlike ps st st'
+      → StackAlike ps (entered code u (words_after_read code u n vs v) st) (entered code u (words_after_read code u n ws w) st')
+  words_after_read-alike code u n h k l = entered-alike code u (woven-alike (unit_at code u).params n k h) l
 
   pub pointer-alike : {k l : Key} {b c : BlockId} → KeyAlike ps k l → IdAlike ps b c → WordAlike ps (pointer k b) (pointer l c)
   pointer-alike (KeyAlike.init h) t = WordAlike.block t
@@ -437,8 +437,8 @@ module _ (ps : Pairs) (one : OneToOne ps) where
     writes-alike (WordAlike.at p) h k = ActAlike.writes p h k
 
     null-alike : (u : UnitId) (v : ℕ) {vs ws : List Word} {st st' : Stack} → WordsAlike ps vs ws → StackAlike ps st st'
-        → ActAlike ps (Quiet (entered code u.0 (given code u.0 v vs (variable_default code u.0 v)) st)) (Quiet (entered code u.0 (given code u.0 v ws (variable_default code u.0 v)) st'))
-    null-alike u v h k = ActAlike.quiet (given-alike ps code u.0 v h (kind_default-self ps (slice_get (kinds_of code (unit_at code u.0).function) v)) k)
+        → ActAlike ps (Quiet (entered code u.0 (words_after_read code u.0 v vs (variable_default code u.0 v)) st)) (Quiet (entered code u.0 (words_after_read code u.0 v ws (variable_default code u.0 v)) st'))
+    null-alike u v h k = ActAlike.quiet (words_after_read-alike ps code u.0 v h (kind_default-self ps (slice_get (kinds_of code (unit_at code u.0).function) v)) k)
 
     reads-alike : {p q : Word} (u : UnitId) (v : ℕ) {vs ws : List Word} {st st' : Stack} → WordAlike ps p q → WordsAlike ps vs ws → StackAlike ps st st' → ActAlike ps (reads_at code (place_of p) u v vs st) (reads_at code (place_of q) u v ws st')
     reads-alike u v WordAlike.num h k = null-alike u v h k
@@ -484,22 +484,22 @@ module _ (ps : Pairs) (one : OneToOne ps) where
       landed-alike (Read v p w args) l m = l
       landed-alike (Call f args w rest) l m = l
 
-      at_settled-alike : (c : Cmd) {r r' : Stack} → StackAlike ps r r' → StackAlike ps (settled_at code x c u i env st r) (settled_at code y c u i env' st' r')
-      at_settled-alike Done m = m
-      at_settled-alike (Tail w args) m = landed-alike (command_at code w.0 0) (entered-alike ps code w.0 (vals args) k) m
-      at_settled-alike (Move v e) m = StackAlike.run h k
-      at_settled-alike Tick m = StackAlike.run h k
-      at_settled-alike (Alloc v f args) m = StackAlike.run h k
-      at_settled-alike (Modref v shape) m = StackAlike.run h k
-      at_settled-alike (Write p e) m = StackAlike.run h k
-      at_settled-alike (If test first second) m = StackAlike.run h k
-      at_settled-alike (Read v p w args) m = StackAlike.run h k
-      at_settled-alike (Call f args w rest) m = StackAlike.run h k
+      stack_after_quiet_at-alike : (c : Cmd) {r r' : Stack} → StackAlike ps r r' → StackAlike ps (stack_after_quiet_at code x c u i env st r) (stack_after_quiet_at code y c u i env' st' r')
+      stack_after_quiet_at-alike Done m = m
+      stack_after_quiet_at-alike (Tail w args) m = landed-alike (command_at code w.0 0) (entered-alike ps code w.0 (vals args) k) m
+      stack_after_quiet_at-alike (Move v e) m = StackAlike.run h k
+      stack_after_quiet_at-alike Tick m = StackAlike.run h k
+      stack_after_quiet_at-alike (Alloc v f args) m = StackAlike.run h k
+      stack_after_quiet_at-alike (Modref v shape) m = StackAlike.run h k
+      stack_after_quiet_at-alike (Write p e) m = StackAlike.run h k
+      stack_after_quiet_at-alike (If test first second) m = StackAlike.run h k
+      stack_after_quiet_at-alike (Read v p w args) m = StackAlike.run h k
+      stack_after_quiet_at-alike (Call f args w rest) m = StackAlike.run h k
 
-    settled-alike : {st st' : Stack} → StackAlike ps st st' → StackAlike ps (settled code x st) (settled code y st')
-    unfolding settled
-    settled-alike StackAlike.empty = StackAlike.empty
-    settled-alike (StackAlike.run {u = u} {i = i} h k) = at_settled-alike u i h k (command_at code u i) (settled-alike k)
+    stack_after_quiet-alike : {st st' : Stack} → StackAlike ps st st' → StackAlike ps (stack_after_quiet code x st) (stack_after_quiet code y st')
+    unfolding stack_after_quiet
+    stack_after_quiet-alike StackAlike.empty = StackAlike.empty
+    stack_after_quiet-alike (StackAlike.run {u = u} {i = i} h k) = stack_after_quiet_at-alike u i h k (command_at code u i) (stack_after_quiet-alike k)
 
     acted-alike : {st st' : Stack} → StackAlike ps st st' → ActAlike ps (acted code x st) (acted code y st')
     acted-alike StackAlike.empty = ActAlike.over
@@ -508,4 +508,4 @@ module _ (ps : Pairs) (one : OneToOne ps) where
     -- like stacks have like next steps
     pub next-alike : {st st' : Stack} → StackAlike ps st st' → ActAlike ps (next code x st) (next code y st')
     unfolding next
-    next-alike h = acted-alike (settled-alike h)
+    next-alike h = acted-alike (stack_after_quiet-alike h)

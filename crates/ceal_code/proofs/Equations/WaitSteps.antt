@@ -6,7 +6,7 @@ use Rattle.ceal_base.specs.declared.word.Word.{Word}
 use Rattle.ceal_code.specs.Init.{arguments}
 use Rattle.ceal_code.specs.Program.{Code}
 use Rattle.ceal_code.specs.Stacks.{Stands, act_on, over, topped, waiting, waiting_on, waits_in, stack_in}
-use Rattle.ceal_code.specs.Step.{Stack, Empty, Run, acted, command_at, next, settled_at, settled}
+use Rattle.ceal_code.specs.Step.{Stack, Empty, Run, acted, command_at, next, stack_after_quiet_at, stack_after_quiet}
 use Rattle.ceal_code.specs.Value.{Plain}
 use Rattle.ceal_code.specs.declared.command.Cmd.{Cmd}
 use Rattle.ceal_code.specs.declared.stack.Stack.{Stack as CodeStack}
@@ -52,24 +52,24 @@ runs-over s e = ap (λ b. topped b s.top (waits_in s.waits)) (sym e)
 module _ (code : Code) (x : Plain) where
   -- a unit that is over at once
   pub settle-over : (s : CodeStack) → s.runs ≡ true
-      → ((rest : Stack) → settled_at code x (command_at code s.top.unit s.top.index) s.top.unit s.top.index (arguments s.top.env.items) (waits_in s.waits) rest ≡ rest)
-      → settled code x (stack_in s) ≡ settled code x (waits_in s.waits)
-  unfolding settled
-  settle-over s e h = ap (settled code x) (sym (runs-over s e)) ∙ h (settled code x (waits_in s.waits))
+      → ((rest : Stack) → stack_after_quiet_at code x (command_at code s.top.unit s.top.index) s.top.unit s.top.index (arguments s.top.env.items) (waits_in s.waits) rest ≡ rest)
+      → stack_after_quiet code x (stack_in s) ≡ stack_after_quiet code x (waits_in s.waits)
+  unfolding stack_after_quiet
+  settle-over s e h = ap (stack_after_quiet code x) (sym (runs-over s e)) ∙ h (stack_after_quiet code x (waits_in s.waits))
 
   -- and one that takes the next step, or calls a unit that does
   pub settle-found : (s : CodeStack) (st : Stack) → s.runs ≡ true
-      → ((rest : Stack) → settled_at code x (command_at code s.top.unit s.top.index) s.top.unit s.top.index (arguments s.top.env.items) (waits_in s.waits) rest ≡ st)
-      → settled code x (stack_in s) ≡ st
-  unfolding settled
-  settle-found s st e h = ap (settled code x) (sym (runs-over s e)) ∙ h (settled code x (waits_in s.waits))
+      → ((rest : Stack) → stack_after_quiet_at code x (command_at code s.top.unit s.top.index) s.top.unit s.top.index (arguments s.top.env.items) (waits_in s.waits) rest ≡ st)
+      → stack_after_quiet code x (stack_in s) ≡ st
+  unfolding stack_after_quiet
+  settle-found s st e h = ap (stack_after_quiet code x) (sym (runs-over s e)) ∙ h (stack_after_quiet code x (waits_in s.waits))
 
-  pub settle-none : (st : Stack) → st ≡ Empty → settled code x st ≡ Empty
-  unfolding settled
-  settle-none st e = ap (settled code x) e
+  pub settle-none : (st : Stack) → st ≡ Empty → stack_after_quiet code x st ≡ Empty
+  unfolding stack_after_quiet
+  settle-none st e = ap (stack_after_quiet code x) e
 
 -- the next step, by the command of the unit that takes it
-pub next-of : (code : Code) (x : Plain) (st : Stack) (s : CodeStack) (c : Cmd) → settled code x st ≡ stack_in s → Stands code c s
+pub next-of : (code : Code) (x : Plain) (st : Stack) (s : CodeStack) (c : Cmd) → stack_after_quiet code x st ≡ stack_in s → Stands code c s
     → next code x st ≡ act_on code x c s.top (waits_in s.waits)
 unfolding next
 next-of code x st s c e h =

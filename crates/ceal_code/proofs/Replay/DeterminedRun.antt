@@ -17,9 +17,9 @@ use Rattle.ceal_base.specs.declared.word.Place.{Place}
 use Rattle.ceal_base.specs.declared.word.Word.{Word}
 use Rattle.ceal_base.specs.declared.word.Word.TheVariants.{At}
 use Rattle.ceal_code.proofs.Alike.AlikeActs.{QuietToo, MakesToo, WritesToo, ReadsToo, over-too, quiet-too, makes-too, writes-too, reads-too}
-use Rattle.ceal_code.proofs.Alike.AlikeSteps.{key-wider, variables-wider, stack-wider, set-alike, given-alike, pointer-alike, made-alike, next-alike}
+use Rattle.ceal_code.proofs.Alike.AlikeSteps.{key-wider, variables-wider, stack-wider, set-alike, words_after_read-alike, pointer-alike, made-alike, next-alike}
 use Rattle.ceal_code.proofs.Alike.AlikeStores.{cleared-alike, stored-alike, plain-with}
-use Rattle.ceal_code.proofs.Words.Closed.{OfStack, OfKey, OfAct, next-of, set-of, given-of}
+use Rattle.ceal_code.proofs.Words.Closed.{OfStack, OfKey, OfAct, next-of, set-of, words_after_read-of}
 use Rattle.ceal_code.proofs.Replay.MemoryChanges.{contents, CellThere, content-read, altered, written-here, written-other, written-count, written-contents, grown-here, grown-other, grown-count, grown-contents}
 use Rattle.ceal_code.proofs.Replay.StackOver.{next-on}
 use Rattle.ceal_code.proofs.Alike.BlockPairs.{within-trans, one-within, more-pair, tied-with, tied-case}
@@ -34,7 +34,7 @@ use Rattle.ceal_code.specs.Init.{made, pointer}
 use Rattle.ceal_code.specs.Over.{on, act_on}
 use Rattle.ceal_code.specs.Program.{Code}
 use Rattle.ceal_code.specs.Replay.{Yields, Honest, Store, core_numbers, cleared, stored}
-use Rattle.ceal_code.specs.Step.{Stack, Empty, Run, Act, Over, Quiet, Makes, Writes, Reads, variable_default, entered, given, next}
+use Rattle.ceal_code.specs.Step.{Stack, Empty, Run, Act, Over, Quiet, Makes, Writes, Reads, variable_default, entered, words_after_read, next}
 use Rattle.ceal_code.specs.Value.{Plain, Variables, set, is_cell}
 
 pub cores-append : (bs cs : List BlockId) → core_numbers (bs ++ cs) ≡ core_numbers bs ++ core_numbers cs
@@ -272,33 +272,33 @@ module _ (code : Code) where
     -- what the run reads
     reads-runs : (m m1 : Blocks) (st below' : Stack) (p q : Place) (v w : Word) (u : UnitId) (y : ℕ) (args args' : List Word) (memory : Blocks) (i l : Trace)
         → next code (block_at m) st ≡ Reads q u y args' below' → content_of m (At q) (variable_default code u.0 y) ≡ w
-        → ((below : Stack) (n f steps k : ℕ) → n ≡ steps_of i + f → k ≡ steps + steps_of i → run code n steps m (on (entered code u.0 (given code u.0 y args' w) Empty) below) ≡ run code f k m1 below)
+        → ((below : Stack) (n f steps k : ℕ) → n ≡ steps_of i + f → k ≡ steps + steps_of i → run code n steps m (on (entered code u.0 (words_after_read code u.0 y args' w) Empty) below) ≡ run code f k m1 below)
         → ((below : Stack) (n f steps k : ℕ) → n ≡ steps_of l + f → k ≡ steps + steps_of l → run code n steps m1 (on below' below) ≡ run code f k memory below)
         → (below : Stack) (n f steps k : ℕ) → n ≡ steps_of (Stepped (WasRead p v u y args i l)) + f → k ≡ steps + steps_of (Stepped (WasRead p v u y args i l)) → run code n steps m (on st below) ≡ run code f k memory below
     reads-runs m m1 st below' p q v w u y args args' memory i l e c h g below zero f steps k hn hk = absurd (omega (arith, hn))
     reads-runs m m1 st below' p q v w u y args args' memory i l e c h g below (suc n) f steps k hn hk =
         one-step n steps m st below (Reads q u y args' below') e
-        ∙ (ap (λ w. run code n (steps + 1) m (entered code u.0 (given code u.0 y args' w) (on below' below))) c
+        ∙ (ap (λ w. run code n (steps + 1) m (entered code u.0 (words_after_read code u.0 y args' w) (on below' below))) c
         ∙ (h (on below' below) n (steps_of l + f) (steps + 1) (steps + 1 + steps_of i) (omega (arith, hn)) refl
         ∙ g below (steps_of l + f) f (steps + 1 + steps_of i) k refl (omega (arith, hk))))
 
     reads-short : (m m1 : Blocks) (st below' : Stack) (p q : Place) (v w : Word) (u : UnitId) (y : ℕ) (args args' : List Word) (i l : Trace)
         → next code (block_at m) st ≡ Reads q u y args' below' → content_of m (At q) (variable_default code u.0 y) ≡ w
-        → ((below : Stack) (n f steps k : ℕ) → n ≡ steps_of i + f → k ≡ steps + steps_of i → run code n steps m (on (entered code u.0 (given code u.0 y args' w) Empty) below) ≡ run code f k m1 below)
-        → ((below : Stack) (n steps : ℕ) → n < steps_of i → run code n steps m (on (entered code u.0 (given code u.0 y args' w) Empty) below) ≡ None)
+        → ((below : Stack) (n f steps k : ℕ) → n ≡ steps_of i + f → k ≡ steps + steps_of i → run code n steps m (on (entered code u.0 (words_after_read code u.0 y args' w) Empty) below) ≡ run code f k m1 below)
+        → ((below : Stack) (n steps : ℕ) → n < steps_of i → run code n steps m (on (entered code u.0 (words_after_read code u.0 y args' w) Empty) below) ≡ None)
         → ((below : Stack) (n steps : ℕ) → n < steps_of l → run code n steps m1 (on below' below) ≡ None)
         → (below : Stack) (n steps : ℕ) → n < steps_of (Stepped (WasRead p v u y args i l)) → run code n steps m (on st below) ≡ None
     reads-short m m1 st below' p q v w u y args args' i l e c h hs gs below zero steps hn = no-step steps m st below (Reads q u y args' below') e
     reads-short m m1 st below' p q v w u y args args' i l e c h hs gs below (suc n) steps hn =
         one-step n steps m st below (Reads q u y args' below') e
-        ∙ (ap (λ w. run code n (steps + 1) m (entered code u.0 (given code u.0 y args' w) (on below' below))) c
+        ∙ (ap (λ w. run code n (steps + 1) m (entered code u.0 (words_after_read code u.0 y args' w) (on below' below))) c
         ∙ cases-le (steps_of i) n
         (λ k. h (on below' below) n (n - steps_of i) (steps + 1) (steps + 1 + steps_of i) (omega (arith, k)) refl ∙ gs below (n - steps_of i) (steps + 1 + steps_of i) (omega (arith, k, hn)))
         (λ k. hs (on below' below) n (steps + 1) k))
 
     runs-reads : (ps : Pairs) (m : Blocks) (st below' : Stack) (p q : Place) (v w : Word) (u : UnitId) (y : ℕ) (args args' : List Word) (i l : Trace) (t s' : Store)
         → next code (block_at m) st ≡ Reads q u y args' below' → content_of m (At q) (variable_default code u.0 y) ≡ w
-        → (r : Runs ps m (entered code u.0 (given code u.0 y args' w) Empty) i t) → Runs r.after r.memory below' l s'
+        → (r : Runs ps m (entered code u.0 (words_after_read code u.0 y args' w) Empty) i t) → Runs r.after r.memory below' l s'
         → Runs ps m st (Stepped (WasRead p v u y args i l)) s'
     runs-reads ps m st below' p q v w u y args args' i l t s' e c r g = record {
       after = g.after;
@@ -323,7 +323,7 @@ module _ (code : Code) where
 
     then-reads : (ps : Pairs) (m : Blocks) (st below' : Stack) (p q : Place) (v w : Word) (u : UnitId) (y : ℕ) (args args' : List Word) (i l : Trace) (t s' : Store)
         → next code (block_at m) st ≡ Reads q u y args' below' → content_of m (At q) (variable_default code u.0 y) ≡ w
-        → Runs ps m (entered code u.0 (given code u.0 y args' w) Empty) i t
+        → Runs ps m (entered code u.0 (words_after_read code u.0 y args' w) Empty) i t
         → ((qs : Pairs) (m1 : Blocks) → Within ps qs → Keeps code.structs m m1 → length m1.made ≡ length m.made + length (core_numbers (blocks_of i)) → Stands qs t m1 → Runs qs m1 below' l s')
         → Runs ps m st (Stepped (WasRead p v u y args i l)) s'
     then-reads ps m st below' p q v w u y args args' i l t s' e c r f = runs-reads ps m st below' p q v w u y args args' i l t s' e c r (f r.after r.memory r.wider r.keeps r.count r.stands)
@@ -429,7 +429,7 @@ module _ (code : Code) where
         (λ qs m1 st'' count stands alike placed. determined ok r2 qs t m1 stands alike placed w2 rest (rest-within (length m.made) (length m1.made) (blocks_of i) (blocks_of l) rest count z))
       where
         go : ReadsToo ps p u y args below (next code (block_at m) st')
-            → ((st'' : Stack) → StackAlike ps (entered code u.0 (given code u.0 y args value) Empty) st'' → OfStack (Placed code.structs m) st'' → Runs ps m st'' i t)
+            → ((st'' : Stack) → StackAlike ps (entered code u.0 (words_after_read code u.0 y args value) Empty) st'' → OfStack (Placed code.structs m) st'' → Runs ps m st'' i t)
             → ((qs : Pairs) (m1 : Blocks) (st'' : Stack) → length m1.made ≡ length m.made + length (core_numbers (blocks_of i)) → Stands qs t m1 → StackAlike qs below st'' → OfStack (Placed code.structs m1) st'' → Runs qs m1 st'' l s')
             → Runs ps m st' (Stepped (WasRead p value u y args i l)) s'
         go q g1 g2 =
@@ -438,6 +438,6 @@ module _ (code : Code) where
             let w : Word = contents code m q.p' in
             let kw : WordAlike ps value (contents code m q.p') = rw f at (h.store p q.p' q.places) in
             then-reads ps m st' q.below' p q.p' value (contents code m q.p') u y args q.args' i l t s' q.is (content-read code m q.p' (variable_default code u.0 y) cell)
-            (g1 (entered code u.0 (given code u.0 y q.args' (contents code m q.p')) Empty) (given-alike ps code u.0 y q.words kw StackAlike.empty)
-            (given-of (Placed code.structs m) (λ n. tt) tt code u.0 y q.args' (contents code m q.p') Empty a.1 (content-placed code m q.p' h.well cell) tt))
+            (g1 (entered code u.0 (words_after_read code u.0 y q.args' (contents code m q.p')) Empty) (words_after_read-alike ps code u.0 y q.words kw StackAlike.empty)
+            (words_after_read-of (Placed code.structs m) (λ n. tt) tt code u.0 y q.args' (contents code m q.p') Empty a.1 (content-placed code m q.p' h.well cell) tt))
             (λ qs m1 wide keeps count stands. g2 qs m1 q.below' count stands (stack-wider ps qs wide q.alike) (stack-keeps code.structs m m1 keeps q.below' a.2))

@@ -26,7 +26,7 @@ use Rattle.ceal_code.specs.Fresh.{run, fresh}
 use Rattle.ceal_code.specs.Program.{Code}
 use Rattle.ceal_code.specs.Replay.{Yields, Store, KnownWords, core_numbers, learnt, plain_words, plain_block, input_plain, plain_after, plain_of, content_in, input_block, bases, Replays, IsHonest, with_contents, filled, block_after, inputs_after}
 use Rattle.ceal_code.specs.Init.{made}
-use Rattle.ceal_code.specs.Step.{Stack, Empty, chosen, started, unit_at, entry_of, settled, next}
+use Rattle.ceal_code.specs.Step.{Stack, Empty, chosen, started, unit_at, entry_of, stack_after_quiet, next}
 use Rattle.ceal_code.specs.Value.{Plain, field_kind, is_cell, field_default}
 
 -- an input keeps its plain words
@@ -138,7 +138,7 @@ get-after code s n (block ∷ blocks) (suc i) = let e : n + suc i ≡ n + 1 + i 
 
 -- the run of an empty stack is at its end
 pub empty-run : (code : Code) (n k : ℕ) (m : Blocks) → run code n k m Empty ≡ Some (record { memory = m; steps = k; blocks = length m.made })
-unfolding run next settled
+unfolding run next stack_after_quiet
 empty-run code zero k m = refl
 empty-run code (suc n) k m = refl
 

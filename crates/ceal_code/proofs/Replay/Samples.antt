@@ -14,7 +14,7 @@ use Rattle.ceal_code.proofs.Replay.Increment.{var, inc, place, args}
 use Rattle.ceal_code.specs.Fresh.{fresh, run}
 use Rattle.ceal_code.specs.Program.{Code}
 use Rattle.ceal_code.specs.Replay.{Yields, Honest, plain_of, bases, stored}
-use Rattle.ceal_code.specs.Step.{started, settled, next, chosen, bound, woven}
+use Rattle.ceal_code.specs.Step.{started, stack_after_quiet, next, chosen, bound, woven}
 use Rattle.ceal_code.specs.Valid.{valid, structs_ok, functions_ok, units_ok, unit_ok, is_prefix, kinds_ok, below, all_forward, is_tree, reached, all_followers, all_true, paths_ok, with_params, type_of, params_fit, others, row_goes_on, rows_ok}
 use Rattle.ceal_code.specs.Value.{expr_value, values, set, unset}
 use Rattle.ceal_code.specs.declared.command.Cmd.TheVariants.{If, Done, Call}
@@ -33,11 +33,11 @@ inputs n = cell (Num (pos n)) ∷ cell (Num (pos 0)) ∷ []
 
 inc-fresh : fresh inc 0 args (inputs 4) 2
     ≡ Some (record { memory = record { inputs = cell (Num (pos 4)) ∷ cell (Num (pos 5)) ∷ []; made = [] }; steps = 2; blocks = 0 })
-unfolding fresh run next settled chosen bound woven set unset expr_value values hidden-the_row-CodeExpr-0 shape-the_row-CodeExpr-0 denote.Hole.Carrier.hidden
+unfolding fresh run next stack_after_quiet chosen bound woven set unset expr_value values hidden-the_row-CodeExpr-0 shape-the_row-CodeExpr-0 denote.Hole.Carrier.hidden
 inc-fresh = refl
 
 inc-short : fresh inc 0 args (inputs 4) 1 ≡ None
-unfolding fresh run next settled chosen bound woven set unset expr_value values hidden-the_row-CodeExpr-0 shape-the_row-CodeExpr-0 denote.Hole.Carrier.hidden
+unfolding fresh run next stack_after_quiet chosen bound woven set unset expr_value values hidden-the_row-CodeExpr-0 shape-the_row-CodeExpr-0 denote.Hole.Carrier.hidden
 inc-short = refl
 
 -- what a run on 4 leaves
@@ -45,7 +45,7 @@ abbrev items : Trace
 items = Stepped (WasRead (place 0) (Num (pos 4)) (record { 0 = 1 }) 2 (At (place 1) ∷ []) (Stepped (Wrote (place 1) (Num (pos 5)) Nothing)) Nothing)
 
 inc-yields : Yields inc (plain_of inc (inputs 4) items) (started inc 0 args) items
-unfolding next settled chosen bound woven set unset expr_value values hidden-the_row-CodeExpr-0 shape-the_row-CodeExpr-0 denote.Hole.Carrier.hidden
+unfolding next stack_after_quiet chosen bound woven set unset expr_value values hidden-the_row-CodeExpr-0 shape-the_row-CodeExpr-0 denote.Hole.Carrier.hidden
 inc-yields = Yields.reads refl (Yields.writes refl (Yields.over refl)) (Yields.over refl)
 
 inc-honest : Honest inc (bases inc (inputs 4)) items (stored (bases inc (inputs 4)) (place 1) (Num (pos 5)))

@@ -5,7 +5,7 @@ use Rattle.ceal_base.specs.declared.word.Word.{Word}
 use Rattle.ceal_base.specs.declared.word.Word.TheVariants.{Num, Null, Block as BlockWord, At}
 use Rattle.ceal_code.specs.Over.{on, act_on}
 use Rattle.ceal_code.specs.Program.{Code}
-use Rattle.ceal_code.specs.Step.{Stack, Empty, Run, Act, command_at, place_of, writes_at, reads_at, act, landed, settled_at, settled, acted, next}
+use Rattle.ceal_code.specs.Step.{Stack, Empty, Run, Act, command_at, place_of, writes_at, reads_at, act, landed, stack_after_quiet_at, stack_after_quiet, acted, next}
 use Rattle.ceal_code.specs.Value.{Plain, Variables, expr_value, values}
 use Rattle.ceal_code.specs.declared.command.Cmd.{Cmd}
 use Rattle.ceal_code.specs.declared.command.Cmd.TheVariants.{Move, Tick, Alloc, Modref, Write, If, Done, Tail, Read, Call}
@@ -60,7 +60,7 @@ module _ (code : Code) (x : Plain) (below : Stack) (later : Act) where
     landed-on u env (Call f args w others) e = run-on u 0 env st (Call f args w others) e tt
 
     at-on : (u i : ℕ) (env : Variables) (c : Cmd) → command_at code u i ≡ c
-        → acted code x (settled_at code x c u i env (on st below) over-rest) ≡ act_on (acted code x (settled_at code x c u i env st rest)) below later
+        → acted code x (stack_after_quiet_at code x c u i env (on st below) over-rest) ≡ act_on (acted code x (stack_after_quiet_at code x c u i env st rest)) below later
     at-on u i env Done e = h
     at-on u i env (Tail w args) e = landed-on w.0 _ (command_at code w.0 0) refl
     at-on u i env (Move v a) e = run-on u i env st (Move v a) e tt
@@ -73,12 +73,12 @@ module _ (code : Code) (x : Plain) (below : Stack) (later : Act) where
     at-on u i env (Call f args w others) e = run-on u i env st (Call f args w others) e tt
 
 module _ (code : Code) (x : Plain) (below : Stack) where
-  settled-on : (st : Stack) → acted code x (settled code x (on st below)) ≡ act_on (acted code x (settled code x st)) below (acted code x (settled code x below))
-  unfolding settled
-  settled-on Empty = refl
-  settled-on (Run u i env st) =
-      at-on code x below (acted code x (settled code x below)) st (settled code x (on st below)) (settled code x st) (settled-on st) u i env (command_at code u i) refl
+  stack_after_quiet-on : (st : Stack) → acted code x (stack_after_quiet code x (on st below)) ≡ act_on (acted code x (stack_after_quiet code x st)) below (acted code x (stack_after_quiet code x below))
+  unfolding stack_after_quiet
+  stack_after_quiet-on Empty = refl
+  stack_after_quiet-on (Run u i env st) =
+      at-on code x below (acted code x (stack_after_quiet code x below)) st (stack_after_quiet code x (on st below)) (stack_after_quiet code x st) (stack_after_quiet-on st) u i env (command_at code u i) refl
 
   pub next-on : (st : Stack) → next code x (on st below) ≡ act_on (next code x st) below (next code x below)
   unfolding next
-  next-on st = settled-on st
+  next-on st = stack_after_quiet-on st

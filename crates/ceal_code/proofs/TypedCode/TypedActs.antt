@@ -19,7 +19,7 @@ use Rattle.ceal_code.proofs.TypedCode.TypedBlocks.{rows-valid, function-valid}
 use Rattle.ceal_code.proofs.TypedCode.TypedStack.{ParamsTyped, StackTyped, Takes, Gives, enter}
 use Rattle.ceal_code.specs.Program.{Unit as CodeUnit, Code}
 use Rattle.ceal_code.specs.Running.{Modifiable, ExprThere, ExprsThere, UnitThere}
-use Rattle.ceal_code.specs.Step.{Stack, unit_at, entry_of, kinds_of, entered, first_word, later_words, woven, given}
+use Rattle.ceal_code.specs.Step.{Stack, unit_at, entry_of, kinds_of, entered, first_word, later_words, woven, words_after_read}
 use Rattle.ceal_code.specs.Valid.{Typing, fits, fits_maybe, type_of, all_fit, params_fit, others, unit_fits, read_fits, entry_fits, call_fits, place_fits, write_fits, path_ok, paths_ok, is_core, is_prefix, kinds_ok, below as all_below, entry_ok, function_ok, valid}
 use Rattle.ceal_code.specs.Value.{Variables, expr_value, values}
 use Rattle.ceal_code.specs.declared.command.Cmd.{Cmd}
@@ -214,7 +214,7 @@ module _ (code : Code) (ok : valid code ≡ true) (m : Blocks) (typed : MemoryTy
       pub unit : UnitThere code f w (others v (unit_at code w).params) args
       pub args' : ExprsThere code.structs m (kinds_of code f) env args
       pub enters : (word : Word) → ((kind : Kind) → slice_get (kinds_of code f) v ≡ Some kind → fits_kind code.structs m kind word ≡ true) → (st : Stack) → StackTyped code m st
-          → StackTyped code m (entered code w (given code w v (values code.structs (block_at m) env args) word) st)
+          → StackTyped code m (entered code w (words_after_read code w v (values code.structs (block_at m) env args) word) st)
 
     pub reader-entered : (w v : ℕ) (args : List CodeExpr) (o : Option CodeUnit) → slice_get code.units w ≡ o → read_fits code f known v o args ≡ true → Reader w v args
     reader-entered w v args None e h = absurd (grind (arith, h))

@@ -20,7 +20,7 @@ use Rattle.ceal_code.proofs.TypedCode.TypedBlocks.{rows-valid, all-values, initi
 use Rattle.ceal_code.proofs.TypedCode.TypedStack.{no-tail, pointer_kind, set-typed, FrameTyped, StackTyped, AtCommand, at-command, stack-kept, ActTyped}
 use Rattle.ceal_code.specs.Program.{Unit as CodeUnit, Code}
 use Rattle.ceal_code.specs.Running.{CommandThere, StackThere}
-use Rattle.ceal_code.specs.Step.{Stack, Empty, Run, unit_at, command_at, kinds_of, variable_default, entered, given, place_of, writes_at, reads_at, act}
+use Rattle.ceal_code.specs.Step.{Stack, Empty, Run, unit_at, command_at, kinds_of, variable_default, entered, words_after_read, place_of, writes_at, reads_at, act}
 use Rattle.ceal_code.specs.Valid.{Typing, fits, fits_maybe, type_of, all_fit, unit_fits, read_fits, call_fits, alloc_fits, place_fits, paths_ok, valid}
 use Rattle.ceal_code.specs.Value.{Variables, set, expr_value, values}
 use Rattle.ceal_code.specs.declared.command.Cmd.{Cmd}
@@ -130,7 +130,7 @@ module _ (code : Code) (ok : valid code ≡ true) (m : Blocks) (typed : MemoryTy
     read-typed v p w args at z h = go z h (reader-at v p w args at)
       where
         missed : Reader code ok m typed at.unit.function at.known env at.envs w.0 v.0 args
-            → StackTyped code m (entered code w.0 (given code w.0 v.0 (values code.structs (block_at m) env args) (variable_default code w.0 v.0)) below)
+            → StackTyped code m (entered code w.0 (words_after_read code w.0 v.0 (values code.structs (block_at m) env args) (variable_default code w.0 v.0)) below)
         missed r = r.enters (variable_default code w.0 v.0) (λ kind e. rw (r.unit.function, e) (default-fits code.structs m kind)) below under
 
         go : (z : Word) → HasType code.structs m (type_of code.structs (kinds_of code at.unit.function) at.known p) z
@@ -141,7 +141,7 @@ module _ (code : Code) (ok : valid code ≡ true) (m : Blocks) (typed : MemoryTy
         go (Num n) h k = missed k.1
         go (BlockWord b) h k = missed k.1
         go (At q) h k =
-            gives-typed code m (λ word. StackTyped code m (entered code w.0 (given code w.0 v.0 (values code.structs (block_at m) env args) word) below)) q (slice_get (kinds_of code at.unit.function) v.0)
+            gives-typed code m (λ word. StackTyped code m (entered code w.0 (words_after_read code w.0 v.0 (values code.structs (block_at m) env args) word) below)) q (slice_get (kinds_of code at.unit.function) v.0)
             (type_of code.structs (kinds_of code at.unit.function) at.known p) k.0 h (λ word fit. k.1.enters word fit below under)
 
     callee-at : (g : ℕ) (args : List CodeExpr) (w : UnitId) (rest : List CodeExpr) (at : AtCommand code m u i env (Call g args w rest))

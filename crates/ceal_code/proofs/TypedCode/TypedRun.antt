@@ -37,7 +37,7 @@ use Rattle.ceal_code.specs.Init.{made, pointer}
 use Rattle.ceal_code.specs.Program.{Unit as CodeUnit, Code}
 use Rattle.ceal_code.specs.Replay.{shape_of}
 use Rattle.ceal_code.specs.Running.{Steps, Reaches, GoesOn, NotStuck}
-use Rattle.ceal_code.specs.Step.{Stack, Empty, Run, Act, Over, Quiet, Makes, Writes, Reads, unit_at, command_at, entry_of, kinds_of, variable_default, entered, chosen, started, given, place_of, writes_at, reads_at, act, landed, settled_at, settled, acted, next}
+use Rattle.ceal_code.specs.Step.{Stack, Empty, Run, Act, Over, Quiet, Makes, Writes, Reads, unit_at, command_at, entry_of, kinds_of, variable_default, entered, chosen, started, words_after_read, place_of, writes_at, reads_at, act, landed, stack_after_quiet_at, stack_after_quiet, acted, next}
 use Rattle.ceal_code.specs.Valid.{is_prefix, kinds_ok, below as all_below, entry_ok, valid}
 use Rattle.ceal_code.specs.Value.{Plain, Variables, set, expr_value, values}
 use Rattle.ceal_code.specs.declared.command.Cmd.{Cmd}
@@ -64,7 +64,7 @@ module _ (code : Code) (x : Plain) where
   landed-ready w ws below rest r (Read v p z args) e = subst StepCommand (sym e) tt
   landed-ready w ws below rest r (Call g args z more) e = subst StepCommand (sym e) tt
 
-  settled_at-ready : (u i : ℕ) (env : Variables) (below rest : Stack) → Ready code rest → (c : Cmd) → command_at code u i ≡ c → Ready code (settled_at code x c u i env below rest)
+  settled_at-ready : (u i : ℕ) (env : Variables) (below rest : Stack) → Ready code rest → (c : Cmd) → command_at code u i ≡ c → Ready code (stack_after_quiet_at code x c u i env below rest)
   settled_at-ready u i env below rest r Done e = r
   settled_at-ready u i env below rest r (Tail w args) e = landed-ready w.0 (values code.structs x env args) below rest r (command_at code w.0 0) refl
   settled_at-ready u i env below rest r (Move v a) e = subst StepCommand (sym e) tt
@@ -76,12 +76,12 @@ module _ (code : Code) (x : Plain) where
   settled_at-ready u i env below rest r (Read v p z args) e = subst StepCommand (sym e) tt
   settled_at-ready u i env below rest r (Call g args z more) e = subst StepCommand (sym e) tt
 
-  settled-ready : (st : Stack) → Ready code (settled code x st)
-  unfolding settled
-  settled-ready Empty = tt
-  settled-ready (Run u i env below) = settled_at-ready u i env below (settled code x below) (settled-ready below) (command_at code u i) refl
+  stack_after_quiet-ready : (st : Stack) → Ready code (stack_after_quiet code x st)
+  unfolding stack_after_quiet
+  stack_after_quiet-ready Empty = tt
+  stack_after_quiet-ready (Run u i env below) = settled_at-ready u i env below (stack_after_quiet code x below) (stack_after_quiet-ready below) (command_at code u i) refl
 
-  next-acted : (st s : Stack) → settled code x st ≡ s → next code x st ≡ acted code x s
+  next-acted : (st s : Stack) → stack_after_quiet code x st ≡ s → next code x st ≡ acted code x s
   unfolding next
   next-acted st s e = ap (acted code x) e
 
@@ -121,7 +121,7 @@ step-there code m st (Makes key v u i env below) e s =
     (with_block m (made code (block_at m) key), Run u i (set env v (pointer key (Core (length m.made)))) below, Steps.makes e)
 step-there code m st (Writes p value after) e s = (written_at m p.block p.field value, after, Steps.writes e)
 step-there code m st (Reads p u v args below) e s =
-    (m, entered code u.0 (given code u.0 v args (content_of m (At p) (variable_default code u.0 v))) below, Steps.reads e)
+    (m, entered code u.0 (words_after_read code u.0 v args (content_of m (At p) (variable_default code u.0 v))) below, Steps.reads e)
 
 -- all blocks of a list fit, where each does
 all-of : (test : Block → Bool) (blocks : List Block) → ((i : ℕ) (block : Block) → slice_get blocks i ≡ Some block → test block ≡ true) → list_all test blocks ≡ true
@@ -218,7 +218,7 @@ module _ (code : Code) (ok : valid code ≡ true) where
     landed-typed (Call g args z more) arrived rest h k = h
 
     settled_at-typed : (u i : ℕ) (env : Variables) (below rest : Stack) → FrameTyped code m u i env → StackTyped code m below → StackTyped code m rest → (c : Cmd) → command_at code u i ≡ c
-        → StackTyped code m (settled_at code (block_at m) c u i env below rest)
+        → StackTyped code m (stack_after_quiet_at code (block_at m) c u i env below rest)
     settled_at-typed u i env below rest f h k Done e = k
     settled_at-typed u i env below rest f h k (Tail w args) e =
         landed-typed (command_at code w.0 0) (entered code w.0 (values code.structs (block_at m) env args) below) rest
@@ -232,10 +232,10 @@ module _ (code : Code) (ok : valid code ≡ true) where
     settled_at-typed u i env below rest f h k (Read v p z args) e = (f, h)
     settled_at-typed u i env below rest f h k (Call g args z more) e = (f, h)
 
-    settled-typed : (st : Stack) → StackTyped code m st → StackTyped code m (settled code (block_at m) st)
-    unfolding settled
-    settled-typed Empty h = tt
-    settled-typed (Run u i env below) h = settled_at-typed u i env below (settled code (block_at m) below) h.0 h.1 (settled-typed below h.1) (command_at code u i) refl
+    stack_after_quiet-typed : (st : Stack) → StackTyped code m st → StackTyped code m (stack_after_quiet code (block_at m) st)
+    unfolding stack_after_quiet
+    stack_after_quiet-typed Empty h = tt
+    stack_after_quiet-typed (Run u i env below) h = settled_at-typed u i env below (stack_after_quiet code (block_at m) below) h.0 h.1 (stack_after_quiet-typed below h.1) (command_at code u i) refl
 
     acted-typed : (s : Stack) → StackTyped code m s → Ready code s → ActTyped code m (acted code (block_at m) s)
     acted-typed Empty h r = tt
@@ -243,9 +243,9 @@ module _ (code : Code) (ok : valid code ≡ true) where
 
     next-typed : (st : Stack) → StackTyped code m st → ActTyped code m (next code (block_at m) st)
     unfolding next
-    next-typed st h = acted-typed (settled code (block_at m) st) (settled-typed st h) (settled-ready code (block_at m) st)
+    next-typed st h = acted-typed (stack_after_quiet code (block_at m) st) (stack_after_quiet-typed st h) (stack_after_quiet-ready code (block_at m) st)
 
-    goes : (st s : Stack) → settled code (block_at m) st ≡ s → StackTyped code m s → Ready code s → GoesOn code m st s
+    goes : (st s : Stack) → stack_after_quiet code (block_at m) st ≡ s → StackTyped code m s → Ready code s → GoesOn code m st s
     goes st Empty e h r = tt
     goes st (Run u i env below) e h r =
         step-there code m st (act code (block_at m) (command_at code u i) u i env below) (next-acted code (block_at m) st (Run u i env below) e) (act-step code (block_at m) u i env below (command_at code u i) r)
@@ -255,8 +255,8 @@ module _ (code : Code) (ok : valid code ≡ true) where
     not-stuck st h = record {
       memory = typed-fits code.structs m typed;
       stack = stack-there code ok m typed st h;
-      settles = stack-there code ok m typed (settled code (block_at m) st) (settled-typed st h);
-      goes_on = goes st (settled code (block_at m) st) refl (settled-typed st h) (settled-ready code (block_at m) st);
+      settles = stack-there code ok m typed (stack_after_quiet code (block_at m) st) (stack_after_quiet-typed st h);
+      goes_on = goes st (stack_after_quiet code (block_at m) st) refl (stack_after_quiet-typed st h) (stack_after_quiet-ready code (block_at m) st);
     }
 
   -- a typed state
@@ -288,7 +288,7 @@ module _ (code : Code) (ok : valid code ≡ true) where
   step-typed m st m' st' h (Steps.writes {after = after} {p = p} {value = value} e) = after-writes m p value after h.0 (subst (ActTyped code m) e (next-typed m h.0 st h.1))
   step-typed m st m' st' h (Steps.reads {below = below} {p = p} {u = u} {v = v} {args = args} e) = (
     h.0,
-    content-taken code m h.0 p (variable_default code u.0 v) (λ w. StackTyped code m (entered code u.0 (given code u.0 v args w) below)) (subst (ActTyped code m) e (next-typed m h.0 st h.1)),
+    content-taken code m h.0 p (variable_default code u.0 v) (λ w. StackTyped code m (entered code u.0 (words_after_read code u.0 v args w) below)) (subst (ActTyped code m) e (next-typed m h.0 st h.1)),
   )
 
   reaches-typed : (m : Blocks) (st : Stack) (m' : Blocks) (st' : Stack) → StateTyped m st → Reaches code m st m' st' → StateTyped m' st'

@@ -18,7 +18,7 @@ use Rattle.ceal_code.proofs.TypedCode.TypedBlocks.{KeyTyped, unit-valid}
 use Rattle.ceal_code.specs.Program.{Unit as CodeUnit, Code}
 use Rattle.ceal_code.specs.Replay.{shape_of}
 use Rattle.ceal_code.specs.Running.{NoTail}
-use Rattle.ceal_code.specs.Step.{Stack, Empty, Run, Act, Over, Quiet, Makes, Writes, Reads, unit_at, command_at, kinds_of, bound, entered, given}
+use Rattle.ceal_code.specs.Step.{Stack, Empty, Run, Act, Over, Quiet, Makes, Writes, Reads, unit_at, command_at, kinds_of, bound, entered, words_after_read}
 use Rattle.ceal_code.specs.Valid.{command_ok, onward, path_ok, paths_ok, all_forward, is_tree, with_params, is_core, below as all_below, body_ok, unit_ok, valid}
 use Rattle.ceal_code.specs.Value.{Variables, set, is_cell}
 use Rattle.ceal_code.specs.declared.command.Cmd.{Cmd}
@@ -185,7 +185,7 @@ module _ (code : Code) (m : Blocks) where
   ActTyped (Makes key v u i env st) =
       KeyTyped code m key × ((m' : Blocks) (w : Word) → ShapesKept m m' → fits_kind code.structs m' (pointer_kind (shape_of code key)) w ≡ true → StackTyped code m' (Run u i (set env v w) st))
   ActTyped (Writes p value after) = Takes p value × StackTyped code m after
-  ActTyped (Reads p u v args st) = Gives p (λ w. StackTyped code m (entered code u.0 (given code u.0 v args w) st))
+  ActTyped (Reads p u v args st) = Gives p (λ w. StackTyped code m (entered code u.0 (words_after_read code u.0 v args w) st))
 
 abbrev begun : Code → CodeUnit → List Bool
 begun code unit = with_params (replicate (length (kinds_of code unit.function)) false) unit.params

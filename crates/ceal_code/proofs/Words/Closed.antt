@@ -26,7 +26,7 @@ use Rattle.ceal_base.specs.declared.word.Word.TheVariants.{Num, Null, Block as B
 use Rattle.ceal_code.proofs.Words.PickedRows.{IfPick, PicksRow, Picks, PicksOperand, PicksAll, PicksCommand, PicksCode}
 use Rattle.ceal_code.proofs.Words.SameIsEqual.{some-same, none-some}
 use Rattle.ceal_code.specs.Program.{Code}
-use Rattle.ceal_code.specs.Step.{Stack, Empty, Run, Act, Over, Quiet, Makes, Writes, Reads, unit_at, command_at, entry_of, variable_default, bound, entered, chosen, first_word, later_words, woven, given, key_of, place_of, writes_at, reads_at, act, landed, settled_at, settled, acted, next, kinds_of}
+use Rattle.ceal_code.specs.Step.{Stack, Empty, Run, Act, Over, Quiet, Makes, Writes, Reads, unit_at, command_at, entry_of, variable_default, bound, entered, chosen, first_word, later_words, woven, words_after_read, key_of, place_of, writes_at, reads_at, act, landed, stack_after_quiet_at, stack_after_quiet, acted, next, kinds_of}
 use Rattle.ceal_code.specs.Value.{Plain, Variables, unset, set, field_kind, field_default, plain_word, field_in, field_value, address_value, expr_value, operand_value, values}
 use Rattle.ceal_code.specs.declared.command.Cmd.{Cmd}
 use Rattle.ceal_code.specs.declared.command.Cmd.TheVariants.{Move, Tick, Alloc, Modref, Write, If, Done, Tail, Read, Call}
@@ -140,8 +140,8 @@ module _ (W : Word → Type 0) (num : (n : ℤ) → W (Num n)) (null : W Null) w
   entered-of code u ws below h k = (bound-of (unit_at code u).params ws h, k)
 
   -- a unit that continues after a read
-  pub given-of : (code : Code) (u v : ℕ) (args : List Word) (w : Word) (below : Stack) → Each W args → W w → OfStack W below → OfStack W (entered code u (given code u v args w) below)
-  given-of code u v args w below h k l = entered-of code u (given code u v args w) below (woven-of (unit_at code u).params v w args k h) l
+  pub words_after_read-of : (code : Code) (u v : ℕ) (args : List Word) (w : Word) (below : Stack) → Each W args → W w → OfStack W below → OfStack W (entered code u (words_after_read code u v args w) below)
+  words_after_read-of code u v args w below h k l = entered-of code u (words_after_read code u v args w) below (woven-of (unit_at code u).params v w args k h) l
 
   pub plain_word-of : (k : Option FieldKind) (ws : List Word) (field : ℕ) → Each W ws → W (plain_word k ws field)
   plain_word-of None ws field h = null
@@ -277,9 +277,9 @@ module _ (S : ℕ → CodeExpr → Type 0) (W : Word → Type 0) (code : Code) (
   at-of (At p) value after h k l = (h, k, l)
 
   null-of : (u : UnitId) (v : ℕ) (args : List Word) (below : Stack) → Each W args → OfStack W below
-      → OfStack W (entered code u.0 (given code u.0 v args (variable_default code u.0 v)) below)
+      → OfStack W (entered code u.0 (words_after_read code u.0 v args (variable_default code u.0 v)) below)
   null-of u v args below k l =
-      given-of W closed.num closed.null code u.0 v args (variable_default code u.0 v) below k
+      words_after_read-of W closed.num closed.null code u.0 v args (variable_default code u.0 v) below k
       (kind_default-of W closed.num closed.null (slice_get (kinds_of code (unit_at code u.0).function) v)) l
 
   reads-of : (w : Word) (u : UnitId) (v : ℕ) (args : List Word) (below : Stack) → W w → Each W args → OfStack W below
@@ -328,7 +328,7 @@ module _ (S : ℕ → CodeExpr → Type 0) (W : Word → Type 0) (code : Code) (
     landed-of (Read v a w args) arrived rest p q = p
     landed-of (Call f args w others) arrived rest p q = p
 
-    at_settled-of : (c : Cmd) → PicksCommand S c → (rest : Stack) → OfStack W rest → OfStack W (settled_at code x c u i env below rest)
+    at_settled-of : (c : Cmd) → PicksCommand S c → (rest : Stack) → OfStack W rest → OfStack W (stack_after_quiet_at code x c u i env below rest)
     at_settled-of Done p rest q = q
     at_settled-of (Tail w args) p rest q =
         landed-of (command_at code w.0 0) (entered code w.0 (values code.structs x env args) below) rest (into w.0 args below p k) q
@@ -341,11 +341,11 @@ module _ (S : ℕ → CodeExpr → Type 0) (W : Word → Type 0) (code : Code) (
     at_settled-of (Read v a w args) p rest q = (h, k)
     at_settled-of (Call f args w others) p rest q = (h, k)
 
-  pub settled-of : (st : Stack) → OfStack W st → OfStack W (settled code x st)
-  unfolding settled
-  settled-of Empty h = h
-  settled-of (Run u i env below) h =
-      at_settled-of u i env below h.0 h.1 (command_at code u i) (picks.commands u i) (settled code x below) (settled-of below h.1)
+  pub stack_after_quiet-of : (st : Stack) → OfStack W st → OfStack W (stack_after_quiet code x st)
+  unfolding stack_after_quiet
+  stack_after_quiet-of Empty h = h
+  stack_after_quiet-of (Run u i env below) h =
+      at_settled-of u i env below h.0 h.1 (command_at code u i) (picks.commands u i) (stack_after_quiet code x below) (stack_after_quiet-of below h.1)
 
   acted-of : (st : Stack) → OfStack W st → OfAct W (acted code x st)
   acted-of Empty h = tt
@@ -354,7 +354,7 @@ module _ (S : ℕ → CodeExpr → Type 0) (W : Word → Type 0) (code : Code) (
   -- what the next step gives has the property that the stack has
   pub next-of : (st : Stack) → OfStack W st → OfAct W (next code x st)
   unfolding next
-  next-of st h = acted-of (settled code x st) (settled-of st h)
+  next-of st h = acted-of (stack_after_quiet code x st) (stack_after_quiet-of st h)
 
   module _ (y : Plain) (equal : Equal code.structs x y W) where
     module _ (u i : ℕ) (env : Variables) (below : Stack) (h : (v : ℕ) → W (env v)) where
@@ -376,7 +376,7 @@ module _ (S : ℕ → CodeExpr → Type 0) (W : Word → Type 0) (code : Code) (
       act-equal (Read v p w args) h = ap₂ (λ z ws. reads_at code (place_of z) w v.0 ws below) (same p h.0) (sames args h.1)
       act-equal (Call f args w rest) h = ap₂ (λ vs ws. Quiet (entered code (entry_of code f) vs (entered code w.0 ws below))) (sames args h.0) (sames rest h.1)
 
-      at_settled-equal : (c : Cmd) → PicksCommand S c → (rest : Stack) → settled_at code x c u i env below rest ≡ settled_at code y c u i env below rest
+      at_settled-equal : (c : Cmd) → PicksCommand S c → (rest : Stack) → stack_after_quiet_at code x c u i env below rest ≡ stack_after_quiet_at code y c u i env below rest
       at_settled-equal Done h rest = refl
       at_settled-equal (Tail w args) h rest = ap (λ ws. landed (command_at code w.0 0) (entered code w.0 ws below) rest) (sames args h)
       at_settled-equal (Move v e) h rest = refl
@@ -388,12 +388,12 @@ module _ (S : ℕ → CodeExpr → Type 0) (W : Word → Type 0) (code : Code) (
       at_settled-equal (Read v a w args) h rest = refl
       at_settled-equal (Call f args w others) h rest = refl
 
-    settled-equal : (st : Stack) → OfStack W st → settled code x st ≡ settled code y st
-    unfolding settled
-    settled-equal Empty h = refl
-    settled-equal (Run u i env below) h =
-        at_settled-equal u i env below h.0 (command_at code u i) (picks.commands u i) (settled code x below)
-        ∙ ap (settled_at code y (command_at code u i) u i env below) (settled-equal below h.1)
+    stack_after_quiet-equal : (st : Stack) → OfStack W st → stack_after_quiet code x st ≡ stack_after_quiet code y st
+    unfolding stack_after_quiet
+    stack_after_quiet-equal Empty h = refl
+    stack_after_quiet-equal (Run u i env below) h =
+        at_settled-equal u i env below h.0 (command_at code u i) (picks.commands u i) (stack_after_quiet code x below)
+        ∙ ap (stack_after_quiet_at code y (command_at code u i) u i env below) (stack_after_quiet-equal below h.1)
 
     acted-equal : (st : Stack) → OfStack W st → acted code x st ≡ acted code y st
     acted-equal Empty h = refl
@@ -402,4 +402,4 @@ module _ (S : ℕ → CodeExpr → Type 0) (W : Word → Type 0) (code : Code) (
     -- and both plain words have the same next step
     pub next-equal : (st : Stack) → OfStack W st → next code x st ≡ next code y st
     unfolding next
-    next-equal st h = acted-equal (settled code x st) (settled-of st h) ∙ ap (acted code y) (settled-equal st h)
+    next-equal st h = acted-equal (stack_after_quiet code x st) (stack_after_quiet-of st h) ∙ ap (acted code y) (stack_after_quiet-equal st h)

@@ -11,14 +11,14 @@ use Rattle.ceal_base.specs.declared.word.BlockId.TheVariants.{Input, Core}
 use Rattle.ceal_base.specs.declared.word.Place.{Place}
 use Rattle.ceal_base.specs.declared.word.Word.{Word}
 use Rattle.ceal_base.specs.declared.word.Word.TheVariants.{Num, Null, Block as BlockWord, At}
-use Rattle.ceal_code.proofs.Words.Closed.{Each, OfStack, OfKey, OfAct, Closed, Equal, field_in-of, set-of, given-of, next-of, next-equal}
+use Rattle.ceal_code.proofs.Words.Closed.{Each, OfStack, OfKey, OfAct, Closed, Equal, field_in-of, set-of, words_after_read-of, next-of, next-equal}
 use Rattle.ceal_code.proofs.Words.ClosedInit.{made-of, made-equal}
 use Rattle.ceal_code.proofs.Words.PickedRows.{Any, any-code}
 use Rattle.ceal_code.specs.Init.{made}
 use Rattle.ceal_code.specs.Known.{Subset, Agree, Holds, KnownVariables, KnownStack, KnownAct}
 use Rattle.ceal_code.specs.Program.{Code}
 use Rattle.ceal_code.specs.Replay.{KnownBlock, KnownWord, KnownWords, KnownKey}
-use Rattle.ceal_code.specs.Step.{Stack, Empty, Run, Act, Over, Quiet, Makes, Writes, Reads, entered, given, next}
+use Rattle.ceal_code.specs.Step.{Stack, Empty, Run, Act, Over, Quiet, Makes, Writes, Reads, entered, words_after_read, next}
 use Rattle.ceal_code.specs.Value.{Plain, Variables, set, field_kind, is_cell, field_in, expr_value}
 
 module _ (inputs : ℕ) (bs cs : List ℕ) (sub : Subset bs cs) where
@@ -85,11 +85,11 @@ module _ (inputs : ℕ) (bs : List ℕ) where
   pub set-known : (env : Variables) (v : ℕ) (w : Word) → KnownVariables inputs bs env → KnownWord inputs bs w → KnownVariables inputs bs (set env v w)
   set-known = set-of (KnownWord inputs bs) (λ n. tt) tt
 
-  pub given-known : (code : Code) (u v : ℕ) (args : List Word) (w : Word) (below : Stack) → KnownWords inputs bs args → KnownWord inputs bs w → KnownStack inputs bs below
-      → KnownStack inputs bs (entered code u (given code u v args w) below)
-  given-known code u v args w below h k l =
-      stack-of (entered code u (given code u v args w) below)
-      (given-of (KnownWord inputs bs) (λ n. tt) tt code u v args w below (each-words args h) k (of-stack below l))
+  pub words_after_read-known : (code : Code) (u v : ℕ) (args : List Word) (w : Word) (below : Stack) → KnownWords inputs bs args → KnownWord inputs bs w → KnownStack inputs bs below
+      → KnownStack inputs bs (entered code u (words_after_read code u v args w) below)
+  words_after_read-known code u v args w below h k l =
+      stack-of (entered code u (words_after_read code u v args w) below)
+      (words_after_read-of (KnownWord inputs bs) (λ n. tt) tt code u v args w below (each-words args h) k (of-stack below l))
 
   address-known : (b : Bool) (c : BlockId) (field : ℕ) → KnownBlock inputs bs c → KnownWord inputs bs (if b then place_in (BlockWord c) field else Null)
   address-known false c field h = tt

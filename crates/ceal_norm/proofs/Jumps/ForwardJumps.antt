@@ -8,7 +8,7 @@ use Rattle.ceal_base.specs.declared.typed.Typed.{Typed}
 use Rattle.ceal_base.specs.declared.typed.TypedExpr.{TypedExpr}
 use Rattle.ceal_base.specs.declared.typed.TypedStmt.{TypedStmt, Declare, Assign, SetField, Write, Call, If', While', Return, Break, Continue, Row_of-TypedStmt, end_of-TypedStmt, more_of-TypedStmt}
 use Rattle.ceal_base.specs.declared.typed.TypedStmt.TheBlock.{hidden-the_row-TypedStmt-0}
-use Rattle.ceal_flow.specs.Blocks.{size, row_size, sizes, goes_on, row_goes_on, all_go_on, no_loop, in_loop, target, row_entry, entry, blocks_of, row_blocks, all_blocks}
+use Rattle.ceal_flow.specs.Blocks.{size, row_size, sizes, may_continue, row_may_continue, all_may_continue, no_loop, in_loop, target, row_entry, entry, blocks_of, row_blocks, all_blocks}
 use Rattle.ceal_flow.specs.Laws.{firsts}
 use Rattle.ceal_flow.specs.Lowering.{end_of, first_of, core_blocks, graph_of}
 use Rattle.ceal_flow.specs.Paths.{jumps, jumps_at}
@@ -16,7 +16,7 @@ use Rattle.ceal_flow.specs.Program.{Graph}
 use Rattle.ceal_flow.specs.declared.block.GraphBlock.{GraphBlock}
 use Rattle.ceal_flow.specs.declared.exits.Exits.{Exits}
 use Rattle.ceal_flow.specs.declared.block.GraphBlock.TheVariants.{Done, Test, Act, Unreached}
-use Rattle.ceal_flow.proofs.BlockSteps.{row-go_on, row-entry, row-blocks, row-sizes, blocks-length, row-length}
+use Rattle.ceal_flow.proofs.BlockSteps.{row-may_continue, row-entry, row-blocks, row-sizes, blocks-length, row-length}
 use Rattle.ceal_flow.proofs.Placing.{Placed, placed-head, placed-left, placed-right, placed-tail}
 use Rattle.ceal_flow.proofs.Reach.{parted}
 use Rattle.ceal_norm.specs.Entries.{is_entry}
@@ -248,11 +248,11 @@ module _ (g : Graph) where
   mid-entered start mid n k m (inr r) h = inr (r.0, inl r.2, r.3)
 
   mutual
-    unfolding blocks_of size goes_on
+    unfolding blocks_of size may_continue
 
     stmt-laws : (s : TypedStmt) (n after : ℕ) (exits : Exits) → Placed g.blocks n (blocks_of s n after exits) → Out n (n + size s) exits
         → After n (n + size s) after → Entered n (n + size s) (target s n exits)
-        → Laws (target s n exits) (blocks_of s n after exits) n (size s) after (goes_on s)
+        → Laws (target s n exits) (blocks_of s n after exits) n (size s) after (may_continue s)
     stmt-laws (Declare at v kind value) n after exits h l behind into = act-laws (Declare at v kind value) n after (placed-head g.blocks n _ [] h) behind
     stmt-laws (Assign at v value) n after exits h l behind into = act-laws (Assign at v value) n after (placed-head g.blocks n _ [] h) behind
     stmt-laws (SetField at left k field e) n after exits h l behind into = act-laws (SetField at left k field e) n after (placed-head g.blocks n _ [] h) behind
@@ -287,7 +287,7 @@ module _ (g : Graph) where
         (λ e. behind n (omega arith) (omega arith) (subst (λ x. Jumps n x) e to_b))
         (λ e. l.behind n (omega arith) (omega arith) (subst (λ x. Jumps n x) e to_b))
         (λ e. l.test n (omega arith) (omega arith) (subst (λ x. Jumps n x) e to_b)) in
-        if-laws test a b xs ys n k m after (row_goes_on first) (row_goes_on second) long look good_a good_b one two
+        if-laws test a b xs ys n k m after (row_may_continue first) (row_may_continue second) long look good_a good_b one two
     stmt-laws (While' at test _ body) n after exits h l behind into =
         let inside : Exits = in_loop exits n after in
         let k = row_size body in
@@ -310,14 +310,14 @@ module _ (g : Graph) where
         (λ e. back n (omega arith) (omega arith) (subst (λ x. Jumps n x) e to_a))
         (λ e. behind n (omega arith) (omega arith) (subst (λ x. Jumps n x) e to_a))
         (λ e. back n (omega arith) (omega arith) (subst (λ x. Jumps n x) e to_a)) in
-        while-laws test a xs n k after (row_goes_on body) look good_a behind one
+        while-laws test a xs n k after (row_may_continue body) look good_a behind one
     stmt-laws (Return at) n after exits h l behind into = return-laws exits.done n after
     stmt-laws (Break at) n after exits h l behind into = return-laws exits.behind n after
     stmt-laws (Continue at) n after exits h l behind into = return-laws exits.test n after
 
     row-laws : {m : _} (r : Row_of-TypedStmt m) (n after : ℕ) (exits : Exits) → Placed g.blocks n (row_blocks r n after exits) → Out n (n + row_size r) exits
         → After n (n + row_size r) after → Entered n (n + row_size r) (row_entry r n after exits)
-        → Laws (row_entry r n after exits) (row_blocks r n after exits) n (row_size r) after (row_goes_on r)
+        → Laws (row_entry r n after exits) (row_blocks r n after exits) n (row_size r) after (row_may_continue r)
     row-laws end_of-TypedStmt n after exits h l behind into = end-laws n after
     row-laws (more_of-TypedStmt s rest) n after exits h l behind into =
         let k = size s in
@@ -326,7 +326,7 @@ module _ (g : Graph) where
         let xs = blocks_of s n mid exits in
         let ys = row_blocks rest (n + k) after exits in
         let long = blocks-length s n mid exits in
-        let here = placed-left g.blocks n xs (if goes_on s then ys else replicate m Unreached) h in
+        let here = placed-left g.blocks n xs (if may_continue s then ys else replicate m Unreached) h in
         let d : n + (k + m) ≤ exits.done = l.done in
         let to_mid : After n (n + k) mid = λ b p q j. row-good rest (n + k) after exits b q (omega (arith, d))
         (λ e. behind b p (omega (arith, q)) (subst (λ x. Jumps b x) e j))
@@ -334,23 +334,23 @@ module _ (g : Graph) where
         (λ e. l.test b p (omega (arith, q)) (subst (λ x. Jumps b x) e j)) in
         let one = stmt-laws s n mid exits here (out-within n (n + (k + m)) n (n + k) exits (omega arith) (omega arith) l) to_mid
         (entered-within n (n + (k + m)) n (n + k) (target s n exits) (omega arith) (omega arith) into) in
-        cons-laws (target s n exits) mid xs ys n k m after (goes_on s) (row_goes_on rest) long one
-        (λ e. row-laws rest (n + k) after exits (behind-placed xs ys n k m (goes_on s) long e h)
+        cons-laws (target s n exits) mid xs ys n k m after (may_continue s) (row_may_continue rest) long one
+        (λ e. row-laws rest (n + k) after exits (behind-placed xs ys n k m (may_continue s) long e h)
         (out-within n (n + (k + m)) (n + k) (n + k + m) exits (omega arith) (omega arith) l)
         (after-within n (n + (k + m)) (n + k) (n + k + m) after (omega arith) (omega arith) behind)
         (mid-entered (target s n exits) mid n k m (one.left e) into))
 
   all-laws : (ss : List TypedStmt) (n after : ℕ) (exits : Exits) → Placed g.blocks n (all_blocks ss n after exits) → Out n (n + sizes ss) exits
       → After n (n + sizes ss) after → Entered n (n + sizes ss) (entry ss n after exits)
-      → Laws (entry ss n after exits) (all_blocks ss n after exits) n (sizes ss) after (all_go_on ss)
+      → Laws (entry ss n after exits) (all_blocks ss n after exits) n (sizes ss) after (all_may_continue ss)
   all-laws ss n after exits h l behind into =
       let r = hidden-the_row-TypedStmt-0 ss in
-      rw (← row-entry, ← row-blocks, ← row-go_on, ← row-sizes)
+      rw (← row-entry, ← row-blocks, ← row-may_continue, ← row-sizes)
       (row-laws r n after exits (rw row-blocks h) (rw row-sizes l) (rw row-sizes behind) (rw (row-sizes, row-entry) into))
 
   -- a core function
   module _ (body : List TypedStmt) (n : ℕ) (placed : Placed g.blocks n (core_blocks body n)) (begins : Contains (firsts g.functions) (first_of body n)) where
-    stmts-laws : Laws (first_of body n) (all_blocks body n (end_of body n) (no_loop (end_of body n))) n (sizes body) (end_of body n) (all_go_on body)
+    stmts-laws : Laws (first_of body n) (all_blocks body n (end_of body n) (no_loop (end_of body n))) n (sizes body) (end_of body n) (all_may_continue body)
     stmts-laws =
         let done = end_of body n in
         let here = placed-left g.blocks n (all_blocks body n done (no_loop done)) (Done ∷ []) placed in

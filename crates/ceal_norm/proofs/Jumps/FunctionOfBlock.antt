@@ -6,7 +6,7 @@ use Rattle.ceal_base.specs.declared.kind.Kind.{Kind}
 use Rattle.ceal_base.specs.declared.typed.TypedFunction.{TypedFunction}
 use Rattle.ceal_base.specs.declared.typed.TypedStmt.{TypedStmt, Declare, Assign, SetField, Write, Call, If', While', Return, Break, Continue, Row_of-TypedStmt, end_of-TypedStmt, more_of-TypedStmt}
 use Rattle.ceal_base.specs.declared.typed.TypedStmt.TheBlock.{hidden-the_row-TypedStmt-0}
-use Rattle.ceal_flow.specs.Blocks.{size, row_size, sizes, goes_on, no_loop, in_loop, row_entry, blocks_of, row_blocks, all_blocks}
+use Rattle.ceal_flow.specs.Blocks.{size, row_size, sizes, may_continue, no_loop, in_loop, row_entry, blocks_of, row_blocks, all_blocks}
 use Rattle.ceal_flow.specs.Laws.{firsts}
 use Rattle.ceal_flow.specs.Lowering.{function_size, end_of, core_at, core_blocks, function_in, blocks_in, blocks_at, functions_from, blocks_from}
 use Rattle.ceal_flow.specs.declared.block.GraphBlock.{GraphBlock}
@@ -65,7 +65,7 @@ mutual
   no-end-row end_of-TypedStmt n after exits = tt
   no-end-row (more_of-TypedStmt s rest) n after exits =
       no-end-append (blocks_of s n (row_entry rest (n + size s) after exits) exits) _ (no-end-stmt s n (row_entry rest (n + size s) after exits) exits)
-      (no-end-behind (goes_on s) (row_blocks rest (n + size s) after exits) (row_size rest) (no-end-row rest (n + size s) after exits))
+      (no-end-behind (may_continue s) (row_blocks rest (n + size s) after exits) (row_size rest) (no-end-row rest (n + size s) after exits))
 
 no-end-all : (ss : List TypedStmt) (n after : ℕ) (exits : Exits) → NoEnd (all_blocks ss n after exits)
 no-end-all ss n after exits = subst NoEnd (row-blocks ss n after exits) (no-end-row (hidden-the_row-TypedStmt-0 ss) n after exits)

@@ -11,7 +11,7 @@ use Rattle.ceal_base.specs.declared.typed.TypedValue.TheVariants.{Plain as Plain
 use Rattle.ceal_base.specs.declared.word.Word.{Word}
 use Rattle.ceal_base.specs.declared.word.Word.TheVariants.{Null}
 use Rattle.ceal_code.specs.Program.{Code}
-use Rattle.ceal_code.specs.Step.{Stack, Empty, Run, bound, unit_at, command_at, entry_of, entry_in, kinds_of, entered, landed, settled_at, settled as code_settled}
+use Rattle.ceal_code.specs.Step.{Stack, Empty, Run, bound, unit_at, command_at, entry_of, entry_in, kinds_of, entered, landed, stack_after_quiet_at, stack_after_quiet}
 use Rattle.ceal_code.specs.Value.{Plain, Variables, values}
 use Rattle.ceal_code.specs.declared.command.Cmd.{Cmd}
 use Rattle.ceal_code.specs.declared.command.Cmd.TheVariants.{Move, Tick, Alloc, Modref, Write as WriteCmd, If, Done as DoneCmd, Tail, Read, Call as CallCmd}
@@ -41,7 +41,7 @@ Steps DoneCmd = ⊥
 Steps (Tail w args) = ⊥
 Steps _ = Unit {0}
 
-pub steps-run : (code : Code) (x : Plain) (c : Cmd) (u i : ℕ) (env : Variables) (below rest : Stack) → Steps c → settled_at code x c u i env below rest ≡ Run u i env below
+pub steps-run : (code : Code) (x : Plain) (c : Cmd) (u i : ℕ) (env : Variables) (below rest : Stack) → Steps c → stack_after_quiet_at code x c u i env below rest ≡ Run u i env below
 steps-run code x (Move v e) u i env below rest h = refl
 steps-run code x Tick u i env below rest h = refl
 steps-run code x (Alloc v f args) u i env below rest h = refl
@@ -254,8 +254,8 @@ module _ (p : Typed) (sets : List (List ℕ)) where
       pub index : ℕ
       pub words : Variables
       pub along : Along T q unit index words
-      pub done : over q.block ≡ true → settled_at code x (command_at code u i) u i env below rest ≡ rest
-      pub runs : over q.block ≡ false → settled_at code x (command_at code u i) u i env below rest ≡ Run unit index words below
+      pub done : over q.block ≡ true → stack_after_quiet_at code x (command_at code u i) u i env below rest ≡ rest
+      pub runs : over q.block ≡ false → stack_after_quiet_at code x (command_at code u i) u i env below rest ≡ Run unit index words below
 
     head-of : (b i : ℕ) → b < length g.blocks → Head (T b i) (over b)
     head-of b i l =
@@ -271,8 +271,8 @@ module _ (p : Typed) (sets : List (List ℕ)) where
           index = i;
           words = env;
           along = a;
-          done = λ o. ap (λ c. settled_at code x c u i env below rest) (is ∙ h.done o);
-          runs = λ o. ap (λ c. settled_at code x c u i env below rest) is ∙ steps-run code x h.c u i env below rest (h.steps o);
+          done = λ o. ap (λ c. stack_after_quiet_at code x c u i env below rest) (is ∙ h.done o);
+          runs = λ o. ap (λ c. stack_after_quiet_at code x c u i env below rest) is ∙ steps-run code x h.c u i env below rest (h.steps o);
         }
 
     settles-jump : (x : Plain) (q : Point) (u i : ℕ) (env : Variables) (below rest : Stack) → Along J q u i env → (b : Bool) → is_entry g q.block ≡ b
@@ -295,8 +295,8 @@ module _ (p : Typed) (sets : List (List ℕ)) where
           index = 0;
           words = bound (unit_at code w).params words;
           along = along;
-          done = λ o. ap (λ d. settled_at code x d u i env below rest) is ∙ ap (λ d. landed d arrived rest) (first ∙ h.done o);
-          runs = λ o. ap (λ d. settled_at code x d u i env below rest) is ∙ ap (λ d. landed d arrived rest) first ∙ steps-land h.c arrived rest (h.steps o);
+          done = λ o. ap (λ d. stack_after_quiet_at code x d u i env below rest) is ∙ ap (λ d. landed d arrived rest) (first ∙ h.done o);
+          runs = λ o. ap (λ d. stack_after_quiet_at code x d u i env below rest) is ∙ ap (λ d. landed d arrived rest) first ∙ steps-land h.c arrived rest (h.steps o);
         }
 
     settles-first : (x : Plain) (q : Point) (u i : ℕ) (env : Variables) (below rest : Stack) → Either q u i env → Settles x q u i env below rest
@@ -312,20 +312,20 @@ module _ (p : Typed) (sets : List (List ℕ)) where
       pub env : Variables
       pub below : Stack
       pub points_are : settled g qs ≡ point ∷ points
-      pub stack_is : code_settled code x st ≡ Run unit index env below
+      pub stack_is : stack_after_quiet code x st ≡ Run unit index env below
       pub along : Along T point unit index env
       pub others : AllAlong points below
       pub runs : over point.block ≡ false
 
     abbrev pub Settled : Plain → List Point → Stack → Type 0
-    Settled x qs st = ((settled g qs ≡ []) × (code_settled code x st ≡ Empty)) ⊎ Running x qs st
+    Settled x qs st = ((settled g qs ≡ []) × (stack_after_quiet code x st ≡ Empty)) ⊎ Running x qs st
 
-    settle-first : (x : Plain) (q : Point) (qs : List Point) (u i : ℕ) (env : Variables) (below : Stack) → AllAlong qs below → Settles x q u i env below (code_settled code x below)
+    settle-first : (x : Plain) (q : Point) (qs : List Point) (u i : ℕ) (env : Variables) (below : Stack) → AllAlong qs below → Settles x q u i env below (stack_after_quiet code x below)
         → Settled x qs below → (b : Bool) → over q.block ≡ b → Settled x (q ∷ qs) (Run u i env below)
-    unfolding code_settled
+    unfolding stack_after_quiet
     settle-first x q qs u i env below others h later true o =
         let e : settled g (q ∷ qs) ≡ settled g qs = ap (λ b. if b then settled g qs else q ∷ qs) o in
-        let f : code_settled code x (Run u i env below) ≡ code_settled code x below = h.done o in
+        let f : stack_after_quiet code x (Run u i env below) ≡ stack_after_quiet code x below = h.done o in
         elim later [
           | inl n ↦ inl (e ∙ n.0, f ∙ n.1)
           | inr r ↦ inr (record {
@@ -357,9 +357,9 @@ module _ (p : Typed) (sets : List (List ℕ)) where
     })
 
     pub settle : (x : Plain) (qs : List Point) (st : Stack) → AllAlong qs st → Settled x qs st
-    unfolding code_settled
+    unfolding stack_after_quiet
     settle x [] Empty h = inl (refl, refl)
     settle x [] (Run u i env below) h = absurd h
     settle x (q ∷ qs) Empty h = absurd h
     settle x (q ∷ qs) (Run u i env below) h =
-        settle-first x q qs u i env below h.1 (settles-first x q u i env below (code_settled code x below) h.0) (settle x qs below h.1) (over q.block) refl
+        settle-first x q qs u i env below h.1 (settles-first x q u i env below (stack_after_quiet code x below) h.0) (settle x qs below h.1) (over q.block) refl

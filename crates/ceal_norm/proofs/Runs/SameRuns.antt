@@ -7,7 +7,7 @@ use Rattle.ceal_base.specs.declared.typed.Typed.{Typed}
 use Rattle.ceal_base.specs.declared.word.Word.{Word}
 use Rattle.ceal_code.specs.Fresh.{ran, only_over, run as code_run, fresh as code_fresh}
 use Rattle.ceal_code.specs.Program.{Code}
-use Rattle.ceal_code.specs.Step.{Stack, Empty, Over, act, acted, chosen, command_at, entry_of, started, unit_at, next as code_next, settled as code_settled}
+use Rattle.ceal_code.specs.Step.{Stack, Empty, Over, act, acted, chosen, command_at, entry_of, started, unit_at, next as code_next, stack_after_quiet}
 use Rattle.ceal_flow.specs.Fresh.{Point, entered, point_in, settled, stepped, run_settled}
 use Rattle.ceal_flow.specs.Live.{AreLiveSets}
 use Rattle.ceal_flow.specs.Lowering.{first_of, graph_of}
@@ -30,7 +30,7 @@ module _ (p : Typed) (sets : List (List ℕ)) (typed : WellTyped p) (kept : Keep
   abbrev the_code : Code
   the_code = code_of (source_of p sets)
 
-  next-over : (m : Blocks) (st : Stack) → code_settled the_code (block_at m) st ≡ Empty → code_next the_code (block_at m) st ≡ Over
+  next-over : (m : Blocks) (st : Stack) → stack_after_quiet the_code (block_at m) st ≡ Empty → code_next the_code (block_at m) st ≡ Over
   unfolding code_next
   next-over m st e = ap (acted the_code (block_at m)) e
 

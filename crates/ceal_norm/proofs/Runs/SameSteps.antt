@@ -27,7 +27,7 @@ use Rattle.ceal_base.specs.declared.word.Word.TheVariants.{Num, Null, Block as B
 use Rattle.ceal_code.specs.Fresh.{ran, only_over}
 use Rattle.ceal_code.specs.Init.{made, made_by as code_made_by, arguments}
 use Rattle.ceal_code.specs.Program.{Code}
-use Rattle.ceal_code.specs.Step.{Stack, Run, Act as CodeAct, command_at, entry_of, variable_default, entered as code_entered, given as code_given, woven, place_of, reads_at, writes_at, act}
+use Rattle.ceal_code.specs.Step.{Stack, Run, Act as CodeAct, command_at, entry_of, variable_default, entered as code_entered, words_after_read, woven, place_of, reads_at, writes_at, act}
 use Rattle.ceal_code.specs.Value.{Variables, set as set_variable, expr_value, values}
 use Rattle.ceal_code.specs.declared.command.Cmd.{Cmd}
 use Rattle.ceal_code.specs.declared.command.Cmd.TheVariants.{Move, Alloc, Modref, Write as WriteCmd, If, Read, Call as CallCmd}
@@ -90,7 +90,7 @@ content-default (Some (ModPtr s)) asked e = let same : Ptr s ≡ asked = cc in a
 
 read-ran : (code : Code) (again : Blocks → Stack → Option Finished) (k : ℕ) (m : Blocks) (w : Word) (u : UnitId) (v : ℕ) (args : List Word) (below : Stack)
     → ran code again k m (reads_at code (place_of w) u v args below)
-    ≡ again m (code_entered code u.0 (code_given code u.0 v args (content_of m w (variable_default code u.0 v))) below)
+    ≡ again m (code_entered code u.0 (words_after_read code u.0 v args (content_of m w (variable_default code u.0 v))) below)
 read-ran code again k m (Num n) u v args below = refl
 read-ran code again k m Null u v args below = refl
 read-ran code again k m (BlockWord b) u v args below = refl
@@ -302,7 +302,7 @@ module _ (p : Typed) (sets : List (List ℕ)) (typed : WellTyped p) (kept : Keep
         read-along : (w w' : Word) (held : Option Kind) → is_entry graph next ≡ true → w ≡ w' → kind_held held ≡ Some kind
             → AllAlong p sets (record { block = next; env = slice_set q.env n (content_of m w' (content_default held)) } ∷ points)
             (code_entered the_code (entry_unit p sets next)
-            (code_given the_code (entry_unit p sets next) n (values p.structs (block_at m) env (closure_args source n next)) (content_of m w (variable_default the_code (entry_unit p sets next) n))) below)
+            (words_after_read the_code (entry_unit p sets next) n (values p.structs (block_at m) env (closure_args source n next)) (content_of m w (variable_default the_code (entry_unit p sets next) n))) below)
         read-along w w' held e same h =
             let x = entry_unit p sets next in
             let spot = spot-at next after stands in
@@ -310,13 +310,13 @@ module _ (p : Typed) (sets : List (List ℕ)) (typed : WellTyped p) (kept : Keep
             let value' = content_of m w' (content_default held) in
             let value_same : value ≡ value' = ap₂ (content_of m) same (null-given held e h) in
             let args = values p.structs (block_at m) env (closure_args source n next) in
-            let words : code_given the_code x n args value ≡ map (instead n value env) (live_at next) =
+            let words : words_after_read the_code x n args value ≡ map (instead n value env) (live_at next) =
             ap (λ ps. woven ps n value args) (params-are p sets next e next-there)
             ∙ ap (woven (map variable (live_at next)) n value) (values-own p.structs (block_at m) env (without n (live_at next)))
             ∙ woven-map (live_at next) n value env in
             let wide = along.wide in
             let long = set-long q.env n value' in (
-              inl (enter-along p sets (record { block = next; env = slice_set q.env n value' }) spot (omega (arith, wide, long)) e (code_given the_code x n args value) (instead n value env) words
+              inl (enter-along p sets (record { block = next; env = slice_set q.env n value' }) spot (omega (arith, wide, long)) e (words_after_read the_code x n args value) (instead n value env) words
                   (after-set (Act st next) look next n value value' leads next-there assigned has-room value_same)),
               others,
             )
@@ -338,7 +338,7 @@ module _ (p : Typed) (sets : List (List ℕ)) (typed : WellTyped p) (kept : Keep
             let w = expr_value p.structs (block_at m) env (expr_code e) in
             let args = values p.structs (block_at m) env (closure_args source n next) in
             step-by _ (Read (variable n) (expr_code e) (unit_of source next) (closure_args source n next)) [] _ part-there is (record {
-              after = code_entered the_code (entry_unit p sets next) (code_given the_code (entry_unit p sets next) n args (content_of m w (variable_default the_code (entry_unit p sets next) n))) below;
+              after = code_entered the_code (entry_unit p sets next) (words_after_read the_code (entry_unit p sets next) n args (content_of m w (variable_default the_code (entry_unit p sets next) n))) below;
               goes_on = λ again k. read-ran the_code again k m w (unit_of source next) n args below;
               steps = λ k. read-steps the_code k m w (unit_of source next) n args below;
               along = read-along w (value_of q.env m e) e.kind entry same t.1;

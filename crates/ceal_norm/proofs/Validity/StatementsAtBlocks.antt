@@ -19,7 +19,7 @@ use Rattle.ceal_base.specs.declared.typed.TypedStmt.TheVariants.{Continue, rolls
 use Rattle.ceal_base.specs.declared.typed.TypedStmt.TheVariants.{rolls-Write, rolls-Call, rolls-If, rolls-While}
 use Rattle.ceal_base.specs.declared.typed.TypedStmt.TheVariants.{rolls-Return, rolls-Break, rolls-Continue}
 use Rattle.ceal_base.specs.declared.typed.TypedStmt.TheViews.{If, While}
-use Rattle.ceal_flow.specs.Blocks.{size, sizes, goes_on, all_go_on, in_loop, target, entry, blocks_of, all_blocks}
+use Rattle.ceal_flow.specs.Blocks.{size, sizes, may_continue, all_may_continue, in_loop, target, entry, blocks_of, all_blocks}
 use Rattle.ceal_flow.specs.Laws.{IsSimple}
 use Rattle.ceal_flow.specs.declared.block.GraphBlock.{GraphBlock}
 use Rattle.ceal_flow.specs.declared.block.GraphBlock.TheVariants.{Done, Test, Act}
@@ -96,7 +96,7 @@ module _ (fs : List TypedFunction) (c : Context) where
       ends : {seen : List ℕ} {at : ℕ} → at ≡ done → Stands seen at
       goes : {seen : List ℕ} {at : ℕ} → (ss : List TypedStmt) (n after next : ℕ) (exits : Exits) (outer loop : List ℕ) → at ≡ entry ss n after exits
           → All (CoreUsage fs true) ss → StmtsTyped c seen next ss → Placed blocks n (all_blocks ss n after exits) → start ≤ n → n + sizes ss ≤ done
-          → Within outer seen → (all_go_on ss ≡ true → Stands outer after)
+          → Within outer seen → (all_may_continue ss ≡ true → Stands outer after)
           → exits.done ≡ done → Within loop seen → Stands loop exits.behind → Stands loop exits.test → Stands seen at
 
     -- the first statement, what follows it where it continues, and what is where jumps lead out
@@ -112,7 +112,7 @@ module _ (fs : List TypedFunction) (c : Context) where
       low : start ≤ n
       high : n + size s ≤ done
       self : Stands seen at
-      next : goes_on s ≡ true → Stands (seen_after seen s) after
+      next : may_continue s ≡ true → Stands (seen_after seen s) after
       final : exits.done ≡ done
       loop : List ℕ
       enclosed : Within loop seen
@@ -202,7 +202,7 @@ module _ (fs : List TypedFunction) (c : Context) where
           let long : size s ≡ 1 + sizes first + sizes second = rw is (size-if sp test first second) in
           let low = fr.low in
           let high = fr.high in
-          let then : goes_on s ≡ true → Stands seen fr.after = λ on. subst (λ x. Stands (seen_after seen x) fr.after) is (fr.next on) in
+          let then : may_continue s ≡ true → Stands seen fr.after = λ on. subst (λ x. Stands (seen_after seen x) fr.after) is (fr.next on) in
           let one : Stands seen (entry first k fr.after fr.exits) =
           goes first k fr.after fr.nx fr.exits seen fr.loop refl (row-usage first usage.0) (row-typed seen fr.nx first typed.2)
           (placed-left blocks k (all_blocks first k fr.after fr.exits) (all_blocks second other fr.after fr.exits) parts) (omega (arith, low)) (omega (arith, high, long))
@@ -211,7 +211,7 @@ module _ (fs : List TypedFunction) (c : Context) where
           goes second other fr.after _ fr.exits seen fr.loop refl (row-usage second usage.1) (row-typed seen _ second typed.3)
           (placed-right blocks k (all_blocks first k fr.after fr.exits) (all_blocks second other fr.after fr.exits) (sizes first) (sym (all-length first k fr.after fr.exits)) parts)
           (omega (arith, low)) (omega (arith, high, long))
-          (within-same seen) (λ on. then (rw (is, on-if, on) (or-right (all_go_on first)))) fr.final fr.enclosed fr.behind fr.test in
+          (within-same seen) (λ on. then (rw (is, on-if, on) (or-right (all_may_continue first)))) fr.final fr.enclosed fr.behind fr.test in
           tests test (entry first k fr.after fr.exits) (entry second other fr.after fr.exits) seen (first-block s seen at fr _ _ (rw is refl) are) (within-same seen) typed.0 typed.1 one two
       view-of s (OpenWhile sp test body) seen at e fr vb vt =
           let is : s ≡ While sp test body = sym (roll-out-TypedStmt s) ∙ ap roll-TypedStmt e ∙ rolls-While sp test body in

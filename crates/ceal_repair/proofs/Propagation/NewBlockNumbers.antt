@@ -16,7 +16,7 @@ use Rattle.ceal_theory.specs.Laws.{Edited}
 use Rattle.ceal_theory.specs.Named.{then_from}
 use Rattle.ceal_theory.specs.Repair.{Single}
 use Rattle.ceal_theory.specs.SliceLaws.{Turns}
-use Rattle.ceal_theory.specs.Slices.{Repair, Slices, Sound, beginning}
+use Rattle.ceal_theory.specs.Slices.{Repair, Slices, RepairHolds, beginning}
 
 -- a number above all of these
 pub above : List ℕ → ℕ
@@ -73,16 +73,16 @@ continues-front chosen made names h k c e = h k c (front chosen k c e)
 
 module _ (code : Code) (inputs : List Block) (f : ℕ) (args : List Word) (o : Since) (called : IsOrigin code inputs f args o) where
   module _ (names : ℕ → ℕ) where
-    turns-hold : (r z : Repair) (n : ℕ) → Sound code names inputs f args r → Turns code names inputs n r z → Sound code names inputs f args z
+    turns-hold : (r z : Repair) (n : ℕ) → RepairHolds code names inputs f args r → Turns code names inputs n r z → RepairHolds code names inputs f args z
     turns-hold r z n h Turns.none = h
     turns-hold r z n h (Turns.turn {n = m} {r' = r'} s t) = turns-hold r' z m (slice-law code names inputs f args called.fits r h (Some 1) r' s).sound t
 
     -- the result of turns holds
-    pub turns-sound : Single names → NamesOff names o.first → (n : ℕ) (z : Repair) → Turns code names inputs n o.repair z → Sound code names inputs f args z
+    pub turns-sound : Single names → NamesOff names o.first → (n : ℕ) (z : Repair) → Turns code names inputs n o.repair z → RepairHolds code names inputs f args z
     turns-sound single apart n z t = turns-hold o.repair z n (called.sound names single apart) t
 
   -- each new block is made by a step that was spent
-  pub turns-room : (names : ℕ → ℕ) → (r z : Repair) (n : ℕ) → Sound code names inputs f args r → Turns code names inputs n r z → z.number + r.spent ≤ r.number + z.spent
+  pub turns-room : (names : ℕ → ℕ) → (r z : Repair) (n : ℕ) → RepairHolds code names inputs f args r → Turns code names inputs n r z → z.number + r.spent ≤ r.number + z.spent
   turns-room names r z n h Turns.none = omega arith
   turns-room names r z n h (Turns.turn {n = m} {r' = r'} s t) =
       let one = slice-law code names inputs f args called.fits r h (Some 1) r' s in
@@ -101,7 +101,7 @@ module _ (code : Code) (inputs : List Block) (f : ℕ) (args : List Word) (l : T
   edited-here = record { call = fits; fit = fits.blocks; extended = λ i block e. rw e refl; trace = replays; above = λ b h. none-above b (core_numbers (blocks_of l)) h }
 
   -- the repair that begins holds
-  pub begins-sound : (names : ℕ → ℕ) → Single names → NamesOff names (core_numbers (blocks_of l)) → Sound code names inputs f args (beginning code inputs l 0)
+  pub begins-sound : (names : ℕ → ℕ) → Single names → NamesOff names (core_numbers (blocks_of l)) → RepairHolds code names inputs f args (beginning code inputs l 0)
   begins-sound names single apart = begin-law code names inputs inputs f args l (above (core_numbers (blocks_of l))) 0 edited-here single (λ k h. apart k)
 
   pub is-origin : (numbers : ℕ) → IsOrigin code inputs f args (since_begun code inputs l numbers)

@@ -14,7 +14,7 @@ use Rattle.ceal_base.specs.declared.word.Word.{Word}
 use Rattle.ceal_code.specs.Program.{Code}
 use Rattle.ceal_code.specs.Piles.{Pile}
 use Rattle.ceal_code.specs.Stacks.{stack_in, aside_in}
-use Rattle.ceal_code.specs.Step.{Stack, Empty, entered, given}
+use Rattle.ceal_code.specs.Step.{Stack, Empty, entered, words_after_read}
 use Rattle.ceal_code.specs.Replay.{Store, KnownBlock}
 use Rattle.ceal_code.specs.Value.{Plain}
 use Rattle.ceal_heap.specs.Heap.{Contents, plain_of}
@@ -115,7 +115,7 @@ words-as code inputs heap known h = fun_ext (λ b. go b)
 -- the unit of a read on the value that the read records
 pub unit-as : (code : Code) (node : Option Node) (p : Place) (v : Word) (u : UnitId) (x : ℕ) (args : List Word) → node ≡ Some (Read p v u x args)
     → (q : Place) (y : Word) (w : UnitId) (z : ℕ) (words : List Word) → node ≡ Some (Read q y w z words)
-    → (st none : Stack) → none ≡ Empty → st ≡ entered code w.0 (given code w.0 z words y) none → st ≡ resumed code u x args v
+    → (st none : Stack) → none ≡ Empty → st ≡ entered code w.0 (words_after_read code w.0 z words y) none → st ≡ resumed code u x args v
 unit-as code node p v u x args held q y w z words seen st none empty is =
     let both : Some (Read q y w z words) ≡ Some (Read p v u x args) = sym seen ∙ held in
     let unit : w ≡ u = cc in

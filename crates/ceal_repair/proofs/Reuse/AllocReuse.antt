@@ -51,7 +51,7 @@ use Rattle.ceal_theory.specs.Slices.{with_inputs}
 use Rattle.ceal_theory.specs.Levels.{first, around, levels}
 use Rattle.ceal_theory.specs.Course.{frames_at, running_at, BareMode, BareFrames, BareSame}
 use Rattle.ceal_theory.specs.Known.{Sure, Knows, KnownItems, GoesKnowing}
-use Rattle.ceal_theory.specs.Turns.{Machine, Running, Went, turn, Leads}
+use Rattle.ceal_theory.specs.Turns.{Machine, Running, Went, turn, BecomesBy}
 use Rattle.ceal_theory.specs.Repair.{State, works, clears}
 use Rattle.ceal_theory.proofs.TurnMachine.ChosenNumbers.{chosen-law}
 use Rattle.ceal_theory.proofs.Store.KnownBlocks.{knowing-law}
@@ -210,7 +210,7 @@ module _ (code : Code) (inputs : List Block) (start : Start) (v : View) (front :
         written = e ∙ (ap (λ is. is ++ w) c.written ∙ append_assoc (items_before start) c.out w);
         mentions = subst (λ is. KnownItems (length inputs) [] is (known_after [] is)) (sym e) (subst (λ bs. KnownItems (length inputs) [] (items ++ w) bs) after k);
         comes = (chosen-law code).more start.machine old new (start.chosen ++ c.made) c.out w c.comes
-            (λ names. subst (λ o. Leads code names old new o) (append-nil w) (leads-then code names old mid new w [] (leads-turn code names old mid w (t names)) (bare-law code names mid new bare)))
+            (λ names. subst (λ o. BecomesBy code names old new o) (append-nil w) (leads-then code names old mid new w [] (leads-turn code names old mid w (t names)) (bare-law code names mid new bare)))
             (ap (λ (s : State). s.number) (sym bare.state) ∙ number);
         knows = subst (λ bs. Knows code (length inputs) start.old bs new) (after ∙ ap (known_after []) (sym e)) (knows-bare code (length inputs) start.old g.known mid new bare g.knows);
         same = same;

@@ -11,7 +11,7 @@ use Rattle.ceal_base.specs.declared.word.Word.{Word}
 use Rattle.ceal_code.specs.Known.{Holds}
 use Rattle.ceal_code.specs.Program.{Code}
 use Rattle.ceal_code.specs.Replay.{Store, KnownBlock}
-use Rattle.ceal_code.specs.Step.{Stack, Empty, Reads, next, entered, given}
+use Rattle.ceal_code.specs.Step.{Stack, Empty, Reads, next, entered, words_after_read}
 use Rattle.ceal_heap.specs.Heap.{Contents, Known, block_of, plain_block}
 use Rattle.ceal_order.specs.declared.stamp.Stamp.{Stamp}
 use Rattle.ceal_repair.proofs.Nodes.NodeItems.{more, up-to-last, contents-put, known-append}
@@ -124,6 +124,6 @@ module _ (code : Code) (inputs : List Block) (start : Start) (st : Stack) (v : V
           (ap (known_after []) (items-next code inputs start st v now read.0 (Read p word u x args)) ∙ known-append [] (forest_of (through now.placed.done now.placed.last)) (item.Step ∷ item.Read p word u x args ∷ [])) c
 
 -- the unit of a closure by itself, as the code makes its stack
-pub resumed-as : (code' code : Code) → code' ≡ code → (u : UnitId) (x : ℕ) (args : List Word) (word : Word) (st none : Stack) → none ≡ Empty → st ≡ entered code' u.0 (given code' u.0 x args word) none
+pub resumed-as : (code' code : Code) → code' ≡ code → (u : UnitId) (x : ℕ) (args : List Word) (word : Word) (st none : Stack) → none ≡ Empty → st ≡ entered code' u.0 (words_after_read code' u.0 x args word) none
     → st ≡ resumed code u x args word
-resumed-as code' code c u x args word st none e is = is ∙ (ap (λ s. entered code' u.0 (given code' u.0 x args word) s) e ∙ ap (λ c. entered c u.0 (given c u.0 x args word) Empty) c)
+resumed-as code' code c u x args word st none e is = is ∙ (ap (λ s. entered code' u.0 (words_after_read code' u.0 x args word) s) e ∙ ap (λ c. entered c u.0 (words_after_read c u.0 x args word) Empty) c)

@@ -28,9 +28,9 @@ use Rattle.ceal_theory.proofs.SlicedRepair.SliceLaws.{begin-law}
 use Rattle.ceal_theory.specs.Carried.{Carried}
 use Rattle.ceal_theory.specs.Computed.{Repaired, first_of}
 use Rattle.ceal_theory.specs.Laws.{RenamedRepair}
-use Rattle.ceal_theory.specs.Pasts.{Past, NoTrace, Traced, Going, SamePast, IsPastOf, first_past, done_past, left_by, next_repair, slice_of, past_behind}
+use Rattle.ceal_theory.specs.Pasts.{Past, NoTrace, Traced, Going, SamePast, IsPastOf, first_past, done_past, left_by, next_repair, slice_of, past_after}
 use Rattle.ceal_theory.specs.Repair.{own}
-use Rattle.ceal_theory.specs.Slices.{Repair, Sound, beginning, sliced, is_done}
+use Rattle.ceal_theory.specs.Slices.{Repair, RepairHolds, beginning, sliced, is_done}
 
 -- what an engine has, by its phase and its trace
 pub past-going : (e : EngineState) (l : Trace) → e.phase ≡ Partial → trace e ≡ Some l → past_of e ≡ Going (carried_by e l)
@@ -106,7 +106,7 @@ pub record IsTraceAs (p : Past) (b : Repaired) : Type 0 where
 pub record IsRepairAs (code : Code) (inputs : List Block) (f : ℕ) (args : List Word) (p : Past) (z : Repair) : Type 0 where
   pub repair : Repair
   pub is : p ≡ Going repair
-  pub sound : Sound code own inputs f args repair
+  pub sound : RepairHolds code own inputs f args repair
   pub carried : Carried code inputs 0 repair z
 
 module _ {code : Code} {inputs : List Block} {f : ℕ} {args : List Word} where
@@ -245,8 +245,8 @@ module _ (e e' : EngineState) (call : Call) (code : e'.code ≡ e.code) (fuel : 
   pub after-part : (r : Repair) → e'.phase ≡ Partial → is_done e.code e.inputs r ≡ false → CarriesFrom e' 0 r → Same (left_by e.code e.inputs first (Some r))
   after-part r ph more h =
       let c : h.call ≡ call = some-same h.call call (sym h.called ∙ called) in
-      let sound : Sound e.code own e.inputs call.function call.args r =
-      subst (λ (c : Call). Sound e.code own e.inputs c.function c.args r) c (subst (λ (i : List Block). Sound e.code own i h.call.function h.call.args r) inputs (subst (λ (d : Code). Sound d own e'.inputs h.call.function h.call.args r) code h.sound)) in
+      let sound : RepairHolds e.code own e.inputs call.function call.args r =
+      subst (λ (c : Call). RepairHolds e.code own e.inputs c.function c.args r) c (subst (λ (i : List Block). RepairHolds e.code own i h.call.function h.call.args r) inputs (subst (λ (d : Code). RepairHolds d own e'.inputs h.call.function h.call.args r) code h.sound)) in
       let carried : Carried e.code e.inputs 0 r (carried_by e' h.items) =
       subst (λ (i : List Block). Carried e.code i 0 r (carried_by e' h.items)) inputs (subst (λ (d : Code). Carried d e'.inputs 0 r (carried_by e' h.items)) code h.carried) in
       let same : SamePast e.code e.inputs call.function call.args (Going r) (Going (carried_by e' h.items)) = SamePast.going sound carried in
@@ -267,7 +267,7 @@ module _ (e e' : EngineState) (k : IsEngine e) (call : Call) (fit : Fits e.code 
     completes = present;
     began = tt;
     slice = λ p of same. ap (λ q. slice_of e.code e.inputs e.fuel reads (next_repair e.code e.inputs q)) (same-none same (past-none e k none));
-    makes = λ p of same. subst (λ q. SamePast e.code e.inputs call.function call.args (past_behind e.code e.inputs e.fuel (first_of e.code e.inputs e.fuel call.function call.args) reads q) (past_of e')) (sym (same-none same (past-none e k none)))
+    makes = λ p of same. subst (λ q. SamePast e.code e.inputs call.function call.args (past_after e.code e.inputs e.fuel (first_of e.code e.inputs e.fuel call.function call.args) reads q) (past_of e')) (sym (same-none same (past-none e k none)))
         (after-first e e' call code fuel inputs called fit (ap is_whole phase) present one);
   }
   brought-anew (Err OutOfFuel) none phase present one out dropped = record {

@@ -17,9 +17,9 @@ use Rattle.ceal_theory.proofs.SlicedRepair.SliceLaws.{begin-law, done-law, is-do
 use Rattle.ceal_theory.specs.Adjust.{Above}
 use Rattle.ceal_theory.specs.Computed.{Repaired, first_of}
 use Rattle.ceal_theory.specs.Laws.{FirstOutcome, FirstTrace}
-use Rattle.ceal_theory.specs.Pasts.{Past, NoTrace, Traced, Going, IsPastOf, first_past, number_above, done_past, left_by, next_repair, slice_of, past_behind}
+use Rattle.ceal_theory.specs.Pasts.{Past, NoTrace, Traced, Going, IsPastOf, first_past, number_above, done_past, left_by, next_repair, slice_of, past_after}
 use Rattle.ceal_theory.specs.Repair.{own}
-use Rattle.ceal_theory.specs.Slices.{Repair, beginning, sliced, is_done, Sound}
+use Rattle.ceal_theory.specs.Slices.{Repair, beginning, sliced, is_done, RepairHolds}
 
 -- no number from the first above all of them on is one of them
 none-above : (b : ℕ) (bs : List ℕ) → number_above bs ≤ b → count b bs ≡ 0
@@ -73,19 +73,19 @@ module _ (code : Code) (inputs : List Block) (f : ℕ) (args : List Word) (fits 
       go _ _ i k (FirstOutcome.some {r = r} t) = (r, k)
 
   -- the repair from which a slice continues is one of the call
-  pub next-sound : (p : Past) → IsPastOf code inputs f args p → (r : Repair) → next_repair code inputs p ≡ Some r → Sound code own inputs f args r
+  pub next-sound : (p : Past) → IsPastOf code inputs f args p → (r : Repair) → next_repair code inputs p ≡ Some r → RepairHolds code own inputs f args r
   next-sound NoTrace h r e = none-some r e
   next-sound (Traced l) h r e =
-      subst (Sound code own inputs f args) (some-same (beginning code inputs l.items (above l.items)) r e)
+      subst (RepairHolds code own inputs f args) (some-same (beginning code inputs l.items (above l.items)) r e)
       (begin-law code own inputs inputs f args l.items (above l.items) (above l.items) (edited-so code inputs f args fits l.items h (above l.items) (is-above l.items)) own-single (λ j i. is-above l.items j i))
-  next-sound (Going q) h r e = subst (Sound code own inputs f args) (some-same q r e) h
+  next-sound (Going q) h r e = subst (RepairHolds code own inputs f args) (some-same q r e) h
 
   -- what the past after a run is, by the run from scratch: none where that is out of fuel, a trace that is honest, or a
   -- repair in progress, which is only in a part
   pub data Ran (reads : Option ℕ) (o : Option Finished) : Past → Type 0 where
     out : o ≡ None → Ran reads o NoTrace
     ended : (l : Repaired) (r : Finished) → o ≡ Some r → Replays code inputs f args l.items → IsHonest code inputs l.items → steps_of l.items ≤ fuel → Ran reads o (Traced l)
-    going : (r : Repair) → Sound code own inputs f args r → is_some reads ≡ true → Ran reads o (Going r)
+    going : (r : Repair) → RepairHolds code own inputs f args r → is_some reads ≡ true → Ran reads o (Going r)
 
   module _ (reads : Option ℕ) where
     abbrev first : Option Repaired
@@ -102,7 +102,7 @@ module _ (code : Code) (inputs : List Block) (f : ℕ) (args : List Word) (fits 
         subst (λ x. Ran reads run (first_past x)) (sym h.is) (Ran.ended h.first r e h.trace.replays h.trace.honest (few-steps h.first.items h.trace.replays h.trace.honest r e))
 
     -- a repair is done
-    ran-done : (r : Repair) → Sound code own inputs f args r → IsHonest code inputs r.items → (o : Option Finished) → run ≡ o → Ran reads run (done_past first r)
+    ran-done : (r : Repair) → RepairHolds code own inputs f args r → IsHonest code inputs r.items → (o : Option Finished) → run ≡ o → Ran reads run (done_past first r)
     ran-done r sound honest None e = subst (λ x. Ran reads run (done_past x r)) (sym (no-first e)) (Ran.out e)
     ran-done r sound honest (Some q) e =
         let h = has-first q e in
@@ -110,18 +110,18 @@ module _ (code : Code) (inputs : List Block) (f : ℕ) (args : List Word) (fits 
         subst (λ x. Ran reads run (done_past x r)) (sym h.is) (Ran.ended (record { items = r.items; work = r.spent }) q e is honest (few-steps r.items is honest q e))
 
     -- without a number of reads a slice is done
-    goes-in-part : (r r' : Repair) → Sound code own inputs f args r → sliced code own inputs reads fuel r ≡ Some r' → is_done code inputs r' ≡ false → (k : Option ℕ) → reads ≡ k → is_some reads ≡ true
+    goes-in-part : (r r' : Repair) → RepairHolds code own inputs f args r → sliced code own inputs reads fuel r ≡ Some r' → is_done code inputs r' ≡ false → (k : Option ℕ) → reads ≡ k → is_some reads ≡ true
     goes-in-part r r' sound e d None i =
         let s = subst (λ k. sliced code own inputs k fuel r ≡ Some r') i e in
         let honest = whole-law code own inputs f args fits r sound r' (((slices-law code own inputs None fuel r r').0 s).0) in
         absurd (let t = (is-done-law code inputs r').1 honest in grind (arith, t, d))
     goes-in-part r r' sound e d (Some k) i = ap is_some i
 
-    by-slice : (r : Repair) → Sound code own inputs f args r → (o : Option Repair) → sliced code own inputs reads fuel r ≡ o → Ran reads run (left_by code inputs first o)
+    by-slice : (r : Repair) → RepairHolds code own inputs f args r → (o : Option Repair) → sliced code own inputs reads fuel r ≡ o → Ran reads run (left_by code inputs first o)
     by-slice r sound None e = ran-first run refl
     by-slice r sound (Some r') e = by (is_done code inputs r') refl
       where
-        sound' : Sound code own inputs f args r'
+        sound' : RepairHolds code own inputs f args r'
         sound' = (slice-law code own inputs f args fits r sound reads r' (((slices-law code own inputs reads fuel r r').0 e).0)).sound
 
         by : (b : Bool) → is_done code inputs r' ≡ b → Ran reads run (if b then done_past first r' else Going r')
@@ -132,5 +132,5 @@ module _ (code : Code) (inputs : List Block) (f : ℕ) (args : List Word) (fits 
     by-next p h None e = ran-first run refl
     by-next p h (Some r) e = by-slice r (next-sound p h r e) (sliced code own inputs reads fuel r) refl
 
-    pub ran : (p : Past) → IsPastOf code inputs f args p → Ran reads run (past_behind code inputs fuel first reads p)
+    pub ran : (p : Past) → IsPastOf code inputs f args p → Ran reads run (past_after code inputs fuel first reads p)
     ran p h = by-next p h (next_repair code inputs p) refl

@@ -28,7 +28,7 @@ use Rattle.ceal_theory.specs.Laws.{Edited, RenamedRepair}
 use Rattle.ceal_theory.specs.Pasts.{Past, NoTrace, Traced, Going, SamePast, IsPastOf, first_past, done_past, left_by}
 use Rattle.ceal_theory.specs.Repair.{own}
 use Rattle.ceal_theory.specs.SliceLaws.{SameRepair, Turns, and_more}
-use Rattle.ceal_theory.specs.Slices.{Repair, Slices, Sound, beginning, goes_on, repair_at, sliced, is_done}
+use Rattle.ceal_theory.specs.Slices.{Repair, Slices, RepairHolds, beginning, goes_on, repair_at, sliced, is_done}
 
 traced-same : (a b : Repaired) → Traced a ≡ Traced b → a ≡ b
 traced-same a b e = cc e
@@ -79,7 +79,7 @@ module _ (code : Code) (s : State) (call : Call) (now : Fits code s.inputs call.
     edited : Edited code s.settled s.inputs call.function call.args l.items (above l.items)
     edited = record { call = was; fit = now.blocks; extended = settled.extended; trace = t.was; above = is-above l.items }
 
-    next-sound : Sound code own s.inputs call.function call.args next
+    next-sound : RepairHolds code own s.inputs call.function call.args next
     next-sound = begin-law code own s.inputs s.inputs call.function call.args l.items (above l.items) (above l.items) (edited-so code s.inputs call.function call.args now l.items t.replays (above l.items) (is-above l.items)) own-single (λ j i. is-above l.items j i)
 
     -- a slice without a number of reads is the repair

@@ -21,7 +21,7 @@ use Rattle.ceal_code.specs.Fresh.{fresh}
 use Rattle.ceal_code.specs.Laws.{ProgressLaw}
 use Rattle.ceal_code.specs.Program.{Code}
 use Rattle.ceal_code.specs.Running.{Steps, Reaches, Modifiable, CommandThere, StackThere, NotStuck}
-use Rattle.ceal_code.specs.Step.{Stack, Empty, Run, Writes, command_at, place_of, writes_at, reads_at, settled, act, acted, started, next}
+use Rattle.ceal_code.specs.Step.{Stack, Empty, Run, Writes, command_at, place_of, writes_at, reads_at, stack_after_quiet, act, acted, started, next}
 use Rattle.ceal_code.specs.Valid.{valid}
 use Rattle.ceal_code.specs.Value.{Variables, is_cell, expr_value}
 use Rattle.ceal_code.specs.declared.command.Cmd.{Cmd}
@@ -127,7 +127,7 @@ module _ (code : Code) (inputs : List Block) (law : ProgressLaw) (ok : valid cod
   kept-step h (Steps.makes e) k = k
   kept-step h (Steps.reads e) k = k
   kept-step h (Steps.writes {m = m} {st = st} {after = after} {p = p} {value = value} e) k =
-      kept-written code.structs inputs m p value (stack-cell code m (settled code (block_at m) st) after p value h.settles e) k
+      kept-written code.structs inputs m p value (stack-cell code m (stack_after_quiet code (block_at m) st) after p value h.settles e) k
 
   kept-reached : {m : Blocks} {st : Stack} → Reaches code (record { inputs = inputs; made = [] }) (started code f args) m st → Kept code.structs inputs m.inputs
   kept-reached Reaches.begin = kept-same code.structs inputs

@@ -26,7 +26,7 @@ use Rattle.ceal_session.specs.Undoing.{undone, AreWithin}
 use Rattle.ceal_session.specs.Works.{steps_in_first, bound_by}
 use Rattle.ceal_theory.specs.Adjust.{Extended}
 use Rattle.ceal_theory.specs.Computed.{Repaired, first_of}
-use Rattle.ceal_theory.specs.Pasts.{Past, NoTrace, SamePast, goes, first_past, done_past, left_by, slice_of, next_repair, past_behind}
+use Rattle.ceal_theory.specs.Pasts.{Past, NoTrace, SamePast, goes, first_past, done_past, left_by, slice_of, next_repair, past_after}
 use Rattle.ceal_theory.specs.Slices.{Repair}
 
 -- the accepted call
@@ -179,7 +179,7 @@ module _ (p : Typed) (names : List (List ℕ)) (e : EngineState) (j : JournalSta
           retraces = record {
             code = b.code;
             past = λ q of same.
-                subst (λ (x : Past). SamePast e.code e.inputs call.function call.args (past_behind e.code e.inputs e.fuel first reads q) x) (sym (past-none e' k' (ap has_run b.phase)))
+                subst (λ (x : Past). SamePast e.code e.inputs call.function call.args (past_after e.code e.inputs e.fuel first reads q) x) (sym (past-none e' k' (ap has_run b.phase)))
                 (subst (λ (x : Past). SamePast e.code e.inputs call.function call.args x NoTrace)
                 (sym (none-left (Err OutOfFuel) b none (slice_of e.code e.inputs e.fuel reads (next_repair e.code e.inputs q)) (b.slice q of same))) SamePast.none);
             bound = λ q of same. no-bound (Err OutOfFuel) b none (slice_of e.code e.inputs e.fuel reads (next_repair e.code e.inputs q)) (b.slice q of same);

@@ -27,9 +27,9 @@ use Rattle.ceal_theory.proofs.SlicedRepair.SliceLaws.{is-done-law, slice-law, sl
 use Rattle.ceal_theory.specs.Carried.{Carried, CarriedSlices}
 use Rattle.ceal_theory.specs.Computed.{Repaired, first_of}
 use Rattle.ceal_theory.specs.Laws.{FirstOutcome, RenamedRepair}
-use Rattle.ceal_theory.specs.Pasts.{Past, NoTrace, Traced, Going, SamePast, IsPastOf, first_past, done_past, left_by, next_repair, slice_of, past_behind}
+use Rattle.ceal_theory.specs.Pasts.{Past, NoTrace, Traced, Going, SamePast, IsPastOf, first_past, done_past, left_by, next_repair, slice_of, past_after}
 use Rattle.ceal_theory.specs.Repair.{own}
-use Rattle.ceal_theory.specs.Slices.{Repair, Sound, beginning, sliced, is_done}
+use Rattle.ceal_theory.specs.Slices.{Repair, RepairHolds, beginning, sliced, is_done}
 
 -- a truth value that is told by the same of both is one
 same-truth : (a b : Bool) → (a ≡ true → b ≡ true) → (b ≡ true → a ≡ true) → a ≡ b
@@ -47,7 +47,7 @@ module _ (code : Code) (inputs : List Block) (f : ℕ) (args : List Word) (fits 
   -- both repairs are not there, or the second is the first one carried
   pub data NextAs : Option Repair → Option Repair → Type 0 where
     none : NextAs None None
-    some : {r q : Repair} → Sound code own inputs f args r → Sound code own inputs f args q → Carried code inputs 0 r q → NextAs (Some r) (Some q)
+    some : {r q : Repair} → RepairHolds code own inputs f args r → RepairHolds code own inputs f args q → Carried code inputs 0 r q → NextAs (Some r) (Some q)
 
   module _ (fuel : ℕ) where
     pub begin-traces : (a b : Repaired) (ps : Pairs) → OneToOne ps → TraceAlike ps a.items b.items → Replays code inputs f args a.items → Replays code inputs f args b.items
@@ -93,9 +93,9 @@ module _ (code : Code) (inputs : List Block) (f : ℕ) (args : List Word) (fits 
       -- what is done of both, and whether it is all
       pub data DoneAs : Option Repair → Option Repair → Type 0 where
         none : DoneAs None None
-        some : {x y : Repair} → Sound code own inputs f args x → Carried code inputs 0 x y → is_done code inputs x ≡ is_done code inputs y → DoneAs (Some x) (Some y)
+        some : {x y : Repair} → RepairHolds code own inputs f args x → Carried code inputs 0 x y → is_done code inputs x ≡ is_done code inputs y → DoneAs (Some x) (Some y)
 
-      done-of : (r q : Repair) → Sound code own inputs f args r → Sound code own inputs f args q → Carried code inputs 0 r q
+      done-of : (r q : Repair) → RepairHolds code own inputs f args r → RepairHolds code own inputs f args q → Carried code inputs 0 r q
           → DoneAs (sliced code own inputs reads fuel r) (sliced code own inputs reads fuel q)
       done-of r q sound sound' c = go (sliced code own inputs reads fuel r) (sliced code own inputs reads fuel q) refl (carried-slice-law code own inputs f args fits r q sound sound' 0 c reads fuel)
         where
@@ -117,7 +117,7 @@ module _ (code : Code) (inputs : List Block) (f : ℕ) (args : List Word) (fits 
           go false i = rw (i, sym e ∙ i) (SamePast.going sound c)
 
       pub past-as : (p q : Past) → NextAs (next_repair code inputs p) (next_repair code inputs q)
-          → SamePast code inputs f args (past_behind code inputs fuel first reads p) (past_behind code inputs fuel first reads q)
+          → SamePast code inputs f args (past_after code inputs fuel first reads p) (past_after code inputs fuel first reads q)
       past-as p q next = left-as (slice-as next)
 
 -- both have one bound

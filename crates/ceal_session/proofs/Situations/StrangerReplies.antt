@@ -59,9 +59,9 @@ use Rattle.ceal_theory.specs.Adjust.{Extended}
 use Rattle.ceal_theory.specs.Carried.{Carried}
 use Rattle.ceal_theory.specs.Computed.{Repaired, first_of}
 use Rattle.ceal_theory.specs.Laws.{FirstOutcome, RenamedRepair}
-use Rattle.ceal_theory.specs.Pasts.{Past, NoTrace, Traced, Going, SamePast, IsPastOf, first_past, goes, left_by, next_repair, past_behind, slice_of}
+use Rattle.ceal_theory.specs.Pasts.{Past, NoTrace, Traced, Going, SamePast, IsPastOf, first_past, goes, left_by, next_repair, past_after, slice_of}
 use Rattle.ceal_theory.specs.Repair.{own}
-use Rattle.ceal_theory.specs.Slices.{Repair, Sound, is_done}
+use Rattle.ceal_theory.specs.Slices.{Repair, RepairHolds, is_done}
 
 -- a reply that tells neither a work nor a bound
 abbrev TellsOther : Reply → Type 0
@@ -175,7 +175,7 @@ module _ (s : State) where
 pub data Beside (code : Code) (inputs : List Block) (f : ℕ) (args : List Word) : Past → Past → Type 0 where
   none : Beside code inputs f args NoTrace NoTrace
   traced : {a b : Repaired} (ps : Pairs) → OneToOne ps → TraceAlike ps a.items b.items → Beside code inputs f args (Traced a) (Traced b)
-  going : {r q : Repair} → Sound code own inputs f args r → Carried code inputs 0 r q → Beside code inputs f args (Going r) (Going q)
+  going : {r q : Repair} → RepairHolds code own inputs f args r → Carried code inputs 0 r q → Beside code inputs f args (Going r) (Going q)
 
 module _ {code : Code} {inputs : List Block} {f : ℕ} {args : List Word} where
   beside-goes : {p q : Past} → Beside code inputs f args p q → goes p ≡ goes q

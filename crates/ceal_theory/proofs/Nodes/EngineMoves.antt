@@ -23,7 +23,7 @@ use Rattle.ceal_theory.specs.Groves.{Knot, Grove, Bare, Made, Put, Got, stepped,
 use Rattle.ceal_theory.specs.Levels.{first, around, levels}
 use Rattle.ceal_theory.specs.Repair.{State, clears, puts, works, grows, resumed}
 use Rattle.ceal_theory.specs.Take.{TakenAlloc, TakenRead, take_alloc, take_read}
-use Rattle.ceal_theory.specs.Turns.{Fixing, Running, AfterMend, Machine, Went, turn, Leads}
+use Rattle.ceal_theory.specs.Turns.{Fixing, Running, AfterMend, Machine, Went, turn, BecomesBy}
 use Rattle.ceal_theory.specs.Walk.{with_store, store_after, AgreesAll}
 
 -- steps in front of items
@@ -73,24 +73,24 @@ module _ (code : Code) (names : ℕ → ℕ) where
   }
 
   abbrev Comes : Machine → List Item → Machine → Type 0
-  Comes m out m' = Leads code names m m' out
+  Comes m out m' = BecomesBy code names m m' out
 
   bare-self : (m : Machine) → BareSame m m
   bare-self m = record { state = refl; mode = mode-self code names m.mode; frames = frames-self code names m.frames }
 
   -- one move, and then steps that are dropped
-  turn-then : (m m1 m2 : Machine) (w : List Item) → turn code names m ≡ Went w m1 → BareSame m1 m2 → Leads code names m m2 w
-  turn-then m m1 m2 w e d = subst (λ o. Leads code names m m2 o) (append-nil w) (leads-then code names m m1 m2 w [] (leads-turn code names m m1 w e) (bare-law code names m1 m2 d))
+  turn-then : (m m1 m2 : Machine) (w : List Item) → turn code names m ≡ Went w m1 → BareSame m1 m2 → BecomesBy code names m m2 w
+  turn-then m m1 m2 w e d = subst (λ o. BecomesBy code names m m2 o) (append-nil w) (leads-then code names m m1 m2 w [] (leads-turn code names m m1 w e) (bare-law code names m1 m2 d))
 
-  one-turn : (m m1 : Machine) (w : List Item) → turn code names m ≡ Went w m1 → Leads code names m m1 w
+  one-turn : (m m1 : Machine) (w : List Item) → turn code names m ≡ Went w m1 → BecomesBy code names m m1 w
   one-turn m m1 w e = leads-turn code names m m1 w e
 
   -- one move, and what follows
-  and-on : (m m1 m2 : Machine) (i : Item) (is : List Item) → turn code names m ≡ Went (i ∷ []) m1 → Leads code names m1 m2 is → Leads code names m m2 (i ∷ is)
+  and-on : (m m1 m2 : Machine) (i : Item) (is : List Item) → turn code names m ≡ Went (i ∷ []) m1 → BecomesBy code names m1 m2 is → BecomesBy code names m m2 (i ∷ is)
   and-on m m1 m2 i is e l = leads-then code names m m1 m2 (i ∷ []) is (leads-turn code names m m1 (i ∷ []) e) l
 
   pub passes : {ws vs : List Wait} {is : List Item} → Nested ws is vs → (s : State) → AgreesAll code s.store is → (rest : List Item)
-      → Leads code names (fixing_at s ws (is ++ rest)) (fixing_at (with_store s (store_after code s.store is)) vs rest) is
+      → BecomesBy code names (fixing_at s ws (is ++ rest)) (fixing_at (with_store s (store_after code s.store is)) vs rest) is
   unfolding turn
   passes {ws} Nested.none s h rest = leads-stays code names (fixing_at s ws rest)
   passes {ws} {vs} (Nested.step {is = is} n) s h rest =

@@ -24,7 +24,7 @@ use Rattle.ceal_theory.specs.Levels.{first, levels}
 use Rattle.ceal_theory.specs.Repair.{resumed}
 use Rattle.ceal_theory.specs.SliceLaws.{unit_alone, FirstStale}
 use Rattle.ceal_theory.specs.Slices.{with_inputs, Uses, starting}
-use Rattle.ceal_theory.specs.Turns.{Machine, Ended, turn, Finishes, Goes, Ends, TakesTurn, Leads}
+use Rattle.ceal_theory.specs.Turns.{Machine, Ended, turn, Finishes, Goes, Ends, TakesTurn, BecomesBy}
 use Rattle.ceal_theory.specs.Walk.{AgreesAll}
 
 steps-front : (is js : List Item) → steps_in is ≤ steps_in (is ++ js)
@@ -63,10 +63,10 @@ turn-course-law code names inputs r front p value u v args inside back e h n m o
     of x =
         let same : inside ≡ x.inside = sym (inside-first inside back) ∙ (ap (λ is. first (levels is)) x.items ∙ inside-first x.inside x.back) in
         let tail : back ≡ x.back = same-tail (flat inside) back x.back (x.items ∙ ap (λ i. flat i ++ item.End ∷ x.back) (sym same)) in
-        subst (λ i. Leads code names (unit_alone code inputs r front p u v args i) m out → TurnCourse code names inputs r front p u v args i back m out) (sym same)
+        subst (λ i. BecomesBy code names (unit_alone code inputs r front p u v args i) m out → TurnCourse code names inputs r front p u v args i back m out) (sym same)
         (λ l. subst (λ b. TurnCourse code names inputs r front p u v args x.inside b m out) (sym tail) (at-stale x l)) l
       where
-        at-stale : (x : FirstStale code names inputs r front p u v args (flat inside ++ item.End ∷ back)) → Leads code names (unit_alone code inputs r front p u v args x.inside) m out
+        at-stale : (x : FirstStale code names inputs r front p u v args (flat inside ++ item.End ∷ back)) → BecomesBy code names (unit_alone code inputs r front p u v args x.inside) m out
             → TurnCourse code names inputs r front p u v args x.inside x.back m out
         at-stale x l = record {
           ended = λ e. x.slice m.state out (subst

@@ -30,7 +30,7 @@ use Rattle.ceal_theory.proofs.SlicedRepair.KnownAtStaleRead.{Ready, ready-over, 
 use Rattle.ceal_theory.proofs.SlicedRepair.OneTurn.{at-store}
 use Rattle.ceal_theory.specs.Cover.{known_after, Nodes, Nil, Node, items_of, before, Queue, none_waits, Covered, first_read, NoneQueued, waits_after, Queued, MoreOn, At}
 use Rattle.ceal_theory.specs.Walk.{store_after, AgreesAll, with_store}
-use Rattle.ceal_theory.specs.Slices.{Repair, with_inputs, starting, starting_in, default_in, goes_on, Uses, Sound}
+use Rattle.ceal_theory.specs.Slices.{Repair, with_inputs, starting, starting_in, default_in, goes_on, Uses, RepairHolds}
 
 -- the places of reads are of known blocks
 abbrev ReadKnown : ℕ → List ℕ → Item → Type 0
@@ -83,7 +83,7 @@ after-equal code s t (Read q value u v args ∷ is) p e = after-equal code s t i
 after-equal code s t (End ∷ is) p e = after-equal code s t is p e
 
 module _ {names : ℕ → ℕ} (code : Code) (inputs : List Block) (f : ℕ) (ws : List Word) (fits : Fits code inputs f ws)
-    (r : Repair) (h : Sound code names inputs f ws r) (z : Plain)
+    (r : Repair) (h : RepairHolds code names inputs f ws r) (z : Plain)
     (ext : Extends (with_inputs code inputs r.known) z) where
   -- z knows more: the start store is the same where a block is known, and no item reads where it is not
   start-same : (p : Place) → (starting code inputs r.known p ≡ starting code inputs z p) ⊎ (¬ (KnownBlock (length inputs) h.blocks p.block))
@@ -133,7 +133,7 @@ module _ {names : ℕ → ℕ} (code : Code) (inputs : List Block) (f : ℕ) (ws
 
 -- the unit of a located read was re-executed: its new items are honest from the new start, too
 module _ {names : ℕ → ℕ} (code : Code) (inputs : List Block) (f : ℕ) (ws : List Word) (fits : Fits code inputs f ws)
-    (r : Repair) (h : Sound code names inputs f ws r) {front back : List Item} {w : Store} {p : Place} {value : Word} {u : UnitId} {v : ℕ} {args : List Word} {inside : Trace}
+    (r : Repair) (h : RepairHolds code names inputs f ws r) {front back : List Item} {w : Store} {p : Place} {value : Word} {u : UnitId} {v : ℕ} {args : List Word} {inside : Trace}
     (at : At code (starting code inputs r.known) r.items front w p value u v args inside back) (t : State)
     (new left : Trace) (a : Anew code names (with_store (goes_on code inputs r) w)
     (resumed code u v args (w p)) inside t new left) where

@@ -16,7 +16,7 @@ use Rattle.ceal_theory.proofs.Renaming.RenamedTrace.{id-known, word-known, words
 use Rattle.ceal_theory.proofs.Repair.YieldsByStep.{yields-told}
 use Rattle.ceal_theory.specs.Repair.{Single}
 use Rattle.ceal_theory.specs.SliceLaws.{MadeIn, StandsFor}
-use Rattle.ceal_theory.specs.Slices.{Repair, with_inputs, Uses, Sound, AlikeRepairs}
+use Rattle.ceal_theory.specs.Slices.{Repair, with_inputs, Uses, RepairHolds, AlikeRepairs}
 
 module _ (ps : Pairs) (one : OneToOne ps) (n : ℕ) (bs cs : List ℕ) (listed : (b : ℕ) → In b bs → (c : ℕ) × Tied b c ps × In c cs) where
   uses-alike : {l m : Trace} → TraceAlike ps l m → Uses n bs l → Uses n cs m
@@ -43,10 +43,10 @@ made-core code y ps n bs x (TraceAlike.wrote q w t) p h = made-core code y ps n 
 made-core code y ps n bs x (TraceAlike.was_read q w vs i t) p h = (made-core code y ps n bs x i p.1 h.0, made-core code y ps n bs x t p.2 h.1)
 
 module _ {names : ℕ → ℕ} (code : Code) (inputs : List Block) (f : ℕ) (args : List Word)
-    (fits : Fits code inputs f args) (r : Repair) (h : Sound code names inputs f args r) (names' : ℕ → ℕ)
+    (fits : Fits code inputs f args) (r : Repair) (h : RepairHolds code names inputs f args r) (names' : ℕ → ℕ)
     (single' : Single names') (ps : Pairs) (q : Repair) (a : AlikeRepairs code names names' inputs ps r q)
     (t : StandsFor code names' inputs ps h.blocks q) where
-  pub sound-renamed : Sound code names' inputs f args q
+  pub sound-renamed : RepairHolds code names' inputs f args q
   sound-renamed =
       let x = with_inputs code inputs r.known in
       let y = with_inputs code inputs q.known in

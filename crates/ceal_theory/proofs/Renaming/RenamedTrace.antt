@@ -9,7 +9,7 @@ use Rattle.ceal_base.specs.declared.word.BlockId.{BlockId}
 use Rattle.ceal_base.specs.declared.word.BlockId.TheVariants.{Input, Core}
 use Rattle.ceal_base.specs.declared.word.Place.{Place}
 use Rattle.ceal_base.specs.declared.word.Word.{Word}
-use Rattle.ceal_code.proofs.Alike.AlikeSteps.{id-both, word-both, set-alike, given-alike, pointer-alike, next-alike}
+use Rattle.ceal_code.proofs.Alike.AlikeSteps.{id-both, word-both, set-alike, words_after_read-alike, pointer-alike, next-alike}
 use Rattle.ceal_code.proofs.Alike.AlikeStores.{cleared-tied, stored-alike}
 use Rattle.ceal_code.proofs.TypedCode.FittingWords.{args-known}
 use Rattle.ceal_code.proofs.Words.StepLocality.{words-more, made-known, made-same}
@@ -144,7 +144,7 @@ module _ (ps : Pairs) (one : OneToOne ps) where
     told-renamed (Told.reads {u = u} {v = z} r1 r2) (ActAlike.reads kp ka ks) (TraceAlike.stepped (TraceAlike.was_read kp2 kv ka2 i h)) g =
         rw (same-places kp2 kp, all-same ka2 ka)
         (Told.reads (told-renamed r1 (next-alike ps one code x y plain
-        (given-alike ps code u.0 z ka kv StackAlike.empty)) i g.0)
+        (words_after_read-alike ps code u.0 z ka kv StackAlike.empty)) i g.0)
         (told-renamed r2 (next-alike ps one code x y plain ks) h g.1))
 
   -- each known block has a pair, whose other block is known on the other side

@@ -12,7 +12,7 @@ use Rattle.ceal_base.specs.declared.word.Word.{Word}
 use Rattle.ceal_code.proofs.Alike.AlikeActs.{QuietToo, MakesToo, WritesToo, ReadsToo, over-too, quiet-too, makes-too, writes-too, reads-too}
 use Rattle.ceal_code.proofs.Alike.AlikeSteps.{id-wider, place-wider, word-wider, words-wider, key-wider}
 use Rattle.ceal_code.proofs.Alike.AlikeSteps.{variables-wider, stack-wider, block-wider, maybe-wider, trace-wider}
-use Rattle.ceal_code.proofs.Alike.AlikeSteps.{place-both, word-both, set-alike, given-alike, pointer-alike, made-alike}
+use Rattle.ceal_code.proofs.Alike.AlikeSteps.{place-both, word-both, set-alike, words_after_read-alike, pointer-alike, made-alike}
 use Rattle.ceal_code.proofs.Alike.AlikeSteps.{next-alike}
 use Rattle.ceal_code.proofs.Alike.AlikeStores.{cleared-alike, cleared-tied, stored-alike}
 use Rattle.ceal_code.proofs.Alike.BlockPairs.{within-trans, more-pair, tied-case}
@@ -111,7 +111,7 @@ module _ (ps : Pairs) (one : OneToOne ps) where
 
 pub given-too : (code : Code) (ps : Pairs) (u : UnitId) (y : ℕ) (args args' : List Word) (v w : Word)
     → WordsAlike ps args args' → WordAlike ps v w → StackAlike ps (resumed code u y args v) (resumed code u y args' w)
-given-too code ps u y args args' v w ka kw = given-alike ps code u.0 y ka kw StackAlike.empty
+given-too code ps u y args args' v w ka kw = words_after_read-alike ps code u.0 y ka kw StackAlike.empty
 
 -- what is equal on the one side is equal on the other
 pub equal-too : (ps : Pairs) → OneToOne ps → (v w v' w' : Word) → WordAlike ps v v' → WordAlike ps w w' → v ≡ w → v' ≡ w'

@@ -10,9 +10,9 @@ use Rattle.ceal_base.specs.declared.word.BlockId.{BlockId}
 use Rattle.ceal_base.specs.declared.word.BlockId.TheVariants.{Input, Core}
 use Rattle.ceal_base.specs.declared.word.Place.{Place}
 use Rattle.ceal_base.specs.declared.word.Word.{Word}
-use Rattle.ceal_code.proofs.Alike.AlikeSteps.{variables-wider, key-wider, stack-wider, set-alike, given-alike, pointer-alike, made-alike, next-alike}
+use Rattle.ceal_code.proofs.Alike.AlikeSteps.{variables-wider, key-wider, stack-wider, set-alike, words_after_read-alike, pointer-alike, made-alike, next-alike}
 use Rattle.ceal_code.proofs.Alike.AlikeStores.{cleared-alike, stored-alike, plain-with}
-use Rattle.ceal_code.proofs.Words.StepLocality.{given-known}
+use Rattle.ceal_code.proofs.Words.StepLocality.{words_after_read-known}
 use Rattle.ceal_code.proofs.Alike.BlockPairs.{one_if, lefts, rights, left-count, pairs-one, within-trans, more-pair}
 use Rattle.ceal_code.proofs.Words.SameIsEqual.{word-same, word-refl}
 use Rattle.ceal_code.specs.Alike.{Pairs, Tied, IdAlike, PlaceAlike, WordAlike, WordsAlike, KeyAlike, VariablesAlike}
@@ -359,7 +359,7 @@ module _ (code : Code) (n : ℕ) (ds : List ℕ) (y : Plain) where
 
   given-run : (ps : Pairs) (u : UnitId) (x : ℕ) (args args' : List Word) (v w : Word) → WordsAlike ps args args' → WordAlike ps v w
       → StackAlike ps (resumed code u x args v) (resumed code u x args' w)
-  given-run ps u x args args' v w ka kw = given-alike ps code u.0 x ka kw StackAlike.empty
+  given-run ps u x args args' v w ka kw = words_after_read-alike ps code u.0 x ka kw StackAlike.empty
 
   -- a taken block is a core block
   taken-uses : (key : Key) (old : Trace) (x : TakenAlloc) (b : ℕ) → x.block ≡ Core b → take_alloc key old ≡ Some x → (a : ℕ) → one_if a b + times a (blocks_of x.leftover) ≤ times a (blocks_of old)
@@ -418,7 +418,7 @@ module _ (code : Code) (n : ℕ) (ds : List ℕ) (y : Plain) where
         (given-run ps u x args args' v w ka (subst (λ z. WordAlike ps z w) same
         (read-alike ps s t (blocks_of i ++ blocks_of l)
         (blocks_of j ++ blocks_of m) o r p p' w like kp f)))) s e1 sure.3
-        (knows code n ds s.plain like.holds (resumed code u x args v) (given-known n ds code u.0 x args v Empty k.1 sure.0 tt)) h1
+        (knows code n ds s.plain like.holds (resumed code u x args v) (words_after_read-known n ds code u.0 x args v Empty k.1 sure.0 tt)) h1
         (λ b. o b + times b (blocks_of l)) (λ c. r c + times c (blocks_of m)) (like-inside ps s t (blocks_of i) (blocks_of l) (blocks_of j) (blocks_of m) o r like))
         (anew-total d1 ps (acts ps s t (blocks_of i ++ blocks_of l) (blocks_of j ++ blocks_of m) o r like
         (given-run ps u x args args' (s.store p) w ka
@@ -505,7 +505,7 @@ module _ (code : Code) (n : ℕ) (ds : List ℕ) (y : Plain) where
         (blocks_of j ++ blocks_of m) o r p p' w like kp f)))) (works s)
         (sure-read code n ds s.plain p u z args old sure x i).told (sure-read code n ds s.plain p u z args old sure x i).inside
         (knows code n ds s.plain like.holds (resumed code u z args x.value)
-        (given-known n ds code u.0 z args x.value Empty (sure-read code n ds s.plain p u z args old sure x i).words (sure-read code n ds s.plain p u z args old sure x i).value tt)) h1
+        (words_after_read-known n ds code u.0 z args x.value Empty (sure-read code n ds s.plain p u z args old sure x i).words (sure-read code n ds s.plain p u z args old sure x i).value tt)) h1
         (λ b. o b + times b (blocks_of x.leftover)) (λ c. r c + times c (blocks_of m)) (like-taken ps s t p u z args old x (blocks_of j) (blocks_of m) o r i like))
         (anew-total d1 ps (acts ps s t (blocks_of old) (blocks_of j ++ blocks_of m) o r like
         (given-run ps u z args args' (s.store p) w ka

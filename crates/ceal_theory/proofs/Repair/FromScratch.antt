@@ -21,7 +21,7 @@ use Rattle.ceal_base.specs.declared.word.BlockId.TheVariants.{Input, Core}
 use Rattle.ceal_base.specs.declared.word.Place.{Place}
 use Rattle.ceal_base.specs.declared.word.Word.{Word}
 use Rattle.ceal_base.specs.declared.word.Word.TheVariants.{Num, Block as BlockWord, At, Null}
-use Rattle.ceal_code.proofs.Words.Closed.{OfStack, OfKey, OfAct, Equal, next-of, next-equal, set-of, given-of, entered-of, chosen-of}
+use Rattle.ceal_code.proofs.Words.Closed.{OfStack, OfKey, OfAct, Equal, next-of, next-equal, set-of, words_after_read-of, entered-of, chosen-of}
 use Rattle.ceal_code.proofs.Words.ClosedInit.{made-equal}
 use Rattle.ceal_code.proofs.Replay.DeterminedRun.{over-on, one-step, no-step}
 use Rattle.ceal_code.proofs.TypedCode.FittingWords.{begun-placed, input-full, args-placed}
@@ -41,7 +41,7 @@ use Rattle.ceal_code.specs.Init.{made, pointer}
 use Rattle.ceal_code.specs.Over.{on, act_on}
 use Rattle.ceal_code.specs.Program.{Code}
 use Rattle.ceal_code.specs.Replay.{learnt, plain_block, plain_words, input_plain, content_in, input_block, bases}
-use Rattle.ceal_code.specs.Step.{Stack, Empty, Run, Act, Over, Quiet, Makes, Writes, Reads, variable_default, chosen, started, entered, unit_at, entry_of, given, next}
+use Rattle.ceal_code.specs.Step.{Stack, Empty, Run, Act, Over, Quiet, Makes, Writes, Reads, variable_default, chosen, started, entered, unit_at, entry_of, words_after_read, next}
 use Rattle.ceal_code.specs.Value.{set, field_kind, is_cell, field_in, plain_word, field_value, address_value}
 use Rattle.ceal_theory.proofs.Repair.Honesty.{anew-rises}
 use Rattle.ceal_theory.proofs.Store.EqualContents.{stored-equal, cleared-equal}
@@ -325,10 +325,10 @@ module _ (code : Code) (ok : valid code ≡ true) where
       let cell = cell-there code.structs m h.full p a.0 in
       let value : content_of m (At p) (variable_default code u.0 v) ≡ s.store p = content-read code m p (variable_default code u.0 v) cell ∙ sym (h.store p) in
       let g' : run code i.0 (steps + 1) m (on (resumed code u v args (s.store p)) (on under below)) ≡ Some r =
-      subst (λ w. run code i.0 (steps + 1) m (entered code u.0 (given code u.0 v args w) (on under below)) ≡ Some r) value i.2 in
+      subst (λ w. run code i.0 (steps + 1) m (entered code u.0 (words_after_read code u.0 v args w) (on under below)) ≡ Some r) value i.2 in
       let word : Placed code.structs m (s.store p) = rw (h.store p) (content-placed code m p h.well cell) in
       let q1 = ih i.0 (omega (arith, k, i.1)) (steps + 1) (works s) m (matches-works s m h) (resumed code u v args (s.store p)) (on under below)
-      (given-of (Placed code.structs m) (λ n. tt) tt code u.0 v args (s.store p) Empty a.1 word tt) r g' in
+      (words_after_read-of (Placed code.structs m) (λ n. tt) tt code u.0 v args (s.store p) Empty a.1 word tt) r g' in
       let q2 = ih q1.fuel (omega (
         arith,
         k,

@@ -12,7 +12,7 @@ use Rattle.ceal_base.specs.declared.word.Place.{Place}
 use Rattle.ceal_base.specs.declared.word.Word.{Word}
 use Rattle.ceal_base.specs.declared.word.Word.TheVariants.{Num}
 use Rattle.ceal_code.proofs.Words.Closed.{field_default-of}
-use Rattle.ceal_code.proofs.Words.StepLocality.{word-more, words-more, stack-more, variables-more, set-known, given-known, next-known, next-same, made-known, made-same}
+use Rattle.ceal_code.proofs.Words.StepLocality.{word-more, words-more, stack-more, variables-more, set-known, words_after_read-known, next-known, next-same, made-known, made-same}
 use Rattle.ceal_code.specs.Init.{made, pointer}
 use Rattle.ceal_code.specs.Known.{Subset, Held, Holds, KnownVariables, KnownStack, KnownAct}
 use Rattle.ceal_code.specs.Program.{Code}
@@ -202,10 +202,10 @@ module _ (names : ℕ → ℕ) (single : Single names) (code : Code) (inputs : �
           → Played y bs (resumed code u v args (s.store p)) new t
       mend-plays {s} {t} {p} {u} {v} {args} {value} {old} {new} (Mend.kept e f) ext bs g r k h =
           let kv : KnownWord inputs bs value = subst (KnownWord inputs bs) e (g.store p) in
-          let q = fix-plays f ext bs g (resumed code u v args value) r (given-known inputs bs code u.0 v args value Empty k kv tt) h in
+          let q = fix-plays f ext bs g (resumed code u v args value) r (words_after_read-known inputs bs code u.0 v args value Empty k kv tt) h in
           subst (λ w. Played y bs (resumed code u v args w) new t) (sym e) q
       mend-plays {s} {t} {p} {u} {v} {args} (Mend.stale e a) ext bs g r k h =
-          let q = anew-plays a ext bs g (given-known inputs bs code u.0 v args (s.store p) Empty k (g.store p) tt) h in
+          let q = anew-plays a ext bs g (words_after_read-known inputs bs code u.0 v args (s.store p) Empty k (g.store p) tt) h in
           record { known = q.known; mentions = q.mentions; yields = q.yields; good = q.good }
 
       pub anew-plays : {s s' : State} {st : Stack} {old new left : Trace} → Anew code names s st old s' new left
@@ -265,7 +265,7 @@ module _ (names : ℕ → ℕ) (single : Single names) (code : Code) (inputs : �
           let xt = extends-trans t.plain s'.plain y (anew-grows single n gm.free).plain ext in
           let x = extends-trans s.plain t.plain y gm.plain xt in
           let a = step-x code inputs y bs s.plain st (Reads p u v args below) g.plain x k e in
-          let q1 = anew-plays m xt bs (good-works names inputs bs s g) (given-known inputs bs code u.0 v args (s.store p) Empty a.1.1 (g.store p) tt) h in
+          let q1 = anew-plays m xt bs (good-works names inputs bs s g) (words_after_read-known inputs bs code u.0 v args (s.store p) Empty a.1.1 (g.store p) tt) h in
           let q2 = anew-plays n ext q1.known q1.good (stack-more inputs bs q1.known (mentions-subset q1.mentions) below a.1.2) q1.left in
           record {
             known = q2.known;

@@ -7,7 +7,7 @@ use Rattle.ceal_base.specs.declared.word.BlockId.{BlockId}
 use Rattle.ceal_base.specs.declared.word.BlockId.TheVariants.{Core}
 use Rattle.ceal_base.specs.declared.word.Word.{Word}
 use Rattle.ceal_code.proofs.Alike.AlikeSteps.{place-wider, word-wider, words-wider, key-wider, variables-wider}
-use Rattle.ceal_code.proofs.Alike.AlikeSteps.{stack-wider, trace-wider, steps-alike, set-alike, given-alike}
+use Rattle.ceal_code.proofs.Alike.AlikeSteps.{stack-wider, trace-wider, steps-alike, set-alike, words_after_read-alike}
 use Rattle.ceal_code.proofs.Alike.AlikeSteps.{pointer-alike, made-alike, next-alike}
 use Rattle.ceal_code.proofs.Alike.AlikeStores.{cleared-alike, stored-alike, plain-with}
 use Rattle.ceal_code.proofs.Replay.DeterminedRun.{cores-append}
@@ -93,7 +93,7 @@ module _ (code : Code) (x y : Plain) (big : Pairs) (one : OneToOne big) where
       let kv : WordAlike ps v v' = rw (e, e') at (st p p' kp) in
       let z' : Within (zipped (core_numbers (blocks_of i) ++ (core_numbers (blocks_of l) ++ bs)) (core_numbers (blocks_of j) ++ (core_numbers (blocks_of m) ++ cs))) big =
       rw (both-lists (blocks_of i) (blocks_of l) bs, both-lists (blocks_of j) (blocks_of m) cs) at z in
-      let q1 = joined r1 ps w pl (nexts ps w pl (given-alike ps code u.0 n ka kv StackAlike.empty)) r1' st h1 h1' (core_numbers (blocks_of l) ++ bs) (core_numbers (blocks_of m) ++ cs) z' in
+      let q1 = joined r1 ps w pl (nexts ps w pl (words_after_read-alike ps code u.0 n ka kv StackAlike.empty)) r1' st h1 h1' (core_numbers (blocks_of l) ++ bs) (core_numbers (blocks_of m) ++ cs) z' in
       let q2 = joined r2 q1.after q1.within q1.plain (nexts q1.after q1.within q1.plain (stack-wider ps q1.after q1.wider ks)) r2' q1.store h2 h2' bs cs q1.rest in
       let both = within-trans ps q1.after q2.after q1.wider q2.wider in
       record {

@@ -7,7 +7,7 @@ use Rattle.ceal_base.specs.declared.forest.UnitId.{UnitId}
 use Rattle.ceal_base.specs.declared.word.BlockId.TheVariants.{Input, Core}
 use Rattle.ceal_base.specs.declared.word.Place.{Place}
 use Rattle.ceal_base.specs.declared.word.Word.{Word}
-use Rattle.ceal_code.proofs.Words.StepLocality.{word-more, words-more, key-more, set-known, given-known, next-known, next-same, made-same}
+use Rattle.ceal_code.proofs.Words.StepLocality.{word-more, words-more, key-more, set-known, words_after_read-known, next-known, next-same, made-same}
 use Rattle.ceal_code.proofs.Words.SameIsEqual.{both, nat-same, some-same, none-some}
 use Rattle.ceal_code.specs.Init.{made, pointer}
 use Rattle.ceal_code.specs.Known.{Subset, Holds, KnownVariables, KnownStack, KnownAct}
@@ -53,7 +53,7 @@ module _ (code : Code) (n : ℕ) (ds : List ℕ) where
       Told.writes (at-more x y h ext after rest k.2 (told-more x y h ext r (knows x h after k.2) s))
   told-more x y h ext (Told.reads {below = below} {u = u} {v = v} {args = args} {value = value} {inside = inside} {rest = rest} r1 r2) k s =
       let st : Stack = resumed code u v args value in
-      let ks : KnownStack n ds st = given-known n ds code u.0 v args value Empty k.1 s.0 tt in
+      let ks : KnownStack n ds st = words_after_read-known n ds code u.0 v args value Empty k.1 s.0 tt in
       Told.reads (at-more x y h ext st inside ks (told-more x y h ext r1 (knows x h st ks) s.3))
       (at-more x y h ext below rest k.2 (told-more x y h ext r2 (knows x h below k.2) s.4))
 
@@ -66,7 +66,7 @@ module _ (code : Code) (n : ℕ) (ds : List ℕ) where
   sure-more x y h ext (Wrote p value rest) s = sure-more x y h ext rest s
   sure-more x y h ext (WasRead p value u v args inside rest) s =
       let st : Stack = resumed code u v args value in
-      let ks : KnownStack n ds st = given-known n ds code u.0 v args value Empty s.1 s.0 tt in
+      let ks : KnownStack n ds st = words_after_read-known n ds code u.0 v args value Empty s.1 s.0 tt in
       (s.0, s.1, at-more x y h ext st inside ks (told-more x y h ext s.2 (knows x h st ks) s.3), sure-more x y h ext inside s.3, sure-more x y h ext rest s.4)
 
   -- what a stack yields, over what a state knows later

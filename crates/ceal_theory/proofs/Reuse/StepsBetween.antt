@@ -14,7 +14,7 @@ use Rattle.ceal_theory.specs.Course.{BareMode, BareFrames, BareLaw}
 use Rattle.ceal_theory.specs.Groves.{bare, bare_alloc, bare_read}
 use Rattle.ceal_theory.specs.Repair.{State, Anew}
 use Rattle.ceal_theory.specs.Take.{TakenAlloc, TakenRead, take_alloc, take_read}
-use Rattle.ceal_theory.specs.Turns.{Mode, Fixing, Running, Frames, Bottom, AfterFix, AfterMend, AfterRun, Resumes, Finishes, Leads}
+use Rattle.ceal_theory.specs.Turns.{Mode, Fixing, Running, Frames, Bottom, AfterFix, AfterMend, AfterRun, Resumes, Finishes, BecomesBy}
 
 -- what is taken from the other leftover
 pub record AllocToo (key : Key) (m : Trace) (t : TakenAlloc) : Type 0 where
@@ -132,8 +132,8 @@ module _ (code : Code) (names : ℕ → ℕ) where
   mode-self (Running st old) = BareMode.runs refl
 
   at-state : (s t : State) (a b : Mode) (fs gs : Frames) → s ≡ t → BareMode a b → BareFrames fs gs
-      → Leads code names (record { state = s; mode = a; frames = fs }) (record { state = t; mode = b; frames = gs }) []
-  at-state s t a b fs gs e k g = subst (λ t. Leads code names (record { state = s; mode = a; frames = fs }) (record { state = t; mode = b; frames = gs }) []) e (record {
+      → BecomesBy code names (record { state = s; mode = a; frames = fs }) (record { state = t; mode = b; frames = gs }) []
+  at-state s t a b fs gs e k g = subst (λ t. BecomesBy code names (record { state = s; mode = a; frames = fs }) (record { state = t; mode = b; frames = gs }) []) e (record {
     back = λ s' rest f. finishes-bare (bare-back k) (frames-back g) f;
     ahead = λ s' items f. record { rest = items; same = refl; finishes = finishes-bare k g f };
   })

@@ -32,12 +32,12 @@ use Rattle.ceal_theory.specs.Carried.{Knows, Carried, CarriedSlices, CarriedBegi
 use Rattle.ceal_theory.specs.Laws.{Edited}
 use Rattle.ceal_theory.specs.Repair.{Single, own}
 use Rattle.ceal_theory.specs.SliceLaws.{held, IsNamed, NamedBeginning, Sliced}
-use Rattle.ceal_theory.specs.Slices.{Repair, with_inputs, sliced, Slices, Sound, beginning, AlikeRepairs, ComesBehind, RenamedSlices}
+use Rattle.ceal_theory.specs.Slices.{Repair, with_inputs, sliced, Slices, RepairHolds, beginning, AlikeRepairs, ComesBehind, RenamedSlices}
 
 some-none : {A : Type 0} {B : Type 0} (o : Option A) (x : A) → o ≡ Some x → o ≡ None → B
 some-none o x e n = none-some x (sym n ∙ e)
 
-module _ {names : ℕ → ℕ} (code : Code) (inputs : List Block) (f : ℕ) (args : List Word) (r : Repair) (h : Sound code names inputs f args r) where
+module _ {names : ℕ → ℕ} (code : Code) (inputs : List Block) (f : ℕ) (args : List Word) (r : Repair) (h : RepairHolds code names inputs f args r) where
   -- what the items allocate is known
   pub held-known : (b : ℕ) → 1 ≤ uses b r.items → Knows r.known b
   unfolding with_inputs
@@ -55,7 +55,7 @@ tied-left : (ps : Pairs) → OneToOne ps → {l m : Trace} → TraceAlike ps l m
 tied-left ps one t b e = let k = tied-right (flipped ps) (one-flip ps one) (trace-flip ps t) b e in (k.0, tied-back ps b k.0 k.1)
 
 module _ (code : Code) (names : ℕ → ℕ) (inputs : List Block) (f : ℕ) (args : List Word) (fits : Fits code inputs f args) (r q : Repair)
-    (hr : Sound code own inputs f args r) (hq : Sound code names inputs f args q) (next : ℕ) (h : Carried code inputs next r q) where
+    (hr : RepairHolds code own inputs f args r) (hq : RepairHolds code names inputs f args q) (next : ℕ) (h : Carried code inputs next r q) where
   pub alike : AlikeRepairs code own names inputs h.pairs r q
   alike = record {
     one = h.one;
@@ -209,7 +209,7 @@ pub carried-begin-law : CarriedBeginLaw
 carried-begin-law code old new f args l next number e =
     of (named-beginning-law code own (λ k. next + k) old new f args l next next 0 e (λ k i. e.above k i) (λ k i. e.above (next + k) (omega arith)))
   where
-    sound : Sound code own new f args (beginning code new l next)
+    sound : RepairHolds code own new f args (beginning code new l next)
     sound = begin-law code own old new f args l next next e own-single (λ k i. e.above k i)
 
     of : NamedBeginning code own (λ k. next + k) new l (beginning code new l next) (beginning code new l 0) → Carried code new next (beginning code new l next) (beginning code new l number)
@@ -270,7 +270,7 @@ carried-trace-law code inputs f args fits l m rl rm ps one t number other al am 
     plain b c (IdAlike.input {i = i}) = begin-self code inputs [] fits.blocks i
     plain b c (IdAlike.core t) = elim t [ ]
 
-    sound : (k : Trace) → Replays code inputs f args k → (n : ℕ) → Above n k → Sound code own inputs f args (beginning code inputs k n)
+    sound : (k : Trace) → Replays code inputs f args k → (n : ℕ) → Above n k → RepairHolds code own inputs f args (beginning code inputs k n)
     sound k r n a = begin-law code own inputs inputs f args k n n (edited-so code inputs f args fits k r n a) own-single (λ j i. a j i)
 
     of : WalkedToo (length inputs) ps one code [] (input_plain code inputs) (input_plain code inputs) l m rl.known (λ b. 1 ≤ uses b l) (λ c. 1 ≤ uses c m)

@@ -7,7 +7,7 @@ use Rattle.ceal_base.specs.declared.forest.Key.{Key}
 use Rattle.ceal_base.specs.declared.word.BlockId.TheVariants.{Core}
 use Rattle.ceal_base.specs.declared.word.Place.{Place}
 use Rattle.ceal_base.specs.declared.word.Word.{Word}
-use Rattle.ceal_code.proofs.Words.StepLocality.{stack-more, given-known}
+use Rattle.ceal_code.proofs.Words.StepLocality.{stack-more, words_after_read-known}
 use Rattle.ceal_code.specs.Fitting.{Fits}
 use Rattle.ceal_code.specs.Known.{Subset, Held, KnownStack}
 use Rattle.ceal_code.specs.Program.{Code}
@@ -26,7 +26,7 @@ use Rattle.ceal_theory.proofs.SlicedRepair.Soundness.{good, start-known, startin
 use Rattle.ceal_theory.proofs.Store.Mentions.{uses-yields, uses-pieces}
 use Rattle.ceal_theory.proofs.SlicedRepair.PartYields.{AsPart, fix-part, part-fix, part-grows, good-puts}
 use Rattle.ceal_theory.specs.SliceLaws.{FromBases}
-use Rattle.ceal_theory.specs.Slices.{Repair, with_inputs, starting, Part, Runs, Slices, Sound}
+use Rattle.ceal_theory.specs.Slices.{Repair, with_inputs, starting, Part, Runs, Slices, RepairHolds}
 
 module _ (names : ℕ → ℕ) (single : Single names) (code : Code) (n : ℕ) (y : Plain) where
   pub record OrderedAgain (k j : ℕ) (bs : List ℕ) (t : State) (old new : Trace) (s' : State) : Type 0 where
@@ -73,7 +73,7 @@ module _ (names : ℕ → ℕ) (single : Single names) (code : Code) (n : ℕ) (
       let x = extends-trans s.plain s1.plain y g1.plain xt in
       let a = step-y code n y bs s.plain st (Reads p u v args below) g.plain x k e in
       let kv : KnownWord n bs value = subst (KnownWord n bs) same (g.store p) in
-      let q1 = part-in-order f1 xt bs g (resumed code u v args value) r1 (given-known n bs code u.0 v args value Empty a.1 kv tt) h.1 t w in
+      let q1 = part-in-order f1 xt bs g (resumed code u v args value) r1 (words_after_read-known n bs code u.0 v args value Empty a.1 kv tt) h.1 t w in
       let q2 = part-in-order f2 ext q1.known q1.good below r2 (stack-more n bs q1.known q1.sub below a.2) (pieces-more code s.plain s1.plain y g1.plain l h.2) q1.after q1.same in
       let z : Part code names (suc k1) (with_store s t) (WasRead p value u v args o l) j1 (with_store s' q2.after)
       (WasRead p (t p) u v args o' l') = Part.kept (sym (w p a.0) ∙ same) q1.part q2.part in
@@ -93,7 +93,7 @@ module _ (names : ℕ → ℕ) (single : Single names) (code : Code) (n : ℕ) (
       let xt = extends-trans s1.plain s'.plain y (part-grows single f2 g1.free).plain ext in
       let x = extends-trans s.plain s1.plain y g1.plain xt in
       let a = step-y code n y bs s.plain st (Reads p u v args below) g.plain x k e in
-      let m = anew-plays names single code n y f1 xt bs g (given-known n bs code u.0 v args (s.store p) Empty a.1 (g.store p) tt) h.1 in
+      let m = anew-plays names single code n y f1 xt bs g (words_after_read-known n bs code u.0 v args (s.store p) Empty a.1 (g.store p) tt) h.1 in
       let q1 = anew-again code names n f1 m.mentions t w in
       let sub1 : Subset bs m.known = mentions-subset m.mentions in
       let q2 = part-in-order f2 ext m.known m.good below r2 (stack-more n bs m.known sub1 below a.2) (pieces-more code s.plain s1.plain y g1.plain l h.2) q1.after q1.same in
@@ -115,7 +115,7 @@ module _ (names : ℕ → ℕ) (single : Single names) (code : Code) (n : ℕ) (
   part-in-order (Part.kept e f1 f2) ext bs g st r k h t w = elim r [ ]
   part-in-order (Part.stale e a f) ext bs g st r k h t w = elim r [ ]
 
-module _ {names : ℕ → ℕ} (code : Code) (inputs : List Block) (f : ℕ) (args : List Word) (fits : Fits code inputs f args) (r : Repair) (h : Sound code names inputs f args r) where
+module _ {names : ℕ → ℕ} (code : Code) (inputs : List Block) (f : ℕ) (args : List Word) (fits : Fits code inputs f args) (r : Repair) (h : RepairHolds code names inputs f args r) where
   abbrev from_store : Store → State
   from_store s = record { store = s; plain = with_inputs code inputs r.known; number = r.number; work = r.spent }
 

@@ -22,7 +22,7 @@ use Rattle.ceal_theory.proofs.SlicedRepair.Composition.{part-plus, part-honest}
 use Rattle.ceal_theory.proofs.SlicedRepair.PartYields.{beyond, beyond-sum, part-fix, AsPart, fix-part}
 use Rattle.ceal_theory.proofs.SlicedRepair.OneTurn.{honest-part}
 use Rattle.ceal_theory.specs.SliceLaws.{and_more}
-use Rattle.ceal_theory.specs.Slices.{Repair, goes_on, starting, Cut, Part, Runs, repair_at, Slices, Sound}
+use Rattle.ceal_theory.specs.Slices.{Repair, goes_on, starting, Cut, Part, Runs, repair_at, Slices, RepairHolds}
 
 module _ (code : Code) (names : ℕ → ℕ) where
   pub record SameRun (t t' : State) (m m' left left' : Trace) : Type 0 where
@@ -82,7 +82,7 @@ module _ (code : Code) (names : ℕ → ℕ) where
   split (Part.kept e f1 f2) (Part.stale n b g) = absurd (n e)
   split (Part.stale n a f) (Part.kept e g1 g2) = absurd (n e)
 
-module _ {names : ℕ → ℕ} (code : Code) (inputs : List Block) (f : ℕ) (args : List Word) (fits : Fits code inputs f args) (r : Repair) (h : Sound code names inputs f args r) where
+module _ {names : ℕ → ℕ} (code : Code) (inputs : List Block) (f : ℕ) (args : List Word) (fits : Fits code inputs f args) (r : Repair) (h : RepairHolds code names inputs f args r) where
   module _ (k i : ℕ) (t : State) (m : Trace) (p : Part code names k (goes_on code inputs r) r.items zero t m) (j : ℕ)
       (s' : State) (n : Trace) (g : Part code names (beyond k (suc j)) (goes_on code inputs r) r.items i s' n) where
     -- the part that comes after a first one

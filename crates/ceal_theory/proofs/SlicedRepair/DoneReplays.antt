@@ -7,7 +7,7 @@ use Rattle.ceal_base.specs.declared.word.BlockId.TheVariants.{Input, Core}
 use Rattle.ceal_base.specs.declared.word.Place.{Place}
 use Rattle.ceal_base.specs.declared.word.Word.{Word}
 use Rattle.ceal_code.proofs.TypedCode.FittingWords.{args-known}
-use Rattle.ceal_code.proofs.Words.StepLocality.{stack-more, given-known, next-known}
+use Rattle.ceal_code.proofs.Words.StepLocality.{stack-more, words_after_read-known, next-known}
 use Rattle.ceal_code.specs.Fitting.{Fits}
 use Rattle.ceal_code.specs.Known.{Holds, KnownStack, KnownAct}
 use Rattle.ceal_code.specs.Program.{Code}
@@ -24,7 +24,7 @@ use Rattle.ceal_theory.proofs.Store.WordsOfWalk.{Walked, walked}
 use Rattle.ceal_theory.specs.Repair.{State}
 use Rattle.ceal_theory.proofs.Store.KnownPlaces.{SameAt, honest-again}
 use Rattle.ceal_theory.proofs.SlicedRepair.Soundness.{starting-known, runs-sound}
-use Rattle.ceal_theory.specs.Slices.{Repair, with_inputs, starting, starting_in, goes_on, Runs, repair_at, Slices, Sound}
+use Rattle.ceal_theory.specs.Slices.{Repair, with_inputs, starting, starting_in, goes_on, Runs, repair_at, Slices, RepairHolds}
 
 module _ (code : Code) (n : ℕ) (y : Plain) where
   pub record Ordered (bs : List ℕ) (l : Trace) (t : Store) : Type 0 where
@@ -57,7 +57,7 @@ module _ (code : Code) (n : ℕ) (y : Plain) where
   ordered {st} {s = s} (Yields.reads {below = below} {p = p} {u = u} {v = v} {args = args} {value = value} {inside = inside} e r1 r2) (Honest.step (Honest.read same w1 w2)) bs h g k =
       let a = knows bs h st (Reads p u v args below) k e in
       let kv : KnownWord n bs value = subst (KnownWord n bs) same (g p) in
-      let q1 = ordered r1 w1 bs h g (given-known n bs code u.0 v args value Empty a.1 kv tt) in
+      let q1 = ordered r1 w1 bs h g (words_after_read-known n bs code u.0 v args value Empty a.1 kv tt) in
       let q2 = ordered r2 w2 q1.known q1.holds q1.store (stack-more n bs q1.known (mentions-subset q1.mentions) below a.2) in
       record { known = q2.known; mentions = Mentions.step (Mentions.read a.0 kv a.1 q1.mentions q2.mentions); holds = q2.holds; store = q2.store }
 
@@ -70,7 +70,7 @@ same-bases code inputs x p k = go p.block k
     go (Input i) k = refl
     go (Core c) k = elim k [ ]
 
-module _ {names : ℕ → ℕ} (code : Code) (inputs : List Block) (f : ℕ) (args : List Word) (fits : Fits code inputs f args) (r : Repair) (h : Sound code names inputs f args r) where
+module _ {names : ℕ → ℕ} (code : Code) (inputs : List Block) (f : ℕ) (args : List Word) (fits : Fits code inputs f args) (r : Repair) (h : RepairHolds code names inputs f args r) where
   x : Plain
   x = with_inputs code inputs r.known
 
@@ -112,20 +112,20 @@ module _ {names : ℕ → ℕ} (code : Code) (inputs : List Block) (f : ℕ) (ar
   done-replays k = replays (bases code inputs) k.after (bases-known code inputs fits.blocks) k.walk
 
 -- the store at the beginning of any repair does for that
-pub any-start-honest : {names : ℕ → ℕ} (code : Code) (inputs : List Block) (f : ℕ) (args : List Word) → Fits code inputs f args → (r : Repair) → Sound code names inputs f args r
+pub any-start-honest : {names : ℕ → ℕ} (code : Code) (inputs : List Block) (f : ℕ) (args : List Word) → Fits code inputs f args → (r : Repair) → RepairHolds code names inputs f args r
     → (z : Plain) (t : Store) → Honest code (starting code inputs z) r.items t → IsHonest code inputs r.items
 any-start-honest code inputs f args fits r h z t w =
     let o = in-order code inputs f args fits r h (starting code inputs z) t (starting-known code inputs fits.blocks z) w in
     let q = honest-again code (length inputs) w o.mentions (bases code inputs) (same-bases code inputs z) in
     record { after = q.after; walk = q.walk }
 
-whole-end : {names : ℕ → ℕ} (code : Code) (inputs : List Block) (f : ℕ) (args : List Word) → Fits code inputs f args → (r : Repair) → Sound code names inputs f args r
+whole-end : {names : ℕ → ℕ} (code : Code) (inputs : List Block) (f : ℕ) (args : List Word) → Fits code inputs f args → (r : Repair) → RepairHolds code names inputs f args r
     → (s' : State) (m : Trace) → Runs code names None (goes_on code inputs r) r.items s' m → IsHonest code inputs m
 whole-end code inputs f args fits r h s' m (Runs.whole g) =
     any-start-honest code inputs f args fits (repair_at s' m) (runs-sound code inputs f args fits r h None s' m (Runs.whole g)) r.known s'.store (fix-honest g)
 
 -- without a number of reads a slice is done
-pub whole-done : {names : ℕ → ℕ} (code : Code) (inputs : List Block) (f : ℕ) (args : List Word) → Fits code inputs f args → (r : Repair) → Sound code names inputs f args r
+pub whole-done : {names : ℕ → ℕ} (code : Code) (inputs : List Block) (f : ℕ) (args : List Word) → Fits code inputs f args → (r : Repair) → RepairHolds code names inputs f args r
     → (r' : Repair) → Slices code names inputs None r r' → IsHonest code inputs r'.items
 whole-done code inputs f args fits r h r' s =
     subst (λ r. IsHonest code inputs r.items) (sym s.is) (whole-end code inputs f args fits r h s.after s.items s.runs)

@@ -12,7 +12,7 @@ use Rattle.ceal_base.specs.declared.word.BlockId.{BlockId}
 use Rattle.ceal_base.specs.declared.word.BlockId.TheVariants.{Input, Core}
 use Rattle.ceal_base.specs.declared.word.Place.{Place}
 use Rattle.ceal_base.specs.declared.word.Word.{Word}
-use Rattle.ceal_code.proofs.Words.StepLocality.{stack-more, given-known}
+use Rattle.ceal_code.proofs.Words.StepLocality.{stack-more, words_after_read-known}
 use Rattle.ceal_code.specs.Fitting.{Fits}
 use Rattle.ceal_code.specs.Known.{Subset, Held, KnownStack}
 use Rattle.ceal_code.specs.Init.{made, pointer}
@@ -29,7 +29,7 @@ use Rattle.ceal_theory.proofs.SlicedRepair.Soundness.{good, start-known, startin
 use Rattle.ceal_theory.proofs.Store.Mentions.{uses-yields, uses-pieces}
 use Rattle.ceal_theory.proofs.SlicedRepair.PartYields.{good-puts}
 use Rattle.ceal_theory.specs.Cover.{known_after, At}
-use Rattle.ceal_theory.specs.Slices.{Repair, with_inputs, starting, goes_on, Sound}
+use Rattle.ceal_theory.specs.Slices.{Repair, with_inputs, starting, goes_on, RepairHolds}
 
 allocs-both : (bs : List ℕ) (is js : List Item) → known_after bs (is ++ js) ≡ known_after (known_after bs is) js
 allocs-both bs [] js = refl
@@ -77,7 +77,7 @@ module _ (names : ℕ → ℕ) (single : Single names) (code : Code) (n : ℕ) (
         value} {inside = o} {rest = l} e r1 r2) (Honest.step (Honest.read {t = m} same w1 w2)) s is at bs g k h =
         let c = step-y code n y bs s.plain st (Reads p u v args below) g.plain (subst (λ z. Extends z y) (sym is) ext) k e in
         let kv : KnownWord n bs value = subst (KnownWord n bs) (ap (λ z. z p) at ∙ same) (g.store p) in
-        let g1 = walk-good r1 w1 s is at bs g (given-known n bs code u.0 v args value Empty c.1 kv tt) h.1 in
+        let g1 = walk-good r1 w1 s is at bs g (words_after_read-known n bs code u.0 v args value Empty c.1 kv tt) h.1 in
         let g2 = walk-good r2 w2 (with_store s m) is refl (known_after bs (flat o)) g1 (stack-more n bs (known_after bs (flat o)) (allocs-more bs (flat o)) below c.2) h.2 in
         subst (λ bs. Good names n bs (with_store s t)) (sym (allocs-both bs (flat o) (End ∷ flat l))) g2
 
@@ -146,7 +146,7 @@ module _ (names : ℕ → ℕ) (single : Single names) (code : Code) (n : ℕ) (
 
   inside-stack : (bs : List ℕ) (s : State) (p : Place) (value : Word) (u : UnitId) (v : ℕ) (args : List Word)
       → Good names n bs s → KnownWords n bs args → s.store p ≡ value → KnownStack n bs (resumed code u v args value)
-  inside-stack bs s p value u v args g k same = given-known n bs code u.0 v args value Empty k (subst (KnownWord n bs) same (g.store p)) tt
+  inside-stack bs s p value u v args g k same = words_after_read-known n bs code u.0 v args value Empty k (subst (KnownWord n bs) same (g.store p)) tt
 
   pub at-ready : (s : State) {l inside : Trace} {front back : List Item} {w : Store} {p : Place} {value : Word} {u : UnitId} {v : ℕ} {args : List Word}
       → At code s.store l front w p value u v args inside back
@@ -160,7 +160,7 @@ module _ (names : ℕ → ℕ) (single : Single names) (code : Code) (n : ℕ) (
   at-ready s (At.write {x = p} {y = value} {rest = rest} q) bs d ext g h =
       at-ready (puts s p value) q bs (flows bs (puts s p value) d.1 rest d.2 d.3) ext (good-puts code names n bs s p value g d.0) h
   at-ready s (At.here {p = p} {value = value} {u = u} {v = v} {args = args}) bs d ext g h =
-      record { good = g; place = d.0; words = d.1; stack = given-known n bs code u.0 v args (s.store p) Empty d.1 (g.store p) tt; yields = d.2; pieces = h.1 }
+      record { good = g; place = d.0; words = d.1; stack = words_after_read-known n bs code u.0 v args (s.store p) Empty d.1 (g.store p) tt; yields = d.2; pieces = h.1 }
   at-ready s (At.inner {x = p} {y = value} {c = u} {n = v} {ws = args} {within = o} same q) bs d ext g h =
       at-ready s q bs (flows bs s (resumed code u v args value) o d.2 (inside-stack bs s p value u v args g d.1 same)) ext g h.1
   at-ready s (At.outer {t = m} {w = w} {x = p} {y = value} {c = u} {n = v} {ws = args} {within = o} {rest =
@@ -172,7 +172,7 @@ module _ (names : ℕ → ℕ) (single : Single names) (code : Code) (n : ℕ) (
       (stack-more n bs (known_after bs (flat o)) (allocs-more bs (flat o)) d.3 d.5)) ext
       (walk-good s.plain ext d.2 hw s refl refl bs g (inside-stack bs s p value u v args g d.1 same) h.1) h.2)
 
-module _ {names : ℕ → ℕ} (code : Code) (inputs : List Block) (f : ℕ) (args : List Word) (fits : Fits code inputs f args) (r : Repair) (h : Sound code names inputs f args r) where
+module _ {names : ℕ → ℕ} (code : Code) (inputs : List Block) (f : ℕ) (args : List Word) (fits : Fits code inputs f args) (r : Repair) (h : RepairHolds code names inputs f args r) where
   -- of a repair that holds, over any plain words that have more
   pub ready-over : (y : Plain) → Extends (with_inputs code inputs r.known) y → {front back : List Item} {w : Store} {p : Place} {value : Word} {u : UnitId} {v : ℕ} {ws : List Word} {inside : Trace}
       → At code (starting code inputs r.known) r.items front w p value u v ws inside back

@@ -7,7 +7,7 @@ use Rattle.ceal_base.specs.declared.word.BlockId.{BlockId}
 use Rattle.ceal_base.specs.declared.word.BlockId.TheVariants.{Core}
 use Rattle.ceal_base.specs.declared.word.Place.{Place}
 use Rattle.ceal_base.specs.declared.word.Word.{Word}
-use Rattle.ceal_code.proofs.Words.StepLocality.{word-more, words-more, stack-more, set-known, given-known}
+use Rattle.ceal_code.proofs.Words.StepLocality.{word-more, words-more, stack-more, set-known, words_after_read-known}
 use Rattle.ceal_code.specs.Init.{pointer}
 use Rattle.ceal_code.specs.Known.{Subset, KnownStack}
 use Rattle.ceal_code.specs.Program.{Code}
@@ -133,7 +133,7 @@ module _ (code : Code) (names : ℕ → ℕ) (inputs : ℕ) where
         let xt = extends-trans t.plain s'.plain y (part-grows single f2 g1.free).plain ext in
         let x = extends-trans s.plain t.plain y g1.plain xt in
         let a = step-y code inputs y bs s.plain st (Reads p w v args below) g.plain x k e in
-        let q1 = part-plays f1 xt bs g (resumed code w v args value) r1 (given-known inputs bs code w.0 v args value Empty u.2 u.1 tt) h.1 u.3 in
+        let q1 = part-plays f1 xt bs g (resumed code w v args value) r1 (words_after_read-known inputs bs code w.0 v args value Empty u.2 u.1 tt) h.1 u.3 in
         let q2 = part-plays f2 ext q1.known q1.good below r2 (stack-more inputs bs q1.known q1.sub below a.2)
         (pieces-more code s.plain t.plain y g1.plain rest h.2) (uses-more inputs bs q1.known q1.sub rest u.4) in
         let sub : Subset bs q2.known = λ b i. q2.sub b (q1.sub b i) in
@@ -157,7 +157,7 @@ module _ (code : Code) (names : ℕ → ℕ) (inputs : ℕ) where
         let xt = extends-trans t.plain s'.plain y (part-grows single f g1.free).plain ext in
         let x = extends-trans s.plain t.plain y g1.plain xt in
         let a = step-y code inputs y bs s.plain st (Reads p w v args below) g.plain x k e in
-        let q1 = anew-plays names single code inputs y n xt bs g (given-known inputs bs code w.0 v args (s.store p) Empty u.2 (g.store p) tt) h.1 in
+        let q1 = anew-plays names single code inputs y n xt bs g (words_after_read-known inputs bs code w.0 v args (s.store p) Empty u.2 (g.store p) tt) h.1 in
         let sub1 : Subset bs q1.known = mentions-subset q1.mentions in
         let q2 = part-plays f ext q1.known q1.good below r2 (stack-more inputs bs q1.known sub1 below a.2)
         (pieces-more code s.plain t.plain y g1.plain rest h.2) (uses-more inputs bs q1.known sub1 rest u.4) in

@@ -13,9 +13,9 @@ use Rattle.ceal_theory.proofs.SlicedRepair.CarriedLaws.{own-single, edited-so}
 use Rattle.ceal_theory.proofs.SlicedRepair.SliceLaws.{begin-law, slice-law, slices-law, done-law, is-done-law}
 use Rattle.ceal_theory.specs.Adjust.{Above}
 use Rattle.ceal_theory.specs.Computed.{Repaired}
-use Rattle.ceal_theory.specs.Pasts.{Past, NoTrace, Traced, Going, first_past, number_above, next_repair, done_past, left_by, slice_of, past_behind, IsPastOf, PastLaw}
+use Rattle.ceal_theory.specs.Pasts.{Past, NoTrace, Traced, Going, first_past, number_above, next_repair, done_past, left_by, slice_of, past_after, IsPastOf, PastLaw}
 use Rattle.ceal_theory.specs.Repair.{own}
-use Rattle.ceal_theory.specs.Slices.{Repair, beginning, sliced, is_done, Sound}
+use Rattle.ceal_theory.specs.Slices.{Repair, beginning, sliced, is_done, RepairHolds}
 
 none-over : (b : ℕ) (bs : List ℕ) → number_above bs ≤ b → count b bs ≡ 0
 none-over b [] h = refl
@@ -34,21 +34,21 @@ module _ (code : Code) (inputs : List Block) (f : ℕ) (args : List Word) (fits 
   of-done None r h = tt
   of-done (Some l) r h = h
 
-  of-slice : (r : Repair) → Sound code own inputs f args r → IsPastOf code inputs f args (left_by code inputs first (sliced code own inputs k fuel r))
+  of-slice : (r : Repair) → RepairHolds code own inputs f args r → IsPastOf code inputs f args (left_by code inputs first (sliced code own inputs k fuel r))
   of-slice r h = at (sliced code own inputs k fuel r) refl
     where
       at : (o : Option Repair) → sliced code own inputs k fuel r ≡ o → IsPastOf code inputs f args (left_by code inputs first o)
       at None e = of-first first is
       at (Some z) e = by (is_done code inputs z) refl
         where
-          sound : Sound code own inputs f args z
+          sound : RepairHolds code own inputs f args z
           sound = (slice-law code own inputs f args fits r h k z (((slices-law code own inputs k fuel r z).0 e).0)).sound
 
           by : (b : Bool) → is_done code inputs z ≡ b → IsPastOf code inputs f args (if b then done_past first z else Going z)
           by true d = of-done first z (done-law code own inputs f args fits z sound ((is-done-law code inputs z).0 d)).replays
           by false d = sound
 
-  pub past-stands : (p : Past) → IsPastOf code inputs f args p → IsPastOf code inputs f args (past_behind code inputs fuel first k p)
+  pub past-stands : (p : Past) → IsPastOf code inputs f args p → IsPastOf code inputs f args (past_after code inputs fuel first k p)
   past-stands NoTrace h = of-first first is
   past-stands (Traced l) h =
       let n = number_above (core_numbers (blocks_of l.items)) in

@@ -47,7 +47,7 @@ use Rattle.ceal_theory.specs.SliceLaws.{KnownThere, ReadyLaw, Turns, TurnsLaw, H
 use Rattle.ceal_theory.specs.SliceLaws.{RenamedSoundLaw, KeepLaw, SplitLaw, TurnedOver, TurnsOverLaw}
 use Rattle.ceal_theory.specs.Cover.{before, items_of, waits_after, CoverLaw, ReplaceLaw, known_after, Waiting, none_waits, closed, opened, ChangeLaw, PopLaw, FirstQueuedLaw, FrontLaw}
 use Rattle.ceal_theory.specs.Walk.{store_after, AgreesAll, with_store}
-use Rattle.ceal_theory.specs.Slices.{Repair, with_inputs, starting, goes_on, Part, Runs, repair_at, Slices, sliced, Sound, Follows}
+use Rattle.ceal_theory.specs.Slices.{Repair, with_inputs, starting, goes_on, Part, Runs, repair_at, Slices, sliced, RepairHolds, Follows}
 
 pub begin-law : BeginLaw
 begin-law code names old new f args l above number e single apart = begin-sound code names old new f args l above number e single apart
@@ -55,7 +55,7 @@ begin-law code names old new f args l above number e single apart = begin-sound 
 pub more-law : MoreLaw
 more-law code names old new f args fits fit more r h = sound-more code old new f args fits fit more r h
 
-module _ {names : ℕ → ℕ} (code : Code) (inputs : List Block) (f : ℕ) (args : List Word) (fits : Fits code inputs f args) (r : Repair) (h : Sound code names inputs f args r) where
+module _ {names : ℕ → ℕ} (code : Code) (inputs : List Block) (f : ℕ) (args : List Word) (fits : Fits code inputs f args) (r : Repair) (h : RepairHolds code names inputs f args r) where
   part-sliced : (k j : ℕ) (s' : State) (m : Trace) → Part code names k (goes_on code inputs r) r.items j s' m → Sliced code names inputs f args r (repair_at s' m)
   part-sliced k j s' m p =
       let s = part-sound code inputs f args fits r h k j s' m p in
@@ -254,7 +254,7 @@ turn-law code names inputs r front p value u v args after e h n = found (locate 
         (at-honest code q.at-it) (subst (λ z. ¬ (z q.place ≡ q.value)) (at-store code q.at-it) q.stale) h n)
 
 known-there : {names : ℕ → ℕ} (code : Code) (inputs : List Block) (f : ℕ) (ws : List Word) → Fits code inputs f ws →
-    (r : Repair) → Sound code names inputs f ws r → (q : Located code (starting code inputs r.known) r.items)
+    (r : Repair) → RepairHolds code names inputs f ws r → (q : Located code (starting code inputs r.known) r.items)
     → KnownThere code inputs r q.front q.place q.value q.unit q.var q.args (flat q.inside ++ End ∷ q.back)
 known-there code inputs f ws fits r h q =
     let x = sound-ready code inputs f ws fits r h q.at-it in
@@ -294,34 +294,34 @@ ready-law code names inputs f ws fits r h front p value u v args after e k n = f
 
 module _ {names : ℕ → ℕ} (code : Code) (inputs : List Block) (f : ℕ) (args : List Word) (fits : Fits code inputs f args) where
   -- what is done has a slice, which leaves it
-  stay-whole : (r : Repair) → Sound code names inputs f args r → IsHonest code inputs r.items → Slices code names inputs None r (repair_at (goes_on code inputs r) r.items)
+  stay-whole : (r : Repair) → RepairHolds code names inputs f args r → IsHonest code inputs r.items → Slices code names inputs None r (repair_at (goes_on code inputs r) r.items)
   stay-whole r h k =
       let w = from-start code inputs f args fits r h k in
       record { after = record (goes_on code inputs r) { store = w.after }; items = r.items; runs = Runs.whole (walk-fix code names w.walk (goes_on code inputs r) refl); is = refl }
 
-  stay-part : (r : Repair) → Sound code names inputs f args r → IsHonest code inputs r.items → (n : ℕ) → Slices code names inputs (Some (suc n)) r (repair_at (goes_on code inputs r) r.items)
+  stay-part : (r : Repair) → RepairHolds code names inputs f args r → IsHonest code inputs r.items → (n : ℕ) → Slices code names inputs (Some (suc n)) r (repair_at (goes_on code inputs r) r.items)
   stay-part r h k n =
       let w = from-start code inputs f args fits r h k in
       record { after = record (goes_on code inputs r) { store = w.after }; items = r.items; runs = Runs.part (honest-part code names w.walk (goes_on code inputs r) n); is = refl }
 
-  follow-some : (r : Repair) → Sound code names inputs f args r → (r' : Repair) → Slices code names inputs
+  follow-some : (r : Repair) → RepairHolds code names inputs f args r → (r' : Repair) → Slices code names inputs
       (Some 1) r r' → (j : ℕ) (z : Repair) → Slices code names inputs (Some j) r' z → Slices code names inputs
       (Some (suc j)) r z
   follow-some r h r' s j z s' =
       subst (λ n. Slices code names inputs (Some n) r z) (omega arith) (follow-law code names inputs f args fits r h 1 r' s (Some j) z s')
 
-  turns-many : (r z : Repair) (n : ℕ) → Sound code names inputs f args r → Turns code names inputs (suc n) r z → Slices code names inputs (Some (suc n)) r z
+  turns-many : (r z : Repair) (n : ℕ) → RepairHolds code names inputs f args r → Turns code names inputs (suc n) r z → Slices code names inputs (Some (suc n)) r z
   turns-many r z n h (Turns.turn s Turns.none) = s
   turns-many r z n h (Turns.turn {r' = r'} s (Turns.turn {n = m} t u)) =
       follow-some r h r' s (suc m) z (turns-many r' z m (slice-law code names inputs f args fits r h (Some 1) r' s).sound (Turns.turn t u))
 
-  turns-whole : (r z : Repair) (n : ℕ) → Sound code names inputs f args r → Turns code names inputs n r z
+  turns-whole : (r z : Repair) (n : ℕ) → RepairHolds code names inputs f args r → Turns code names inputs n r z
       → IsHonest code inputs z.items → Slices code names inputs None r (repair_at (goes_on code inputs z) z.items)
   turns-whole r z n h Turns.none k = stay-whole r h k
   turns-whole r z n h (Turns.turn {n = m} {r' = r'} s t) k =
       follow-law code names inputs f args fits r h 1 r' s None (repair_at (goes_on code inputs z) z.items) (turns-whole r' z m (slice-law code names inputs f args fits r h (Some 1) r' s).sound t k)
 
-  turns-ended : (r z : Repair) (n : ℕ) → Sound code names inputs f args r → Turns code names inputs n r z
+  turns-ended : (r z : Repair) (n : ℕ) → RepairHolds code names inputs f args r → Turns code names inputs n r z
       → IsHonest code inputs z.items → (k : ℕ) → n ≤ k → Slices code names inputs (Some (suc k)) r
       (repair_at (goes_on code inputs z) z.items)
   turns-ended r z n h Turns.none k j l = stay-part r h k j
@@ -351,7 +351,8 @@ extended-refl : (code : Code) (inputs : List Block) → Extended code inputs inp
 extended-refl code inputs i block e = rw e refl
 
 -- what a history comes to
-history : (code : Code) (names : ℕ → ℕ) (f : ℕ) (args : List Word) {inputs : List Block} {r : Repair} → History code names f args inputs r → Fits code inputs f args × Sound code names inputs f args r
+history : (code : Code) (names : ℕ → ℕ) (f : ℕ) (args : List Word) {inputs : List Block} {r : Repair} → History code names f args inputs r
+    → Fits code inputs f args × RepairHolds code names inputs f args r
 history code names f args (History.began {old = old} {new = new} {l = l} {above = above} {number = number} e single apart) =
     (fits-more code old new e.extended f args e.call e.fit, begin-sound code names old new f args l above number e single apart)
 history code names f args (History.edited {old = old} {new = new} {r = r} h more fit) =
@@ -362,7 +363,7 @@ history code names f args (History.cut {inputs = inputs} {k = k} {r = r} {r' = r
 pub history-law : HistoryLaw
 history-law code names f args inputs r h = of (history code names f args h)
   where
-    of : Fits code inputs f args × Sound code names inputs f args r → HeldUp code names inputs f args r
+    of : Fits code inputs f args × RepairHolds code names inputs f args r → HeldUp code names inputs f args r
     of k = record {
       call = k.0;
       sound = k.1;
@@ -378,8 +379,8 @@ slices-one code names inputs k r a b s t =
     let n = a.spent + b.spent in
     some-same a b (sym (sliced-found code names inputs n r k a s (omega arith)) ∙ sliced-found code names inputs n r k b t (omega arith))
 
-module _ {names : ℕ → ℕ} (code : Code) (inputs : List Block) (f : ℕ) (args : List Word) (fits : Fits code inputs f args) (r : Repair) (h : Sound code names inputs f args r) where
-  stay : (r' : Repair) → Sound code names inputs f args r' → IsHonest code inputs r'.items → (o : Option ℕ) → ¬
+module _ {names : ℕ → ℕ} (code : Code) (inputs : List Block) (f : ℕ) (args : List Word) (fits : Fits code inputs f args) (r : Repair) (h : RepairHolds code names inputs f args r) where
+  stay : (r' : Repair) → RepairHolds code names inputs f args r' → IsHonest code inputs r'.items → (o : Option ℕ) → ¬
       (o ≡ Some zero) → Slices code names inputs o r' (repair_at (goes_on code inputs r') r'.items)
   stay r' h' k None z = stay-whole code inputs f args fits r' h' k
   stay r' h' k (Some zero) z = absurd (z refl)
@@ -427,7 +428,7 @@ pub split-law : SplitLaw
 split-law code names inputs f args fits r h k r' s o z = record { later = split-slices code inputs f args fits r h k r' s o z; over = split-over code inputs f args fits r h k r' s o z }
 
 turns-over : (code : Code) (names : ℕ → ℕ) (inputs : List Block) (f : ℕ) (args : List Word) → Fits code inputs f args
-    → (r z : Repair) (n : ℕ) → Sound code names inputs f args r → Turns code names inputs n r z
+    → (r z : Repair) (n : ℕ) → RepairHolds code names inputs f args r → Turns code names inputs n r z
     → TurnedOver code names inputs n r z
 turns-over code names inputs f args fits r z n h Turns.none = record { whole = λ k e. e; part = λ k j e. e' k j e }
   where

@@ -5,7 +5,7 @@ use Rattle.ceal_base.specs.Trace.{Trace, WasRead}
 use Rattle.ceal_base.specs.declared.word.BlockId.{BlockId}
 use Rattle.ceal_base.specs.declared.word.BlockId.TheVariants.{Input, Core}
 use Rattle.ceal_base.specs.declared.word.Word.{Word}
-use Rattle.ceal_code.proofs.Words.StepLocality.{given-known}
+use Rattle.ceal_code.proofs.Words.StepLocality.{words_after_read-known}
 use Rattle.ceal_code.specs.Fitting.{Fits}
 use Rattle.ceal_code.specs.Known.{Subset}
 use Rattle.ceal_code.specs.Program.{Code}
@@ -24,7 +24,7 @@ use Rattle.ceal_theory.proofs.SlicedRepair.Soundness.{at-core, good, grown, same
 use Rattle.ceal_theory.proofs.SlicedRepair.Composition.{walk-part, part-plus, join}
 use Rattle.ceal_theory.proofs.Store.Mentions.{uses-more, uses-pieces}
 use Rattle.ceal_theory.proofs.SlicedRepair.PartYields.{beyond, beyond-sum, part-fix, AsPart, fix-part, part-grows, good-again, good-puts}
-use Rattle.ceal_theory.specs.Slices.{Repair, with_inputs, default_in, starting_in, starting, goes_on, Part, Runs, repair_at, Slices, Uses, Sound, Follows}
+use Rattle.ceal_theory.specs.Slices.{Repair, with_inputs, default_in, starting_in, starting, goes_on, Part, Runs, repair_at, Slices, Uses, RepairHolds, Follows}
 
 module _ (names : ℕ → ℕ) (single : Single names) (code : Code) (n : ℕ) (y : Plain) where
   pub record PartAgain (k j : ℕ) (bs : List ℕ) (t : State) (old new : Trace) (s' : State) : Type 0 where
@@ -67,7 +67,7 @@ module _ (names : ℕ → ℕ) (single : Single names) (code : Code) (n : ℕ) (
       args} {inside = o} {inside' = o'} {left = left} {rest = l} {rest' = l'} e a f) ext bs g h us t w =
       let g1 = anew-grows single a g.free in
       let xt = extends-trans s1.plain s'.plain y (part-grows single f g1.free).plain ext in
-      let m = anew-plays names single code n y a xt bs g (given-known n bs code u.0 v args (s.store p) Empty us.2 (g.store p) tt) h.1 in
+      let m = anew-plays names single code n y a xt bs g (words_after_read-known n bs code u.0 v args (s.store p) Empty us.2 (g.store p) tt) h.1 in
       let q1 = anew-again code names n a m.mentions t w in
       let sub1 : Subset bs m.known = mentions-subset m.mentions in
       let q2 = part-again f ext m.known m.good (pieces-more code s.plain s1.plain y g1.plain l h.2) (uses-more n bs m.known sub1 l us.4) q1.after q1.same in
@@ -84,7 +84,7 @@ module _ (names : ℕ → ℕ) (single : Single names) (code : Code) (n : ℕ) (
         same = q2.same;
       }
 
-module _ {names : ℕ → ℕ} (code : Code) (inputs : List Block) (f : ℕ) (args : List Word) (fits : Fits code inputs f args) (r : Repair) (h : Sound code names inputs f args r) where
+module _ {names : ℕ → ℕ} (code : Code) (inputs : List Block) (f : ℕ) (args : List Word) (fits : Fits code inputs f args) (r : Repair) (h : RepairHolds code names inputs f args r) where
   -- a later repair has the same defaults for the blocks that are known now
   default-same : (z : Plain) → Extends (with_inputs code inputs r.known) z → SameAt (length inputs) h.blocks (starting code inputs r.known) (starting code inputs z)
   unfolding starting
@@ -158,7 +158,7 @@ module _ {names : ℕ → ℕ} (code : Code) (inputs : List Block) (f : ℕ) (ar
         (q.after, q.part)
 
 module _ {names : ℕ → ℕ} (code : Code) (inputs : List Block) (f : ℕ) (args : List Word) (fits : Fits code inputs f args) where
-  module _ (r : Repair) (h : Sound code names inputs f args r) (honest : IsHonest code inputs r.items) where
+  module _ (r : Repair) (h : RepairHolds code names inputs f args r) (honest : IsHonest code inputs r.items) where
     pub from-start : HonestAgain code (length inputs) (starting code inputs r.known) r.items (in-order code inputs f args fits r h (bases code inputs) honest.after
         (Rattle.ceal_theory.proofs.Store.FittingInputs.bases-known code inputs fits.blocks) honest.walk).known honest.after
     from-start = honest-again code (length inputs) honest.walk
@@ -176,11 +176,11 @@ module _ {names : ℕ → ℕ} (code : Code) (inputs : List Block) (f : ℕ) (ar
     runs-stay (Some (suc j)) s' n (Runs.part {j = i} g) = same-end j i s' n g
 
   -- a slice of a repair that is done leaves it
-  pub done-stays : (r : Repair) → Sound code names inputs f args r → IsHonest code inputs r.items → (k : Option ℕ)
+  pub done-stays : (r : Repair) → RepairHolds code names inputs f args r → IsHonest code inputs r.items → (k : Option ℕ)
       (r' : Repair) → Slices code names inputs k r r' → r' ≡ repair_at (goes_on code inputs r) r.items
   done-stays r h honest k r' s = s.is ∙ runs-stay r h honest k s.after s.items s.runs
 
-  module _ (r : Repair) (h : Sound code names inputs f args r) where
+  module _ (r : Repair) (h : RepairHolds code names inputs f args r) where
     abbrev start : State
     start = goes_on code inputs r
 

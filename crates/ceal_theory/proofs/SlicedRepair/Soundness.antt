@@ -33,7 +33,7 @@ use Rattle.ceal_theory.specs.Repair.{Single, State}
 use Rattle.ceal_theory.proofs.Store.Mentions.{uses-inputs, mentions-uses, uses-yields, uses-pieces}
 use Rattle.ceal_theory.proofs.SlicedRepair.AddedBlocks.{Adds, part-adds, part-distinct}
 use Rattle.ceal_theory.proofs.SlicedRepair.PartYields.{part-grows, Parted, part-plays, AsPart, fix-part}
-use Rattle.ceal_theory.specs.Slices.{NamesApart, Repair, with_inputs, default_in, starting_in, starting, goes_on, Part, Runs, repair_at, Slices, Uses, Sound, beginning}
+use Rattle.ceal_theory.specs.Slices.{NamesApart, Repair, with_inputs, default_in, starting_in, starting, goes_on, Part, Runs, repair_at, Slices, Uses, RepairHolds, beginning}
 
 in-this : (n : ℕ) (bs : List ℕ) (b c m : ℕ) → In c bs → 1 ≤ one_if b c + m → (1 ≤ m → In b bs) → In b bs
 in-this n bs b c m i h f = go (one_if b c) refl
@@ -89,7 +89,7 @@ with-same code inputs x h = fun_ext go
     go (Input i) = at-input code inputs x i ∙ sym (h i)
     go (Core c) = at-core code inputs x c
 
-module _ {names : ℕ → ℕ} (code : Code) (inputs : List Block) (f : ℕ) (args : List Word) (fits : Fits code inputs f args) (r : Repair) (h : Sound code names inputs f args r) where
+module _ {names : ℕ → ℕ} (code : Code) (inputs : List Block) (f : ℕ) (args : List Word) (fits : Fits code inputs f args) (r : Repair) (h : RepairHolds code names inputs f args r) where
   pub start-known : (bs : List ℕ) → KnownStack (length inputs) bs (started code f args)
   start-known bs = stack-more (length inputs) [] bs (λ b i. elim i [ ]) (started code f args) (started-known (length inputs) [] code f args (args-known code inputs f args fits))
 
@@ -139,7 +139,7 @@ module _ {names : ℕ → ℕ} (code : Code) (inputs : List Block) (f : ℕ) (ar
         go (inr i) = subst (λ z. In z parted.known) (sym i.3) (made' i.0 i.1 i.2)
 
     -- the result of the slice holds
-    pub part-sound : Sound code names inputs f args (repair_at s' m)
+    pub part-sound : RepairHolds code names inputs f args (repair_at s' m)
     part-sound = record {
       yields = subst (λ x. Yields code x (started code f args) m) (sym same-plain) parted.yields;
       distinct = part-distinct code h.single p h.distinct low;
@@ -151,16 +151,16 @@ module _ {names : ℕ → ℕ} (code : Code) (inputs : List Block) (f : ℕ) (ar
       free = parted.good.free;
     }
 
-  pub runs-sound : (k : Option ℕ) (s' : State) (m : Trace) → Runs code names k (goes_on code inputs r) r.items s' m → Sound code names inputs f args (repair_at s' m)
+  pub runs-sound : (k : Option ℕ) (s' : State) (m : Trace) → Runs code names k (goes_on code inputs r) r.items s' m → RepairHolds code names inputs f args (repair_at s' m)
   runs-sound k s' m (Runs.whole g) = let q : AsPart code names (goes_on code inputs r) r.items s' m 0 = fix-part g 0 in part-sound (suc q.reads) 1 s' m q.part
   runs-sound k s' m (Runs.part {k = n} {j = j} p) = part-sound n j s' m p
 
-  pub slice-sound : (k : Option ℕ) (r' : Repair) → Slices code names inputs k r r' → Sound code names inputs f args r'
-  slice-sound k r' s = subst (Sound code names inputs f args) (sym s.is) (runs-sound k s.after s.items s.runs)
+  pub slice-sound : (k : Option ℕ) (r' : Repair) → Slices code names inputs k r r' → RepairHolds code names inputs f args r'
+  slice-sound k r' s = subst (RepairHolds code names inputs f args) (sym s.is) (runs-sound k s.after s.items s.runs)
 
 -- a repair that begins from a replay holds, whatever the bases
 pub begin-sound : (code : Code) (names : ℕ → ℕ) (old new : List Block) (f : ℕ) (args : List Word) (l : Trace) (above number : ℕ) → Edited code old new f args l above
-    → Single names → NamesApart names number l → Sound code names new f args (beginning code new l number)
+    → Single names → NamesApart names number l → RepairHolds code names new f args (beginning code new l number)
 unfolding plain_of
 begin-sound code names old new f args l above number e single apart =
     let y = yields-new code old new f args e.call e.fit e.extended l e.trace in
@@ -187,7 +187,7 @@ begin-sound code names old new f args l above number e single apart =
 
 -- and it holds on more inputs with other bases
 module _ {names : ℕ → ℕ} (code : Code) (old new : List Block) (f : ℕ) (args : List Word) (fits : Fits code old f args) (fit : inputs_fit code.structs new ≡ true) (more : Extended code old new)
-    (r : Repair) (h : Sound code names old f args r) where
+    (r : Repair) (h : RepairHolds code names old f args r) where
   agree : Agree (length old) h.blocks (with_inputs code old r.known) (with_inputs code new r.known)
   agree (Input i) k =
       let g = h.holds (Input i) k in
@@ -206,7 +206,7 @@ module _ {names : ℕ → ℕ} (code : Code) (old new : List Block) (f : ℕ) (a
         known = words-inputs (length old) (length new) (more-inputs code old new more) h.blocks g.block.words g.known;
       }
 
-  pub sound-more : Sound code names new f args r
+  pub sound-more : RepairHolds code names new f args r
   sound-more = record {
     yields = uses-yields code (length old) h.blocks (with_inputs code old r.known) (with_inputs code new r.known) h.holds agree h.yields (start-known code old f args fits r h h.blocks) h.uses;
     distinct = h.distinct;

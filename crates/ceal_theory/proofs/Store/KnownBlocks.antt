@@ -12,7 +12,7 @@ use Rattle.ceal_base.specs.declared.word.BlockId.TheVariants.{Input, Core}
 use Rattle.ceal_base.specs.declared.word.Place.{Place}
 use Rattle.ceal_base.specs.declared.word.Word.{Word}
 use Rattle.ceal_code.proofs.TypedCode.FittingWords.{args-known}
-use Rattle.ceal_code.proofs.Words.StepLocality.{block-more, word-more, words-more, key-more, variables-more, stack-more, set-known, given-known, next-known, made-known}
+use Rattle.ceal_code.proofs.Words.StepLocality.{block-more, word-more, words-more, key-more, variables-more, stack-more, set-known, words_after_read-known, next-known, made-known}
 use Rattle.ceal_code.proofs.Words.SameIsEqual.{some-same, none-some, word-same}
 use Rattle.ceal_code.specs.Fitting.{Fits}
 use Rattle.ceal_code.specs.Init.{made, pointer}
@@ -90,8 +90,10 @@ module _ (code : Code) (n : ℕ) (ds : List ℕ) where
       → KnowsMode code n ds s.plain bs (opened code b u v args now inside)
   opened-knows bs s u v args value now inside true e g ka kn da dv t h =
       let k : KnownWord n bs value = subst (KnownWord n bs) (word-same now value e) kn in
-      (whole-at bs s.plain g.plain g.old (resumed code u v args value) (given-known n bs code u.0 v args value Empty ka k tt) (given-known n ds code u.0 v args value Empty da dv tt) t, h)
-  opened-knows bs s u v args value now inside false e g ka kn da dv t h = (given-known n bs code u.0 v args now Empty ka kn tt, h)
+      let before = words_after_read-known n bs code u.0 v args value Empty ka k tt in
+      let after = words_after_read-known n ds code u.0 v args value Empty da dv tt in
+      (whole-at bs s.plain g.plain g.old (resumed code u v args value) before after t, h)
+  opened-knows bs s u v args value now inside false e g ka kn da dv t h = (words_after_read-known n bs code u.0 v args now Empty ka kn tt, h)
 
   -- with a block whose words are those of a known key
   clears-knows : (bs : List ℕ) (s : State) (b : ℕ) (key : Key) → StateKnows bs s → KnownKey n bs key → s.plain
@@ -289,7 +291,7 @@ module _ (code : Code) (n : ℕ) (ds : List ℕ) where
     known = bs;
     items = KnownItems.step (KnownItems.read ka.0 (g.store p) ka.1 KnownItems.none);
     knows = all bs (works s) (Running (resumed code u v args (s.store p)) old) (AfterRun below fs)
-        (works-knows bs s g) (given-known n bs code u.0 v args (s.store p) Empty ka.1 (g.store p) tt, h) (ka.2, k);
+        (works-knows bs s g) (words_after_read-known n bs code u.0 v args (s.store p) Empty ka.1 (g.store p) tt, h) (ka.2, k);
   }
 
   acting-knows : (names : ℕ → ℕ) (bs : List ℕ) (s : State) (fs : Frames) (old : Trace) (a : Act) → StateKnows bs s → KnownAct n bs a → Sure code n ds s.plain old → KnowsFrames code n ds s.plain bs fs

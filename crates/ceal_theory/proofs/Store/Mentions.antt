@@ -2,7 +2,7 @@
 use Rattle.std.proofs.Common.{◌≡◌, ℕ, ◌≤◌, Some, List, sym, ap, ◌∙◌, subst}
 use Rattle.ceal_base.specs.Trace.{Trace, Nothing, Stepped, Allocated, Wrote, WasRead}
 use Rattle.ceal_base.specs.declared.word.BlockId.TheVariants.{Core}
-use Rattle.ceal_code.proofs.Words.StepLocality.{block-more, word-more, words-more, key-more, set-known, given-known, next-known, next-same, made-same}
+use Rattle.ceal_code.proofs.Words.StepLocality.{block-more, word-more, words-more, key-more, set-known, words_after_read-known, next-known, next-same, made-same}
 use Rattle.ceal_code.proofs.Words.SameIsEqual.{some-same}
 use Rattle.ceal_code.specs.Init.{made, pointer}
 use Rattle.ceal_code.specs.Known.{Subset, Agree, Holds, KnownStack, KnownAct}
@@ -78,7 +78,7 @@ module _ (code : Code) (n : ℕ) (bs : List ℕ) (x z : Plain) (h : Holds n bs x
   uses-yields {st} (Yields.reads {below = below} {p = p} {u = w} {v = v} {args = args} {value = value} e r1 r2) k u =
       let a = knows st (Reads p w v args below) k e in
       Yields.reads (same st (Reads p w v args below) k e)
-      (uses-yields r1 (given-known n bs code w.0 v args value Empty a.1 u.1 tt) u.3)
+      (uses-yields r1 (words_after_read-known n bs code w.0 v args value Empty a.1 u.1 tt) u.3)
       (uses-yields r2 a.2 u.4)
 
 -- they are pieces over all plain words that have more

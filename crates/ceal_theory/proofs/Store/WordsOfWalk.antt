@@ -9,7 +9,7 @@ use Rattle.ceal_base.specs.declared.word.BlockId.{BlockId}
 use Rattle.ceal_base.specs.declared.word.BlockId.TheVariants.{Input, Core}
 use Rattle.ceal_base.specs.declared.word.Word.{Word}
 use Rattle.ceal_base.specs.declared.word.Word.TheVariants.{Num, Null, Block as BlockWord, At}
-use Rattle.ceal_code.proofs.Words.StepLocality.{words-more, stack-more, given-known, made-known, made-same, next-same}
+use Rattle.ceal_code.proofs.Words.StepLocality.{words-more, stack-more, words_after_read-known, made-known, made-same, next-same}
 use Rattle.ceal_code.proofs.Words.SameIsEqual.{block-same, some-same}
 use Rattle.ceal_code.specs.Init.{made}
 use Rattle.ceal_code.specs.Known.{Subset, Held, Holds, KnownStack}
@@ -147,7 +147,7 @@ module _ (code : Code) (inputs : ℕ) where
   walked y {st} (Yields.reads {below = below} {p = p} {u = u} {v = v} {args = args} {value = value} {inside =
       inside} {rest = rest} e r1 r2) bs cs x h ext k (Mentions.step (Mentions.read {ds = ds} mp mv ma m1 m2)) =
       let a = step-y code inputs y bs x st (Reads p u v args below) h ext k e in
-      let q1 = walked y r1 bs ds x h ext (given-known inputs bs code u.0 v args value Empty a.1 mv tt) m1 in
+      let q1 = walked y r1 bs ds x h ext (words_after_read-known inputs bs code u.0 v args value Empty a.1 mv tt) m1 in
       let x' = plain_after code x inside in
       let q2 = walked y r2 ds cs x' q1.holds q1.within (stack-more inputs bs ds (mentions-subset m1) below a.2) m2 in record {
         from = extends-trans x x' (plain_after code x' rest) q1.from q2.from;

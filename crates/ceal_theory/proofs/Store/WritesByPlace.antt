@@ -32,7 +32,7 @@ use Rattle.ceal_theory.specs.FlatMachine.{GoesThrough, flat_machine, passes_all}
 use Rattle.ceal_theory.specs.Known.{Sure, Ready, Knows, KnownItems, GoesKnowing}
 use Rattle.ceal_theory.specs.KnownContent.{allocs, Allocates, written_after, KnownContents}
 use Rattle.ceal_theory.specs.Listed.{ListedLaw}
-use Rattle.ceal_theory.specs.Slices.{Repair, with_inputs, starting, goes_on, Sound}
+use Rattle.ceal_theory.specs.Slices.{Repair, with_inputs, starting, goes_on, RepairHolds}
 use Rattle.ceal_theory.specs.Turns.{Machine, Fixing, Bottom}
 use Rattle.ceal_theory.specs.Walk.{store_after, AgreesAll}
 
@@ -97,7 +97,7 @@ allocates-made : (code : Code) (x : Plain) {b : ℕ} {key : Key} {is : List Item
 allocates-made code x Allocates.here h = h.0
 allocates-made code x (Allocates.there a) h = allocates-made code x a h.1
 
-module _ {names : ℕ → ℕ} (code : Code) (inputs : List Block) (f : ℕ) (args : List Word) (fits : Fits code inputs f args) (r : Repair) (h : Sound code names inputs f args r)
+module _ {names : ℕ → ℕ} (code : Code) (inputs : List Block) (f : ℕ) (args : List Word) (fits : Fits code inputs f args) (r : Repair) (h : RepairHolds code names inputs f args r)
     (front back : List Item) (e : flat r.items ≡ front ++ back) (agrees : AgreesAll code (starting code inputs r.known) front) where
   abbrev x : Plain
   x = with_inputs code inputs r.known

@@ -27,7 +27,7 @@ use Rattle.ceal_theory.specs.Chosen.{Continues, ComesBy, Free, EndedRepair, Ende
 use Rattle.ceal_theory.specs.Laws.{Edited}
 use Rattle.ceal_theory.specs.Named.{Apart, then_from}
 use Rattle.ceal_theory.specs.Repair.{Single, begins}
-use Rattle.ceal_theory.specs.Turns.{Machine, Ended, turn, Resumes, Finishes, Leads, Ends}
+use Rattle.ceal_theory.specs.Turns.{Machine, Ended, turn, Resumes, Finishes, BecomesBy, Ends}
 
 -- a number above all of these
 most : List ℕ → ℕ
@@ -57,11 +57,11 @@ module _ (code : Code) where
   begun m chosen e = record { number = e; leads = λ names h. leads-stays code names m }
 
   more : (start m m' : Machine) (chosen : List ℕ) (out is : List Item) → ComesBy code start m chosen out
-      → ((names : ℕ → ℕ) → Leads code names m m' is) → m'.state.number ≡ m.state.number → ComesBy code start m' chosen (out ++ is)
+      → ((names : ℕ → ℕ) → BecomesBy code names m m' is) → m'.state.number ≡ m.state.number → ComesBy code start m' chosen (out ++ is)
   more start m m' chosen out is c h e = record { number = e ∙ c.number; leads = λ names k. leads-then code names start m m' out is (c.leads names k) (h names) }
 
   numbered : (start m m' : Machine) (chosen : List ℕ) (out is : List Item) → ComesBy code start m chosen out
-      → (b : ℕ) → ((names : ℕ → ℕ) → names m.state.number ≡ b → Leads code names m m' is) → m'.state.number ≡ m.state.number + 1 → ComesBy code start m' (chosen ++ b ∷ []) (out ++ is)
+      → (b : ℕ) → ((names : ℕ → ℕ) → names m.state.number ≡ b → BecomesBy code names m m' is) → m'.state.number ≡ m.state.number + 1 → ComesBy code start m' (chosen ++ b ∷ []) (out ++ is)
   numbered start m m' chosen out is c b h e = record {
     number = e ∙ (ap (λ n. n + 1) c.number ∙ sym (longer chosen));
     leads = λ names k.

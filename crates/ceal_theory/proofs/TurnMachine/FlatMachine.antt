@@ -19,7 +19,7 @@ use Rattle.ceal_theory.proofs.TurnMachine.MachineLaws.{leads-stays, leads-then, 
 use Rattle.ceal_theory.specs.FlatMachine.{GoesThrough, Runs, FlatFrame, Fixes, Mends, GoesOn, frames_of, flat_machine, passes, then_passes, passes_all, FlatMachineLaw}
 use Rattle.ceal_theory.specs.Levels.{levels, loose, beyond, skipped, FoundAlloc, find_alloc, FoundRead, find_read}
 use Rattle.ceal_theory.specs.Repair.{State, clears, puts, works, grows, resumed}
-use Rattle.ceal_theory.specs.Turns.{Machine, Fixing, Bottom, Ended, Went, turn, Resumes, Finishes, Leads}
+use Rattle.ceal_theory.specs.Turns.{Machine, Fixing, Bottom, Ended, Went, turn, Resumes, Finishes, BecomesBy}
 use Rattle.ceal_theory.specs.Walk.{store_after, AgreesAll, with_store, PrefixLaw}
 
 differ : (v w : Word) → ¬ (v ≡ w) → same_word v w ≡ false
@@ -33,7 +33,7 @@ module _ (code : Code) (names : ℕ → ℕ) where
   pub begins : (s : State) (l : Trace) → flat_machine s GoesThrough [] (flat l) ≡ record { state = s; mode = Fixing l; frames = Bottom }
   begins s l = ap (λ t. record { state = s; mode = Fixing t; frames = Bottom }) (first-of-flat l)
 
-  one-item : (m m' m'' : Machine) (i : Item) (is : List Item) → turn code names m ≡ Went (i ∷ []) m' → Leads code names m' m'' is → Leads code names m m'' (i ∷ is)
+  one-item : (m m' m'' : Machine) (i : Item) (is : List Item) → turn code names m ≡ Went (i ∷ []) m' → BecomesBy code names m' m'' is → BecomesBy code names m m'' (i ∷ is)
   one-item m m' m'' i is e h = leads-then code names m m' m'' (i ∷ []) is (leads-turn code names m m' (i ∷ []) e) h
 
   pub read-turn : (s : State) (fs : List FlatFrame) (p : Place) (v : Word) (u : UnitId) (x : ℕ) (args : List Word) (is : List Item) → s.store p ≡ v
@@ -42,10 +42,10 @@ module _ (code : Code) (names : ℕ → ℕ) where
   read-turn s fs p v u x args is e = rw (e, word-refl v) refl
 
   pub stays : (s : State) (fs fs' : List FlatFrame) (front back : List Item) → AgreesAll code s.store front → passes_all front fs ≡ Some fs'
-      → Leads code names (flat_machine s GoesThrough fs (front ++ back)) (flat_machine (with_store s (store_after code s.store front)) GoesThrough fs' back) front
+      → BecomesBy code names (flat_machine s GoesThrough fs (front ++ back)) (flat_machine (with_store s (store_after code s.store front)) GoesThrough fs' back) front
   unfolding turn
   stays s fs fs' [] back h e =
-      subst (λ gs. Leads code names (flat_machine s GoesThrough fs back) (flat_machine s GoesThrough gs back) []) (some-same fs fs' e) (leads-stays code names (flat_machine s GoesThrough fs back))
+      subst (λ gs. BecomesBy code names (flat_machine s GoesThrough fs back) (flat_machine s GoesThrough gs back) []) (some-same fs fs' e) (leads-stays code names (flat_machine s GoesThrough fs back))
   stays s fs fs' (Step ∷ front) back h e =
       one-item (flat_machine s GoesThrough fs (Step ∷ front ++ back)) (flat_machine s GoesThrough fs (front ++ back)) _ Step front refl (stays s fs fs' front back h.1 e)
   stays s fs fs' (Alloc b key ∷ front) back h e =
@@ -146,7 +146,7 @@ module _ (code : Code) (names : ℕ → ℕ) where
   takes-stale-turn s fs st below p u v args n is e f w k = rw (e, take-found-read p u v args is n, w, k, found-beyond-read p u v args is n f w, loose-one (levels f.rest)) refl
 
   -- a machine whose move is known
-  by : (m m' : Machine) (written : List Item) → turn code names m ≡ Went written m' → Leads code names m m' written
+  by : (m m' : Machine) (written : List Item) → turn code names m ≡ Went written m' → BecomesBy code names m m' written
   by = leads-turn code names
 
 pub flat-law : FlatMachineLaw

@@ -10,13 +10,13 @@ use Rattle.ceal_theory.proofs.TurnMachine.TurnKeepsEnd.{at, Kept, Ahead, turn-ke
 use Rattle.ceal_theory.specs.Course.{BareMode, BareFrames}
 use Rattle.ceal_theory.specs.Levels.{FlatTakeLaw, FlatLevelsLaw}
 use Rattle.ceal_theory.specs.Repair.{State, Fix, Anew}
-use Rattle.ceal_theory.specs.Turns.{Fixing, Running, Bottom, AfterMend, Machine, Turn, Ended, Went, turn, Resumes, Finishes, Goes, Leads, TakesTurn, MachineLaw}
+use Rattle.ceal_theory.specs.Turns.{Fixing, Running, Bottom, AfterMend, Machine, Turn, Ended, Went, turn, Resumes, Finishes, Goes, BecomesBy, TakesTurn, MachineLaw}
 
 module _ (code : Code) (names : ℕ → ℕ) where
-  pub leads-stays : (m : Machine) → Leads code names m m []
+  pub leads-stays : (m : Machine) → BecomesBy code names m m []
   leads-stays m = record { back = λ s' rest h. h; ahead = λ s' items h. record { rest = items; same = refl; finishes = h } }
 
-  pub leads-then : (m m' m'' : Machine) (is js : List Item) → Leads code names m m' is → Leads code names m' m'' js → Leads code names m m'' (is ++ js)
+  pub leads-then : (m m' m'' : Machine) (is js : List Item) → BecomesBy code names m m' is → BecomesBy code names m' m'' js → BecomesBy code names m m'' (is ++ js)
   leads-then m m' m'' is js h k = record {
     back = λ s' rest f. rw (append_assoc is js rest) (h.back s' (js ++ rest) (k.back s' rest f));
     ahead = λ s' items f. go s' items (h.ahead s' items f);
@@ -34,7 +34,7 @@ module _ (code : Code) (names : ℕ → ℕ) where
   pub takes-turn : (m : Machine) → TakesTurn code names m (turn code names m)
   takes-turn m = by-turn m (turn code names m) (turn-kept code names m) (λ s' items f. turn-ahead code names f)
 
-  pub leads-turn : (m m' : Machine) (written : List Item) → turn code names m ≡ Went written m' → Leads code names m m' written
+  pub leads-turn : (m m' : Machine) (written : List Item) → turn code names m ≡ Went written m' → BecomesBy code names m m' written
   leads-turn m m' written e = rw e at (takes-turn m)
 
   fixes : (s s' : State) (l : Trace) (items : List Item) → Finishes code names (at s (Fixing l) Bottom) s' items ↔ ((m : Trace) × (items ≡ flat m) × Fix code names s l s' m)

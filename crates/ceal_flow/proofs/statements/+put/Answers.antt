@@ -1,9 +1,9 @@
 use Rattle.std.proofs.Common.{◌≡◌, ◌+◌, ◌<◌, false, true, length, drop, sym, ◌∙◌, ap, arith, rules, refl, [], drop_of_length-le}
 use Rattle.std.proofs.lemmas.List.{take_rest, append-nil}
 use Rattle.ceal_base.specs.declared.typed.TypedStmt.{the_lemmas}
-use Rattle.ceal_flow.specs.Blocks.{size, sizes, goes_on}
+use Rattle.ceal_flow.specs.Blocks.{size, sizes, may_continue}
 use Rattle.ceal_flow.proofs.BlockSteps.{size-if, size-while, sizes-drop, blocks-return, blocks-break, blocks-continue, on-nil, all-nil}
-use Rattle.ceal_flow.proofs.PutSteps.{put-if, put-while, put-next, put-last, all_go_on-drop, length-push, length-more, length-one}
+use Rattle.ceal_flow.proofs.PutSteps.{put-if, put-while, put-next, put-last, all_may_continue-drop, length-push, length-more, length-one}
 use Rattle.ceal_flow.proofs.statements.+put.Goals as goal
 
 pub put_stmt-put_stmts-requires : goal.put_stmt-put_stmts-requires
@@ -86,7 +86,7 @@ put_stmts-returns-then-not-branch-clause-blocks t c =
     let within : c.loop-i.i < length c.args.stmts.now = omega arith in
     let next_is = rw (take_rest, c.size_of.ensures.value, c.next_number.ensures.value) at c.entry_of-next.ensures.value in
     let rest_is = rw take_rest at c.sizes_of.ensures.value in
-    let off : goes_on c.index-stmts-i.result ≡ false = sym c.in_ok-put_stmt.ensures.on ∙ c.if-not-branch.true in
+    let off : may_continue c.index-stmts-i.result ≡ false = sym c.in_ok-put_stmt.ensures.on ∙ c.if-not-branch.true in
     c.in_ok-leave_out.ensures ∙ rw rest_is
     (put-last c.args.stmts.now c.loop-i.i c.index-stmts-i.result c.loop-i.blocks.items c.put_stmt.new.blocks.items _ _ _ _ c.index-stmts-i.is within
     next_is c.in_ok-put_stmt.ensures.blocks off c.loop-i.invariant.blocks)
@@ -94,8 +94,8 @@ put_stmts-returns-then-not-branch-clause-blocks t c =
 pub put_stmts-returns-then-not-branch-clause-on : goal.put_stmts-returns-then-not-branch-clause-on
 put_stmts-returns-then-not-branch-clause-on t c =
     let within : c.loop-i.i < length c.args.stmts.now = omega arith in
-    let off : goes_on c.index-stmts-i.result ≡ false = sym c.in_ok-put_stmt.ensures.on ∙ c.if-not-branch.true in
-    let here = rw off at (all_go_on-drop c.args.stmts.now c.loop-i.i c.index-stmts-i.result c.index-stmts-i.is within) in
+    let off : may_continue c.index-stmts-i.result ≡ false = sym c.in_ok-put_stmt.ensures.on ∙ c.if-not-branch.true in
+    let here = rw off at (all_may_continue-drop c.args.stmts.now c.loop-i.i c.index-stmts-i.result c.index-stmts-i.is within) in
     sym here ∙ c.loop-i.invariant.on
 
 pub put_stmts-loop-i-preserved : goal.put_stmts-loop-i-preserved
@@ -106,12 +106,12 @@ put_stmts-loop-i-preserved t c =
     let one : length c.put_stmt.new.blocks.items ≡ length c.loop-i.blocks.items + size c.index-stmts-i.result =
     length-one _ _ _ _ _ _ c.in_ok-put_stmt.ensures.blocks in
     let next_is = rw (take_rest, c.size_of.ensures.value, c.next_number.ensures.value) at c.entry_of-next.ensures.value in
-    let go : goes_on c.index-stmts-i.result ≡ true = sym c.in_ok-put_stmt.ensures.on ∙ c.if-not-branch.false in
+    let go : may_continue c.index-stmts-i.result ≡ true = sym c.in_ok-put_stmt.ensures.on ∙ c.if-not-branch.false in
     record {
       room = omega (arith, here, one, c.loop-i.invariant.room);
       blocks = put-next c.args.stmts.now c.loop-i.i c.index-stmts-i.result c.loop-i.blocks.items c.put_stmt.new.blocks.items _ _ _ _ c.index-stmts-i.is within
           next_is c.in_ok-put_stmt.ensures.blocks go c.loop-i.invariant.blocks;
-      on = sym (rw go at (all_go_on-drop c.args.stmts.now c.loop-i.i c.index-stmts-i.result c.index-stmts-i.is within)) ∙ c.loop-i.invariant.on;
+      on = sym (rw go at (all_may_continue-drop c.args.stmts.now c.loop-i.i c.index-stmts-i.result c.index-stmts-i.is within)) ∙ c.loop-i.invariant.on;
     }
 
 pub put_stmts-returns-clause-blocks : goal.put_stmts-returns-clause-blocks

@@ -1,11 +1,11 @@
 use Rattle.std.proofs.Common.{◌≡◌}
 use Rattle.ceal_code.specs.Stacks.{stack_in, aside_in, left_in}
-use Rattle.ceal_code.specs.Step.{settled}
+use Rattle.ceal_code.specs.Step.{stack_after_quiet}
 use Rattle.ceal_code.proofs.stack.Stack.settle.Given as goal
 
 abbrev pub invariant-loop-self : goal.invariant-loop-self
 invariant-loop-self g l = record {
-  same : settled l.code (g.P.PlainWords.plain l.plain) (stack_in l.self) ≡ settled l.code (g.P.PlainWords.plain l.plain) (stack_in l.initial.self);
+  same : stack_after_quiet l.code (g.P.PlainWords.plain l.plain) (stack_in l.self) ≡ stack_after_quiet l.code (g.P.PlainWords.plain l.plain) (stack_in l.initial.self);
   aside : aside_in l.self ≡ aside_in l.initial.self;
 }
 
