@@ -1,8 +1,8 @@
 // A list that the program made, walked from its first cell to its last one. Each call of the engine comes after the test
 // of what it requires.
 
-ghost use Rattle.std.specs.Prelude.{◌≡◌, ◌≤◌, ◌×◌, ℤ, List, Some, None, true, length, IfOk, IfErr, IsOk, is_some};
-ghost use Rattle.ceal_embedding.specs.Lists.{held as held_in, number_in, is_cell as is_cell_in, tail_of, IsList, sum_of};
+ghost use Rattle.std.specs.Prelude.{◌≡◌, ◌≤◌, ℤ, List, Some, length, IfOk, IfErr, IfSome, IsOk, IsSome};
+ghost use Rattle.ceal_embedding.specs.Lists.{held as held_in, number_in, is_cell as is_cell_in, tail_of, IsList, IsListFrom, sum_of as total};
 ghost use Rattle.ceal_engine.specs.Engine.{block_in};
 ghost use Rattle.ceal_engine.specs.declared.phase.Phase.TheVariants.{Finished};
 
@@ -75,7 +75,7 @@ fn cell(engine: &Engine, cell: BlockId) -> Option<(i64, Word)>
 /// The sum of the numbers of a list, if it has at most so many cells: it may be a cycle.
 pub fn sum(engine: &Engine, list: Place, most: u32) -> Result<i64, Trouble>
     ensures sum { IfOk result (λ sum. (numbers : List ℤ) ×
-        IsList engine.now list numbers × (sum ≡ sum_of numbers)) }
+        IsList engine.now list numbers × (sum ≡ total numbers)) }
     ensures refused { IfErr result (λ trouble. trouble ≡ Trouble.Refused) }
     ensures sure { (numbers : List ℤ) → engine.now.phase ≡ Finished
         → IsList engine.now list numbers → length numbers ≤ most → IsOk result }
@@ -93,7 +93,7 @@ pub fn sum(engine: &Engine, list: Place, most: u32) -> Result<i64, Trouble>
 fn sum_of(engine: &Engine, first: Word, most: u32) -> Result<i64, Trouble>
     requires finished { engine.now.phase ≡ Finished }
     ensures sum { IfOk result (λ sum. (numbers : List ℤ) ×
-        IsListFrom engine.now first numbers × (sum ≡ sum_of numbers)) }
+        IsListFrom engine.now first numbers × (sum ≡ total numbers)) }
     ensures refused { IfErr result (λ trouble. trouble ≡ Trouble.Refused) }
     ensures sure { (numbers : List ℤ) → IsListFrom engine.now first numbers
         → length numbers ≤ most → IsOk result }
@@ -112,8 +112,8 @@ fn sum_of(engine: &Engine, first: Word, most: u32) -> Result<i64, Trouble>
         word = tail;
         left -= 1;
     }
-    if word != Word::Null {
-        return Err(Trouble::Refused);
+    match word {
+        Word::Null => Ok(sum),
+        _ => Err(Trouble::Refused),
     }
-    Ok(sum)
 }

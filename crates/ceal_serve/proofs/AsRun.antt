@@ -17,7 +17,7 @@ use Rattle.ceal_cli.specs.Output.{IsAnswer, IsRefusal, first_state}
 use Rattle.ceal_cli.specs.declared.words.Mode.TheVariants.{Run}
 use Rattle.ceal_cli.proofs.Inputs.OneReading.{SplitLaw}
 use Rattle.ceal_cli.proofs.Inputs.OtherScript.{comes-again}
-use Rattle.ceal_serve.specs.Laws.{ServedLaw, TurnedAwayLaw}
+use Rattle.ceal_serve.specs.Laws.{ServedLaw, TurnedAwayLaw, PlacedLaw}
 use Rattle.ceal_serve.specs.Turns.{IsServed, IsTurnedAway}
 use Rattle.ceal_serve.proofs.Marks.{first-of-longer}
 
@@ -141,9 +141,9 @@ same-line : (head more : List ℕ) (fault : Fault) → fault.span.from ≤ lengt
 same-line head more fault within =
     ap (λ (before : List ℕ). fault_text fault.code (line_after before) (column_after before)) (take-front fault.span.from head more within)
 
-pub turned-away-as-run : SplitLaw → TurnedAwayLaw
+pub turned-away-as-run : SplitLaw → PlacedLaw → TurnedAwayLaw
 unfolding comes-longer
-turned-away-as-run law fuel ended text more said small h over within = (tt, inl (h.fault, first, line))
+turned-away-as-run law placed fuel ended text more said small h over = (tt, inl (h.fault, first, line))
   where
     whole : text ++ more ≡ h.parts.head ++ (h.parts.script ++ more)
     whole = ap (λ (l : List ℕ). l ++ more) h.parts.whole ∙ append_assoc h.parts.head h.parts.script more
@@ -157,4 +157,4 @@ turned-away-as-run law fuel ended text more said small h over within = (tt, inl 
     ]
 
     line : said ≡ fault_line (text ++ more) h.fault
-    line = h.line ∙ sym (ap (λ (t : List ℕ). fault_line t h.fault) whole ∙ same-line h.parts.head (h.parts.script ++ more) h.fault within)
+    line = h.line ∙ sym (ap (λ (t : List ℕ). fault_line t h.fault) whole ∙ same-line h.parts.head (h.parts.script ++ more) h.fault (placed h.parts.head h.fault h.first))
