@@ -16,8 +16,8 @@ module _ (e : EngineState) where
   unfolding IsListFrom
   longer word tail cell n ns is number next list = (cell, tail, is, number, next, list)
 
-  -- what is behind the first cell of a list
-  pub record Behind (cell : BlockId) (ns : List ℤ) : Type 0 where
+  -- what comes after the first cell of a list
+  pub record After (cell : BlockId) (ns : List ℤ) : Type 0 where
     pub number : ℤ
     pub rest : List ℤ
     pub tail : Word
@@ -26,16 +26,13 @@ module _ (e : EngineState) where
     pub has_tail : held e (tail_of cell) ≡ Some tail
     pub list : IsListFrom e tail rest
 
-  same-block : (a b : BlockId) → BlockWord a ≡ BlockWord b → b ≡ a
-  same-block a b h = cc
-
-  pub behind : (word : Word) (cell : BlockId) (ns : List ℤ) → word ≡ BlockWord cell → IsListFrom e word ns → Behind cell ns
+  pub after : (word : Word) (cell : BlockId) (ns : List ℤ) → word ≡ BlockWord cell → IsListFrom e word ns → After cell ns
   unfolding IsListFrom
-  behind word cell [] is h = absurd (none h is)
+  after word cell [] is h = absurd (none h is)
     where
       none : word ≡ Null → word ≡ BlockWord cell → ⊥
       none a b = cc
-  behind word cell (n ∷ ns) is h = record {
+  after word cell (n ∷ ns) is h = record {
     number = n;
     rest = ns;
     tail = h.1;

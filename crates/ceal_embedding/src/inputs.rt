@@ -12,7 +12,11 @@ use ceal_engine::engine::Engine;
 pub fn add_leaves(engine: &mut Engine, size: u32) -> Result<(), Trouble> {
     for number in 0..size {
         let leaf = Word::Num(2 * number as i64 + 1);
-        add(engine, Shape::Struct(0), &[Word::Num(0), leaf, Word::Null, Word::Null])?;
+        add(
+            engine,
+            Shape::Struct(0),
+            &[Word::Num(0), leaf, Word::Null, Word::Null],
+        )?;
     }
     Ok(())
 }
@@ -25,7 +29,11 @@ pub fn add_nodes(engine: &mut Engine, size: u32) -> Result<(), Trouble>
         let operator = Word::Num((1 + number % 3) as i64);
         let left = Word::Block(BlockId::Input(2 * number));
         let right = Word::Block(BlockId::Input(2 * number + 1));
-        add(engine, Shape::Struct(0), &[operator, Word::Num(0), left, right])?;
+        add(
+            engine,
+            Shape::Struct(0),
+            &[operator, Word::Num(0), left, right],
+        )?;
     }
     Ok(())
 }

@@ -23,7 +23,7 @@ pub enum Job {
     Expression,
     /// each number of a list times ten, and a cell taken out or put back
     Map,
-    /// one modifiable that is read so many times, and its number changed
+    /// one modifiable that has as many readers as the size says, and its number changed
     Readers,
     /// the same, and an edit to the number that is there
     Same,
@@ -181,7 +181,11 @@ fn run_tree(engine: &mut Engine, size: u32) -> Result<(), Trouble>
     add_nodes(engine, size)?;
     add(engine, Shape::ModInt, &[Word::Num(0)])?;
     let root = BlockId::Input(2 * size - 2);
-    call(engine, 0, &[Word::Block(root), Word::At(input(2 * size - 1))])
+    call(
+        engine,
+        0,
+        &[Word::Block(root), Word::At(input(2 * size - 1))],
+    )
 }
 
 /// Runs the program on a list and a result.
@@ -191,9 +195,17 @@ fn run_list(engine: &mut Engine, size: u32) -> Result<(), Trouble>
     ensures finished { OnOk result (engine.new.phase ≡ Finished) }
 {
     add_cells(engine, size)?;
-    add(engine, Shape::ModPtr(0), &[Word::Block(BlockId::Input(size - 1))])?;
+    add(
+        engine,
+        Shape::ModPtr(0),
+        &[Word::Block(BlockId::Input(size - 1))],
+    )?;
     add(engine, Shape::ModPtr(0), &[Word::Null])?;
-    call(engine, 0, &[Word::At(input(size)), Word::At(input(size + 1))])
+    call(
+        engine,
+        0,
+        &[Word::At(input(size)), Word::At(input(size + 1))],
+    )
 }
 
 /// Runs the program on the modifiable that is read, and the one that asks for a write.
@@ -207,7 +219,7 @@ fn run_readers(engine: &mut Engine, size: u32) -> Result<(), Trouble>
     call(engine, 0, &[Word::At(input(0)), Word::At(input(1)), count])
 }
 
-/// One of so many places, another one for each number.
+/// A place below this number of places; it depends on the other number.
 pub fn spread(number: u32, places: u32) -> u32
     requires some { 0 < places }
     ensures below { result < places }

@@ -1,6 +1,7 @@
-//! Small programs that embed CEAL as a library, as its users would write them: `order` keeps a session and speaks to it
-//! by the lines of a script; `square` drives an engine by calls, with code compiled from a text; `countdown` makes a list,
-//! which `walk` walks. `docs/LIBRARY.md` goes through them. With words the program carries out a job that is measured.
+//! Small programs that embed CEAL as a library, as its users would write them: `order` keeps a session and speaks to
+//! it by the lines of a script; `square` drives an engine by calls, with code compiled from a text; `countdown` makes a
+//! list, which `walk` walks. `docs/LIBRARY.md` goes through them. With words the program carries out a job that is
+//! measured.
 #![tactic(auto)]
 
 ghost use Rattle.ceal_embedding.specs.Sizes.{IsSize};
@@ -116,9 +117,11 @@ fn print_measured(rt: &HostRuntime, words: &[String]) -> Result<(), Trouble> {
     let [name, size, edits] = words else {
         return print_usage(rt);
     };
-    let (Some(task), Some(size), Ok(edits)) =
-        (measured::task(name), measured::size(size), edits.parse::<u32>())
-    else {
+    let (Some(task), Some(size), Ok(edits)) = (
+        measured::task_of(name),
+        measured::size(size),
+        edits.parse::<u32>(),
+    ) else {
         return print_usage(rt);
     };
     match task {
@@ -140,7 +143,11 @@ fn print_job(rt: &HostRuntime, job: Job, size: u32, edits: u32) -> Result<(), Tr
     let before = measured::looked(&engine);
     let told = measured::edit_all(&mut engine, job, size, edits);
     let looks = measured::looked(&engine).saturating_sub(before);
-    let work = if engine.phase() == Phase::Finished { engine.work() } else { 0 };
+    let work = if engine.phase() == Phase::Finished {
+        engine.work()
+    } else {
+        0
+    };
     drop(engine);
     told?;
     println!(rt; "looks {looks}, work {work}")?;

@@ -31,7 +31,7 @@ pub fn size(word: &str) -> Option<u32>
 }
 
 /// The task of a word.
-pub fn task(word: &str) -> Option<Task> {
+pub fn task_of(word: &str) -> Option<Task> {
     if word == "session" {
         return Some(Task::Session);
     }

@@ -7,7 +7,7 @@ use ceal_compile::compile::compile;
 use ceal_session::session::Session;
 use std::alloc::Global;
 
-/// A session with a finished run over a list of so many cells. A run may take as many steps as there can be.
+/// A session with a finished run over a list of this size. A run may take as many steps as there can be.
 pub fn open(alloc: Global, size: u32) -> Result<Session, Trouble> {
     let program = compile(alloc, MAP)?;
     let mut session = Session::new(alloc, program, 4_194_304)?;

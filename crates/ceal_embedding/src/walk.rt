@@ -1,8 +1,9 @@
-// A list that the program made, walked from its first cell to its last one. Each call of the engine comes after the test
-// of what it requires.
+// A list that the program made, walked from its first cell to its last one. Each call of the engine comes after the
+// test of what it requires.
 
 ghost use Rattle.std.specs.Prelude.{◌≡◌, ◌≤◌, ℤ, List, Some, length, IfOk, IfErr, IfSome, IsOk, IsSome};
-ghost use Rattle.ceal_embedding.specs.Lists.{held as held_in, number_in, is_cell as is_cell_in, tail_of, IsList, IsListFrom, sum_of as total};
+ghost use Rattle.ceal_embedding.specs.Lists.{held as held_in, number_in, is_cell as is_cell_in, tail_of};
+ghost use Rattle.ceal_embedding.specs.Lists.{IsList, IsListFrom, sum_of as total};
 ghost use Rattle.ceal_engine.specs.Engine.{block_in};
 ghost use Rattle.ceal_engine.specs.declared.phase.Phase.TheVariants.{Finished};
 
@@ -72,7 +73,7 @@ fn cell(engine: &Engine, cell: BlockId) -> Option<(i64, Word)>
     Some((number, tail))
 }
 
-/// The sum of the numbers of a list, if it has at most so many cells: it may be a cycle.
+/// The sum of the numbers of a list, which may be a cycle: there is a limit to its cells.
 pub fn sum(engine: &Engine, list: Place, most: u32) -> Result<i64, Trouble>
     ensures sum { IfOk result (λ sum. (numbers : List ℤ) ×
         IsList engine.now list numbers × (sum ≡ total numbers)) }

@@ -1,12 +1,12 @@
 use Rattle.std.proofs.Common.{◌≡◌, ◌≤◌, ◌∙◌, ℤ, List, Some, None, length, refl, sym, ap, arith, IsSome}
 use Rattle.ceal_embedding.specs.Lists.{IsListFrom, sum_from}
-use Rattle.ceal_embedding.proofs.Walked.{behind, empty, ends, longer, not-none, some-of, same-tail, wraps}
+use Rattle.ceal_embedding.proofs.Walked.{after, empty, ends, longer, not-none, some-of, same-tail, wraps}
 use Rattle.ceal_embedding.proofs.walk.sum_of.Goals as goal
 
 pub returns-then-left-eq0-clause-sure : goal.returns-then-left-eq0-clause-sure
 returns-then-left-eq0-clause-sure c = λ numbers list short.
     let rest = c.loop-word.invariant.sure numbers list short in
-    let more = behind _ _ _ _ c.in-Block.is rest.1 in
+    let more = after _ _ _ _ c.in-Block.is rest.1 in
     let size = ap length more.same in
     let few = rest.2 in
     let none = c.if-left-eq0.true in
@@ -15,7 +15,7 @@ returns-then-left-eq0-clause-sure c = λ numbers list short.
 pub returns-in_default-cell-clause-sure : goal.returns-in_default-cell-clause-sure
 returns-in_default-cell-clause-sure c = λ numbers list short.
     let rest = c.loop-word.invariant.sure numbers list short in
-    let more = behind _ _ _ _ c.in-Block.is rest.1 in
+    let more = after _ _ _ _ c.in-Block.is rest.1 in
     let there = c.cell.ensures.sure (some-of more.has_number) (some-of more.has_tail) in
     absurd (not-none c.cell.result c.in_default-cell.is there)
 
@@ -26,7 +26,7 @@ loop-word-preserved c = record {
       (found.0, found.1, sym (ap (λ (s : ℤ). sum_from s rest) (wraps _ c.in-Some.number c.loop-word.auto.sum)) ∙ found.2);
   sure = λ numbers list short.
       let rest = c.loop-word.invariant.sure numbers list short in
-      let more = behind _ _ _ _ c.in-Block.is rest.1 in
+      let more = after _ _ _ _ c.in-Block.is rest.1 in
       let size = ap length more.same in
       let few = rest.2 in
       (more.rest, same-tail _ _ _ _ _ more.has_tail c.in-Some.ensures.tail more.list, omega (arith, size, few));
