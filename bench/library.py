@@ -7,8 +7,8 @@
     bench/library.py EMBEDDING SERVER    for other builds of crates/ceal_embedding and crates/ceal_serve
 
 Instructions are counted by valgrind (bench/counting.py), and looks by the program itself; both are the same on a busy machine. Times
-are measured where the machine is idle (bench/seconds.py says what that is), and else left out. It takes some twelve minutes, of which
-the first two are for times.
+are measured where the machine is idle (bench/seconds.py says what that is), and else left out. It takes some four minutes on an idle
+machine.
 """
 import os, pathlib, re, statistics, subprocess, sys, time
 
@@ -122,7 +122,7 @@ def server_time(bench, size):
 def turn_rows(bench, sizes):
     for size in sizes:
         served = server_time(bench, size) if bench.is_idle else ''
-        session = bench.timed('session', size, TURNS // 2)
+        session = bench.timed('session', size, 20_000)
         _, update = bench.counted('session', size, 200)
         yield ['`Session::command`, two lines', f'{size:,}', f'{update:,.0f}', *([session] if bench.is_idle else [])]
         told = [f'{2 * float(served.split()[0]):.1f} µs'] if bench.is_idle else []
@@ -140,8 +140,8 @@ def section(bench, is_quick):
 Counted instructions of the whole process without edits (it compiles the source text, makes the inputs and runs), and of one update. {when}
 
 {table(head, jobs)}
-Edits that change nothing that the n readers see: {'; '.join(f'*{job}* is {IDLE[job][0]}' for job in IDLE)}. Their looks and their cost do not grow
-with the readers.
+Edits that change nothing that the n readers see: {'; '.join(f'*{job}* is {IDLE[job][0]}' for job in IDLE)}. Their looks do not
+grow with the readers, and their instructions only with the logarithm of their number.
 
 {table(head, idle)}
 An update by lines, `set` and `propagate`, over the list of *map*, each with its reply. By an engine the same update is the one of the first table.
