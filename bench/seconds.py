@@ -32,7 +32,12 @@ def told(times, less=None, over=1):
     value = (statistics.median(times) - (statistics.median(less) if less else 0)) / over
     spread = (max(times) - min(times) + (max(less) - min(less) if less else 0)) / 2 / over
     unit, scale = next((it for it in (('s', 1), ('ms', 1e-3), ('µs', 1e-6)) if value >= it[1]), ('µs', 1e-6))
-    return f'{value / scale:.3g} {unit} ± {spread / scale:.2g}' if value > spread else f'less than {spread / scale:.2g} {unit}'
+    return f'{short(value / scale, 3)} {unit} ± {short(spread / scale, 2)}' if value > spread else f'less than {short(spread / scale, 2)} {unit}'
+
+
+def short(number, digits):
+    """A number with so many digits that count, and no exponent."""
+    return f'{number:.0f}' if number >= 10 ** (digits - 1) else f'{number:.{digits}g}'
 
 
 def rows_of(program):

@@ -49,7 +49,7 @@ pub fn update(session: &mut Session, line: &[u8]) -> Result<(), Trouble> {
 }
 
 /// A line that has to be answered `ok`.
-fn change(session: &mut Session, line: &[u8]) -> Result<(), Trouble> {
+pub fn change(session: &mut Session, line: &[u8]) -> Result<(), Trouble> {
     let reply = ask(session, line)?;
     let done = reply.items() == b"ok\n".as_slice();
     drop(reply);

@@ -7,6 +7,7 @@ ghost use Rattle.ceal_embedding.specs.declared.trouble.Trouble.TheVariants.{Memo
 use ceal_base::fault::FrontError;
 use ceal_base::no_memory::NoMemory;
 use ceal_engine::run_error::RunError;
+use std::alloc::AllocError;
 use std::io;
 use thiserror::Error;
 
@@ -29,6 +30,14 @@ impl From<NoMemory> for Trouble {
     ghost from_gives = { λ _ trouble. trouble ≡ Memory };
 
     fn from(_error: NoMemory) -> Trouble {
+        Trouble::Memory
+    }
+}
+
+impl From<AllocError> for Trouble {
+    ghost from_gives = { λ _ trouble. trouble ≡ Memory };
+
+    fn from(_error: AllocError) -> Trouble {
         Trouble::Memory
     }
 }

@@ -1,5 +1,5 @@
 -- What is said is what `ceal run` writes.
-use Rattle.std.proofs.Common.{◌≡◌, ◌⊎◌, inl, inr, zero, suc, ◌+◌, ◌<◌, ◌≤◌, ◌^◌, ℕ, Bool, true, false, Result, Err}
+use Rattle.std.proofs.Common.{◌≡◌, inl, inr, zero, suc, ◌+◌, ◌<◌, ◌≤◌, ◌^◌, ℕ, Bool, true, Result, Err}
 use Rattle.std.proofs.Common.{List, [], ◌∷◌, ◌++◌, length, take, drop, refl, sym, ap, ◌∙◌, subst, append_assoc}
 use Rattle.std.proofs.Common.{append-nil, length-append, arith}
 use Rattle.std.proofs.Math.Seq.{take-append_seam}
@@ -8,17 +8,17 @@ use Rattle.ceal_base.specs.declared.fault.Span.{Span}
 use Rattle.ceal_base.specs.declared.typed.Typed.{Typed}
 use Rattle.ceal_compile.specs.FaultLine.{fault_line, fault_text, line_after, column_after}
 use Rattle.ceal_compile.specs.Source.{Comes}
-use Rattle.ceal_lex.specs.Parts.{IsBeforeLine, IsMarked, IsSplit, HasMark, HasFirstMark, PartsAre, source_of}
+use Rattle.ceal_lex.specs.Parts.{IsBeforeLine, IsMarked, IsSplit, HasMark, PartsAre, source_of}
 use Rattle.ceal_lex.specs.Tokens.{span}
 use Rattle.ceal_lex.specs.declared.parts.Split.{Split}
 use Rattle.ceal_session.specs.Replies.{IsReplied}
 use Rattle.ceal_cli.specs.Lines.{script_of, script_lines}
-use Rattle.ceal_cli.specs.Output.{IsAnswer, IsRefusal, first_state}
+use Rattle.ceal_cli.specs.Output.{IsAnswer, first_state}
 use Rattle.ceal_cli.specs.declared.words.Mode.TheVariants.{Run}
 use Rattle.ceal_cli.proofs.Inputs.OneReading.{SplitLaw}
 use Rattle.ceal_cli.proofs.Inputs.OtherScript.{comes-again}
-use Rattle.ceal_serve.specs.Laws.{ServedLaw, TurnedAwayLaw}
-use Rattle.ceal_serve.specs.Turns.{IsServed, IsTurnedAway}
+use Rattle.ceal_serve.specs.Laws.{ServedLaw, TurnedAwayLaw, PlacedLaw}
+use Rattle.ceal_serve.specs.Turns.{IsServed}
 use Rattle.ceal_serve.proofs.Marks.{first-of-longer}
 
 drop-length : (n : ℕ) (xs : List ℕ) → n ≤ length xs → length (drop n xs) + n ≡ length xs
@@ -141,9 +141,9 @@ same-line : (head more : List ℕ) (fault : Fault) → fault.span.from ≤ lengt
 same-line head more fault within =
     ap (λ (before : List ℕ). fault_text fault.code (line_after before) (column_after before)) (take-front fault.span.from head more within)
 
-pub turned-away-as-run : SplitLaw → TurnedAwayLaw
+pub turned-away-as-run : SplitLaw → PlacedLaw → TurnedAwayLaw
 unfolding comes-longer
-turned-away-as-run law fuel ended text more said small h over within = (tt, inl (h.fault, first, line))
+turned-away-as-run law placed fuel ended text more said small h over = (tt, inl (h.fault, first, line))
   where
     whole : text ++ more ≡ h.parts.head ++ (h.parts.script ++ more)
     whole = ap (λ (l : List ℕ). l ++ more) h.parts.whole ∙ append_assoc h.parts.head h.parts.script more
@@ -157,4 +157,4 @@ turned-away-as-run law fuel ended text more said small h over within = (tt, inl 
     ]
 
     line : said ≡ fault_line (text ++ more) h.fault
-    line = h.line ∙ sym (ap (λ (t : List ℕ). fault_line t h.fault) whole ∙ same-line h.parts.head (h.parts.script ++ more) h.fault within)
+    line = h.line ∙ sym (ap (λ (t : List ℕ). fault_line t h.fault) whole ∙ same-line h.parts.head (h.parts.script ++ more) h.fault (placed h.parts.head h.fault h.first))

@@ -7,7 +7,7 @@ use Rattle.std.specs.List.{position_or_len}
 use Rattle.std.proofs.lemmas.List.Quantifiers.{position-Some}
 use Rattle.std.proofs.lemmas.List.{drop_more}
 use Rattle.std.proofs.lemmas.List.Sums.{fails_before_first}
-use borrow.Author.Tests.{ltb-true, ltb-false}
+use borrow.Author.Tests.{ltb-false}
 use Rattle.ceal_cli.specs.Lines.{pieces_of, lines_of, script_lines, without_return}
 use Rattle.ceal_serve.specs.Listening.{HasLine}
 use Rattle.ceal_serve.specs.Turns.{IsOneLine}

@@ -1,5 +1,5 @@
 -- Replies to lines, one after another, and what is said for a text.
-use Rattle.std.proofs.Common.{◌≡◌, ◌⊎◌, inl, inr, suc, ◌+◌, ℕ, Bool, true, false, Option, Some, None, Result, List, []}
+use Rattle.std.proofs.Common.{◌≡◌, ◌⊎◌, inl, inr, suc, ◌+◌, ℕ, true, false, Option, Some, Result, List, []}
 use Rattle.std.proofs.Common.{◌∷◌, ◌++◌, length, take, drop, refl, sym, ap, ◌∙◌, subst, append_assoc, append-nil, arith}
 use Rattle.std.proofs.Common.{option_map}
 use Rattle.std.specs.Prelude.{IfSome, OnErr}

@@ -1,15 +1,15 @@
 -- The head of a text.
-use Rattle.std.proofs.Common.{◌≡◌, ◌⊎◌, inl, inr, ◌+◌, ◌<◌, ◌^◌, ℕ, Bool, true, false, Result, List, [], ◌∷◌, ◌++◌, length, drop, refl, sym, ap, ◌∙◌, subst, append_assoc, append-nil, arith}
+use Rattle.std.proofs.Common.{◌≡◌, ◌⊎◌, inl, inr, ◌<◌, ◌^◌, ℕ, Bool, true, false, Result, List, [], ◌∷◌, ◌++◌, length, drop, refl, sym, ap, ◌∙◌, subst, append_assoc, append-nil, arith}
 use Rattle.ceal_base.specs.declared.fault.Fault.{Fault}
 use Rattle.ceal_base.specs.declared.fault.Span.{Span}
 use Rattle.ceal_base.specs.declared.typed.Typed.{Typed}
 use Rattle.ceal_compile.specs.Source.{Comes}
-use Rattle.ceal_lex.specs.Parts.{IsBeforeLine, IsLine, IsMarked, IsUnmarked, IsSplit, HasMark, HasFirstMark, PartsAre}
+use Rattle.ceal_lex.specs.Parts.{IsBeforeLine, IsLine, IsSplit, HasMark, HasFirstMark, PartsAre}
 use Rattle.ceal_lex.specs.Tokens.{span}
 use Rattle.ceal_lex.specs.declared.parts.Split.{Split}
 use Rattle.ceal_cli.specs.Lines.{script_of}
 use Rattle.ceal_serve.specs.Listening.{IsMarkedSource, IsOpenSource}
-use Rattle.ceal_serve.specs.Turns.{IsHead, IsOneLine}
+use Rattle.ceal_serve.specs.Turns.{IsHead}
 use Rattle.ceal_serve.proofs.Marks.{first-mark, no-feed-in, placed-mark}
 
 drop-all : (xs : List ℕ) → drop (length xs) xs ≡ []

@@ -2,7 +2,6 @@
 use Rattle.std.proofs.Common.{◌≡◌, inl, inr, ℕ, ◌+◌, ◌<◌, ◌≤◌, Option, Some, None, Result, Ok, Err, List, [], ◌∷◌, ◌++◌, length, drop, length-append, ◌∙◌, refl, sym, ap, subst, arith}
 use Rattle.std.specs.Prelude.{IfOk, IsErrAnd, OnErr, IsErrOf, MatchOption}
 use Rattle.std.proofs.lemmas.Bool.{cases_lt}
-use Rattle.ceal_io.specs.Streams.{Rose}
 use Rattle.ceal_serve.specs.Exchange.{Exchange}
 use Rattle.ceal_serve.specs.Listening.{Hears, HearsEnd, HearsLine, HearsMore, HearsSome, HasLine}
 use Rattle.ceal_serve.specs.Troubles.{IsCounted}

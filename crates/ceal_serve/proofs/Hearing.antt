@@ -1,11 +1,11 @@
 -- What was heard, piece after piece.
-use Rattle.std.proofs.Common.{◌≡◌, ℕ, zero, suc, ◌<◌, ◌≤◌, Bool, true, false, Option, Some, None, Result, Ok, Err, List}
+use Rattle.std.proofs.Common.{◌≡◌, ℕ, zero, suc, ◌<◌, ◌≤◌, Option, Some, None, Result, Ok, Err, List}
 use Rattle.std.proofs.Common.{[], ◌∷◌, ◌++◌, length, take, drop, take-append-drop, refl, sym, ap, ◌∙◌, subst}
 use Rattle.std.proofs.Common.{append_assoc, append-nil, arith, option_map}
 use Rattle.std.specs.Prelude.{IfSome, OnErr}
 use Rattle.ceal_cli.specs.Output.{IsPrefix}
 use Rattle.ceal_serve.specs.Exchange.{Exchange, Says, SaysPrefix, hearing, saying}
-use Rattle.ceal_serve.specs.Listening.{IsCaughtUp, Hears, HearsEnd, HearsLine, HearsMore, HearsSome, HasLine, heard_end, heard_more}
+use Rattle.ceal_serve.specs.Listening.{IsCaughtUp, Hears, HearsEnd, HearsMore, HearsSome, heard_end, heard_more}
 use Rattle.ceal_serve.specs.Turns.{IsOneLine, IsTurn}
 
 pub more-twice : (o : Option Exchange) (a b : List ℕ) → option_map (heard_more b) (option_map (heard_more a) o) ≡ option_map (heard_more (a ++ b)) o

@@ -11,4 +11,5 @@ mod Opening
 -- words
 mod Asked
 -- and `ceal run`
+mod Places
 mod AsRun

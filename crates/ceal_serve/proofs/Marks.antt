@@ -1,5 +1,5 @@
 -- Where the mark of a text is, line after line.
-use Rattle.std.proofs.Common.{◌≡◌, ℕ, suc, ◌+◌, ◌<◌, ◌≤◌, ◌⊎◌, inl, inr, List, [], ◌∷◌, ◌++◌, length, refl, sym, ap, ◌∙◌, subst, arith, append_assoc, append-nil, length-append}
+use Rattle.std.proofs.Common.{◌≡◌, ℕ, ◌≤◌, ◌⊎◌, inl, inr, List, [], ◌∷◌, ◌++◌, length, refl, sym, ap, ◌∙◌, subst, arith, append_assoc, append-nil, length-append}
 use Rattle.ceal_lex.specs.Parts.{IsMark, IsBeforeLine, IsLine, HasMark, HasFirstMark}
 use Rattle.ceal_serve.specs.Turns.{HasNoMark, IsOneLine}
 

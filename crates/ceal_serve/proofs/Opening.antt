@@ -1,5 +1,5 @@
 -- What is said for a source part.
-use Rattle.std.proofs.Common.{◌≡◌, inl, inr, ℕ, ◌<◌, ◌≤◌, ◌^◌, Bool, true, false, Option, Some, None, Result, Ok, Err, List, [], ◌∷◌, ◌++◌, length, refl, sym, ap, ◌∙◌, subst, append-nil, arith}
+use Rattle.std.proofs.Common.{◌≡◌, inl, inr, ℕ, ◌<◌, ◌^◌, Bool, true, false, Option, Result, Ok, Err, List, [], ◌++◌, length, refl, sym, ap, ◌∙◌, subst, append-nil, arith}
 use Rattle.std.specs.Prelude.{IfSome, OnErr}
 use Rattle.ceal_base.specs.declared.fault.Fault.{Fault}
 use Rattle.ceal_compile.specs.Compiled.{IsCompiled}
@@ -15,7 +15,7 @@ use Rattle.ceal_cli.specs.Output.{IsPrefix, Programmed, first_state}
 use Rattle.ceal_serve.specs.Exchange.{Exchange, Says, SaysPrefix, saying}
 use Rattle.ceal_serve.specs.Listening.{IsFaultLineOf, IsHeardSource, IsMarkedSource, IsOpenSource, SourceIs}
 use Rattle.ceal_serve.specs.Replying.{Follows, IsAt}
-use Rattle.ceal_serve.specs.Turns.{Headed, IsHead, IsServed, IsTurnedAway, IsBeginning, IsDone, IsOver, IsRefused}
+use Rattle.ceal_serve.specs.Turns.{IsHead, IsTurnedAway, IsBeginning, IsDone, IsOver, IsRefused}
 use Rattle.ceal_serve.proofs.Following.{begins-there, nothing-served}
 use Rattle.ceal_serve.proofs.Hearing.{known-said, known-same, on-err, prefix-said, said-none}
 use Rattle.ceal_serve.proofs.Heads.{complete-source, marked-head, open-head}

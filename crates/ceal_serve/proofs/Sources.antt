@@ -1,12 +1,12 @@
 -- The source part, line after line.
-use Rattle.std.proofs.Common.{◌≡◌, ◌⊎◌, inl, inr, ℕ, ◌+◌, ◌-◌, ◌<◌, ◌≤◌, Bool, true, false, IsTrue, ◌↔◌, take, drop}
-use Rattle.std.proofs.Common.{Option, Some, None, List, [], ◌∷◌, ◌++◌, length, option_map, refl, sym, ap, ◌∙◌, subst}
-use Rattle.std.proofs.Common.{append_assoc, append-nil, arith}
+use Rattle.std.proofs.Common.{◌≡◌, inl, inr, ℕ, ◌+◌, ◌-◌, Bool, true, false, IsTrue, ◌↔◌, take, drop}
+use Rattle.std.proofs.Common.{Option, List, [], ◌∷◌, ◌++◌, length, option_map, refl, sym, ap, ◌∙◌, subst}
+use Rattle.std.proofs.Common.{append_assoc}
 use Rattle.std.specs.Prelude.{IfSome}
 use Rattle.ceal_lex.specs.Parts.{IsBeforeLine, IsMark}
-use Rattle.ceal_serve.specs.Exchange.{Exchange, IsBegun}
-use Rattle.ceal_serve.specs.Listening.{IsCaughtUp, IsListening, IsHeardSource, IsMarkedSource, IsOpenSource, Hears, HearsEnd, HearsSome, HasLine, TakesLine, heard_end, heard_more}
-use Rattle.ceal_serve.specs.Turns.{HasNoMark, IsBeginning, IsLong, IsOneLine, IsTooLong, LIMIT}
+use Rattle.ceal_serve.specs.Exchange.{Exchange}
+use Rattle.ceal_serve.specs.Listening.{IsListening, IsHeardSource, Hears, HearsEnd, HasLine, TakesLine, heard_end, heard_more}
+use Rattle.ceal_serve.specs.Turns.{HasNoMark, IsLong, IsTooLong, LIMIT}
 use Rattle.ceal_serve.proofs.Following.{take-line, drop-line}
 use Rattle.ceal_serve.proofs.Hearing.{known-after, known-same}
 use Rattle.ceal_serve.proofs.Marks.{no-mark-more}

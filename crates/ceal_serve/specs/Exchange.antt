@@ -9,6 +9,11 @@ pub record Exchange : Type 0 where
   pub ended : Bool
   pub said : List ℕ
 
+-- how many reads have failed, and how many writes
+pub record FaultCounts : Type 0 where
+  pub reads : ℕ
+  pub writes : ℕ
+
 -- after more was heard; nothing is the end
 abbrev pub hearing : List ℕ → Exchange → Exchange
 hearing [] e = record e { ended = true }

@@ -6,7 +6,7 @@ use Rattle.ceal_compile.specs.FaultLine.{fault_line}
 use Rattle.ceal_compile.specs.Source.{IsFirstFault}
 use Rattle.ceal_lex.specs.Characters.{LINE_FEED}
 use Rattle.ceal_lex.specs.Parts.{IsBeforeLine, IsMark}
-use Rattle.ceal_serve.specs.Exchange.{Exchange, SaysPrefix, saying}
+use Rattle.ceal_serve.specs.Exchange.{Exchange}
 use Rattle.ceal_serve.specs.Turns.{HasNoMark, IsAnswered, IsOneLine}
 
 -- To the lines that were taken all was said, and the rest was heard after them.

@@ -1,5 +1,5 @@
 -- Replies to lines, one after another.
-use Rattle.std.specs.Prelude.{◌≡◌, ℕ, Bool, true, false, List, ◌++◌}
+use Rattle.std.specs.Prelude.{◌≡◌, ℕ, true, false, List, ◌++◌}
 use Rattle.ceal_lex.specs.Parts.{IsBeforeLine}
 use Rattle.ceal_session.specs.Replies.{Leads, opening}
 use Rattle.ceal_session.specs.Standing.{IsIn}

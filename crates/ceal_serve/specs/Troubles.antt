@@ -1,5 +1,5 @@
 -- Why a conversation ends early.
-use Rattle.std.specs.Prelude.{◌≡◌, ◌≤◌, ℕ, Result, IsErrOf}
+use Rattle.std.specs.Prelude.{◌≤◌, ℕ, Result, IsErrOf}
 use Rattle.ceal_io.specs.Streams.{Rose}
 use Rattle.ceal_io.specs.declared.streams.Stopped.{Stopped}
 use Rattle.ceal_io.specs.declared.streams.Stopped.TheVariants.{Memory as NoRoom, Failed}

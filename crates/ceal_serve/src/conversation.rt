@@ -8,6 +8,7 @@ ghost use Rattle.ceal_serve.specs.Exchange.{Exchange, ReadHears, WriteSays, Says
 ghost use Rattle.ceal_serve.specs.Turns.{IsTurn};
 
 use ceal_io::{Failed, Sink, Source, Stopped};
+use std::marker::Model;
 
 /// The two ends of a conversation: what is heard, and what is said.
 pub trait Conversation {
@@ -44,15 +45,26 @@ pub trait Conversation {
         ensures reads { read_faults self.new ≡ read_faults self.old };
 }
 
-/// A source and a sink. Nothing is known of what they read and write.
+/// A source and a sink. Nothing is known of what they read and write but how many calls have failed.
 #[derive(Drop)]
 pub struct Streams<S: Source, K: Sink> {
     source: S,
     sink: K,
 }
 
+impl<S: Source, K: Sink> Model for Streams<S, K> {
+    ghost use Rattle.ceal_serve.specs.Exchange.{FaultCounts};
+
+    ghost Value = { FaultCounts };
+
+    ghost view = { λ s. record { reads = S.faults s.source; writes = K.faults s.sink } };
+}
+
 impl<S: Source, K: Sink> Streams<S, K> {
-    pub fn new(source: S, sink: K) -> Streams<S, K> {
+    /// A conversation over both.
+    pub fn new(source: S, sink: K) -> Streams<S, K>
+        ensures { result ≡ record { reads = S.faults source; writes = K.faults sink } }
+    {
         Streams { source, sink }
     }
 }
@@ -60,9 +72,9 @@ impl<S: Source, K: Sink> Streams<S, K> {
 impl<S: Source, K: Sink> Conversation for Streams<S, K> {
     ghost exchange = { λ _. None };
 
-    ghost read_faults = { λ s. S.faults s.source };
+    ghost read_faults = { λ s. s.reads };
 
-    ghost write_faults = { λ s. K.faults s.sink };
+    ghost write_faults = { λ s. s.writes };
 
     fn read(&mut self, into: &mut [u8]) -> Result<usize, Failed> {
         self.source.read(into)

@@ -61,7 +61,8 @@ fn line_end(text: &[u8]) -> Option<usize>
 
 // The place of a line feed, unless the line that it ends has too many bytes.
 fn within(at: usize, limit: usize) -> Result<Option<usize>, Trouble>
-    ensures { (at < limit → result ≡ Ok (Some at)) × (limit ≤ at → result ≡ Err Trouble.TooLong) }
+    ensures found { at < limit → result ≡ Ok (Some at) }
+    ensures too_long { limit ≤ at → result ≡ Err Trouble.TooLong }
 {
     if at < limit {
         Ok(Some(at))

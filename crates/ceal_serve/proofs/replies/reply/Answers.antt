@@ -1,5 +1,4 @@
-use Rattle.std.proofs.Common.{rules, inl, inr, refl, append-nil}
-use Rattle.ceal_session.specs.Keeping.{situation}
+use Rattle.std.proofs.Common.{inl, inr, refl}
 use Rattle.ceal_serve.proofs.Hearing.{nothing-said, prefix-said, says-as}
 use Rattle.ceal_serve.proofs.replies.reply.Goals as goal
 

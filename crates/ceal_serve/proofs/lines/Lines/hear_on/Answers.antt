@@ -27,7 +27,7 @@ returns-in-Some-line_end-clause-heard g c =
     (later-line _ _ _ _ _ _ _ e.0 e.1 c.loop-self.invariant.one
     (take_rest c.rest-in-loop-self.result.now c.in-Some.before ∙ ap
     (drop c.in-Some.before) c.rest-in-loop-self.ensures.rest) c.in-Some-line_end.ensures) _
-    c.within.ensures).heard
+    (c.within.ensures.found, c.within.ensures.too_long)).heard
 
 pub returns-in-Some-line_end-clause-long : goal.returns-in-Some-line_end-clause-long
 returns-in-Some-line_end-clause-long g c =
@@ -35,7 +35,7 @@ returns-in-Some-line_end-clause-long g c =
     (told-line _ _ _ _ _ (hears-more _ _ _ _ _ _ c.loop-self.invariant.so_far e.0) 0 0 0 0 (omega arith) (omega arith) _
     (later-line _ _ _ _ _ _ _ e.0 e.1 c.loop-self.invariant.one
     (take_rest c.rest-in-loop-self.result.now c.in-Some.before ∙ ap
-    (drop c.in-Some.before) c.rest-in-loop-self.ensures.rest) c.in-Some-line_end.ensures) _ c.within.ensures).long
+    (drop c.in-Some.before) c.rest-in-loop-self.ensures.rest) c.in-Some-line_end.ensures) _ (c.within.ensures.found, c.within.ensures.too_long)).long
 
 pub returns-in-Some-line_end-clause-lost : goal.returns-in-Some-line_end-clause-lost
 returns-in-Some-line_end-clause-lost g c =
@@ -43,7 +43,7 @@ returns-in-Some-line_end-clause-lost g c =
     (told-line _ _ _ _ _ (hears-more _ _ _ _ _ _ c.loop-self.invariant.so_far e.0) 0 0 0 0 (omega arith) (omega arith) _
     (later-line _ _ _ _ _ _ _ e.0 e.1 c.loop-self.invariant.one
     (take_rest c.rest-in-loop-self.result.now c.in-Some.before ∙ ap
-    (drop c.in-Some.before) c.rest-in-loop-self.ensures.rest) c.in-Some-line_end.ensures) _ c.within.ensures).lost
+    (drop c.in-Some.before) c.rest-in-loop-self.ensures.rest) c.in-Some-line_end.ensures) _ (c.within.ensures.found, c.within.ensures.too_long)).lost
 
 pub loop-self-preserved : goal.loop-self-preserved
 loop-self-preserved g c =

@@ -1,0 +1,73 @@
+// An engine whose program makes a list: the numbers from the first one down to 1.
+
+ghost use Rattle.std.specs.Prelude.{◌≡◌, IfOk, OnOk};
+ghost use Rattle.ceal_base.specs.declared.word.BlockId.TheVariants.{Input};
+ghost use Rattle.ceal_engine.specs.Engine.{IsPresent};
+ghost use Rattle.ceal_engine.specs.declared.phase.Phase.TheVariants.{Finished};
+
+use crate::calls::{add, call, input};
+use crate::trouble::Trouble;
+use ceal_base::kind::Shape;
+use ceal_base::word::{Place, Word};
+use ceal_compile::compile::compile;
+use ceal_engine::engine::Engine;
+use std::alloc::Global;
+
+const SOURCE: &[u8] = b"
+struct cell { int number; mod struct cell tail; };
+
+init make(struct cell *self, int number) { self->number = number; }
+
+ceal down(int number, mod struct cell *list) {
+  if (number < 1) { write(list, null); return; }
+  struct cell *c = alloc cell make(number);
+  write(list, c);
+  down(number - 1, &c->tail);
+}
+
+ceal countdown(mod int *first, mod struct cell *list) {
+  int number = read(first);
+  down(number, list);
+}
+%%
+";
+
+/// The first number, which is the first input, and the list, which is the second one.
+pub fn first() -> Place
+    ensures place { result ≡ record { block = Input 0; field = 0 } }
+{
+    input(0)
+}
+
+pub fn list() -> Place
+    ensures place { result ≡ record { block = Input 1; field = 0 } }
+{
+    input(1)
+}
+
+/// An engine with two inputs and a finished run of function 2, which is `countdown`, from 4 down. A run may take a
+/// thousand steps.
+pub fn open(alloc: Global) -> Result<Engine, Trouble>
+    ensures present { IfOk result IsPresent }
+    ensures finished { IfOk result (λ engine. engine.phase ≡ Finished) }
+{
+    let program = compile(alloc, SOURCE)?;
+    let mut engine = Engine::new(alloc, program.code, 1_000)?;
+    match prepare(&mut engine) {
+        Ok(()) => Ok(engine),
+        Err(trouble) => {
+            drop(engine);
+            Err(trouble)
+        }
+    }
+}
+
+/// Makes the inputs, and runs the program on them.
+fn prepare(engine: &mut Engine) -> Result<(), Trouble>
+    ensures present { OnOk result (IsPresent engine.new) }
+    ensures finished { OnOk result (engine.new.phase ≡ Finished) }
+{
+    add(engine, Shape::ModInt, &[Word::Num(4)])?;
+    add(engine, Shape::ModPtr(0), &[Word::Null])?;
+    call(engine, 2, &[Word::At(first()), Word::At(list())])
+}
