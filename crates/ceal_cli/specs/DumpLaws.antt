@@ -2,11 +2,11 @@
 use Rattle.std.specs.Prelude.{◌≡◌, ◌⊎◌, ℕ, ◌<◌, ◌^◌, true, List, ◌++◌, length}
 use Rattle.ceal_dump.specs.DumpText.{dump_text}
 use Rattle.ceal_lex.specs.Parts.{source_of}
-use Rattle.ceal_session.specs.Following.{IsAllowed}
+use Rattle.ceal_session.specs.AfterLine.{IsAllowed}
 use Rattle.ceal_snap.specs.SaveText.{Save}
 use Rattle.ceal_traceck.specs.declared.verdict.Verdict.TheVariants.{Yes}
 use Rattle.ceal_cli.specs.Dumps.{no_run_text}
-use Rattle.ceal_cli.specs.Output.{Programmed, IsAnswer, first_state, lines_behind}
+use Rattle.ceal_cli.specs.Output.{Programmed, IsAnswer, first_state, lines_after_mark}
 use Rattle.ceal_cli.specs.ReadBack.{IsDumpAfter}
 use Rattle.ceal_cli.specs.Saves.{mark_line, with_source}
 use Rattle.ceal_cli.specs.Verdicts.{verdict_text}
@@ -29,7 +29,7 @@ pub record DumpsAgain (fuel : ℕ) (input written again : List ℕ) : Type 0 whe
   pub first : Programmed input
   pub allowed : IsAllowed fuel
   pub marked : first.part.marked ≡ true
-  pub dumped : IsDumpAfter first.code (first_state first fuel) (lines_behind first) written
+  pub dumped : IsDumpAfter first.code (first_state first fuel) (lines_after_mark first) written
   pub again_is : again ≡ source_of input first.part ++ (mark_line ++ written)
   pub small : length again < 2 ^ 32
 

@@ -5,9 +5,9 @@ use Rattle.ceal_base.specs.declared.recorded.Record.{Record}
 use Rattle.ceal_code.specs.Program.{Code}
 use Rattle.ceal_dump.specs.DumpText.{dump_text}
 use Rattle.ceal_record.specs.Recorded.{IsRecordOf}
-use Rattle.ceal_session.specs.Replies.{opening, Leads}
+use Rattle.ceal_session.specs.Replies.{situation_without_run, Leads}
 use Rattle.ceal_session.specs.State.{State, Situation, last}
-use Rattle.ceal_session.specs.Steps.{asked}
+use Rattle.ceal_session.specs.Steps.{reply_to_query}
 use Rattle.ceal_session.specs.declared.reply.Query.TheVariants.{Steps}
 use Rattle.ceal_session.specs.declared.reply.Reply.{Reply}
 use Rattle.ceal_session.specs.declared.reply.Reply.TheVariants.{Told}
@@ -29,7 +29,7 @@ IsWrittenBy (Told q) m write out =
 IsWrittenBy _ m write out = out ≡ no_run_text
 
 abbrev pub IsWrittenOf : Situation → (Record → List ℕ) → List ℕ → Type 0
-IsWrittenOf m write out = IsWrittenBy (asked m.state Steps) m write out
+IsWrittenOf m write out = IsWrittenBy (reply_to_query m.state Steps) m write out
 
 -- The dump of the run of this moment; where a line `steps` would be refused, the line that says so.
 abbrev pub IsDumpOf : Situation → List ℕ → Type 0
@@ -39,5 +39,5 @@ IsDumpOf m out = IsWrittenOf m dump_text out
 pub record IsDumped (code : Code) (s : State) (lines : List (List ℕ)) (out : List ℕ) : Type 0 where
   pub replies : List ℕ
   pub end : Situation
-  pub leads : Leads (opening code s) lines replies end
+  pub leads : Leads (situation_without_run code s) lines replies end
   pub dump : IsDumpOf end out

@@ -16,7 +16,7 @@ use Rattle.ceal_mean.specs.Fresh.{fresh}
 use Rattle.ceal_traceck.specs.Laws.{block_of}
 use Rattle.ceal_traceck.specs.declared.verdict.Verdict.TheVariants.{Yes}
 use Rattle.ceal_cli.specs.Modes.{ReadsInput}
-use Rattle.ceal_cli.specs.Output.{IsAnswer, IsGenerated, IsOutput, IsRefusal, IsTaken, bytes_behind}
+use Rattle.ceal_cli.specs.Output.{IsAnswer, IsGenerated, IsOutput, IsRefusal, IsTaken, bytes_after_mark}
 use Rattle.ceal_cli.specs.Verdicts.{verdict_text}
 use Rattle.ceal_cli.specs.declared.words.Mode.{Mode}
 use Rattle.ceal_cli.specs.declared.words.Mode.TheVariants.{Check, List as Listing, Run, Dump, Verify, Many, Save}
@@ -118,4 +118,4 @@ pub record Verified (program : Typed) (bytes : List ℕ) : Type 0 where
 -- So it is where `verify` writes yes for an accepted source part.
 abbrev pub VerifiedLaw : Type 0
 VerifiedLaw = (input : List ℕ) (p : Program) → IsProgram input p.typed → IsCompiled p
-    → (answer : IsAnswer Verify input (verdict_text Yes)) → Verified p.typed (bytes_behind answer.0)
+    → (answer : IsAnswer Verify input (verdict_text Yes)) → Verified p.typed (bytes_after_mark answer.0)

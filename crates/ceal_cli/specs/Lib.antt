@@ -1,10 +1,10 @@
 -- what the crate promises
 pub mod Answers
-pub mod Continuing
+pub mod CutScripts
 pub mod DumpLaws
 pub mod Dumps
 pub mod Fuel
-pub mod Growth
+pub mod SinkGrowth
 pub mod Laws
 pub mod Lines
 pub mod ManyLaws
@@ -15,12 +15,12 @@ pub mod Output
 pub mod ReadBack
 pub mod Resumed
 pub mod Saves
-pub mod Serving
+pub mod ServedLines
 pub mod StrangerOutput
 pub mod Verdicts
 pub mod Workloads
 -- what its own functions say of each other
 pub mod CommandLine
-pub mod Going
+pub mod ResumedInput
 pub mod Limits
 pub mod Members

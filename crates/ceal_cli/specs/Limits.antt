@@ -1,5 +1,5 @@
 -- What a mode asks of a session.
-use Rattle.ceal_session.specs.Following.{IsAllowed}
+use Rattle.ceal_session.specs.AfterLine.{IsAllowed}
 use Rattle.ceal_cli.specs.declared.words.Mode.{Mode}
 use Rattle.ceal_cli.specs.declared.words.Mode.TheVariants.{Check, List as Listing, Run, Gen, Dump, Verify, Many, Save}
 use Rattle.ceal_cli.specs.declared.words.Mode.TheVariants.{Resume}

@@ -8,10 +8,10 @@ use Rattle.ceal_many.specs.Replies.{Answers}
 use Rattle.ceal_many.specs.Sessions.{Named}
 use Rattle.ceal_many.specs.Standing.{IsReady, IsAnswered}
 use Rattle.ceal_many.specs.declared.entry.Entry.{Entry}
-use Rattle.ceal_session.specs.Following.{IsAllowed, opened}
-use Rattle.ceal_session.specs.Keeping.{situation}
+use Rattle.ceal_session.specs.AfterLine.{IsAllowed, situation_at_start}
+use Rattle.ceal_session.specs.SessionState.{situation}
 use Rattle.ceal_session.specs.Replies.{Replies}
-use Rattle.ceal_session.specs.Standing.{IsIn, Stands}
+use Rattle.ceal_session.specs.Consistency.{IsIn, IsConsistent}
 use Rattle.ceal_session.specs.State.{Situation}
 use Rattle.ceal_cli.specs.declared.members.Member.{Member}
 use Rattle.ceal_cli.specs.declared.members.Start.{Start}
@@ -25,7 +25,7 @@ pub record Opens (input : List ℕ) (program : Program) (fuel : ℕ) : Type 0 wh
 
 -- the situation in which a session begins
 abbrev pub first_situation : Start → Situation
-first_situation start = opened start.program start.fuel
+first_situation start = situation_at_start start.program start.fuel
 
 -- Each session is in the situation of its name.
 abbrev pub AreIn : List (Entry Member) → List (Named Situation) → Type 0
@@ -33,7 +33,7 @@ AreIn sessions situations = StandFor (λ member m. IsIn (situation member.sessio
 
 -- the sessions are in situations that they may come to
 abbrev pub AreReady : List (Entry Member) → Type 0
-AreReady sessions = IsReady AreIn (AllMeet Stands) sessions
+AreReady sessions = IsReady AreIn (AllMeet IsConsistent) sessions
 
 -- The line is answered by the text, and the sessions continue.
 abbrev pub Answered

@@ -9,14 +9,14 @@ use Rattle.ceal_compile.specs.FaultLine.{fault_line}
 use Rattle.ceal_compile.specs.Source.{IsProgram, IsFirstFault, IsAccepted}
 use Rattle.ceal_lex.specs.Parts.{IsSplit, source_of}
 use Rattle.ceal_lex.specs.declared.parts.Split.{Split}
-use Rattle.ceal_session.specs.Replies.{opening, Replies, Leads, IsReplied}
-use Rattle.ceal_session.specs.Runs.{begun}
+use Rattle.ceal_session.specs.Replies.{situation_without_run, Replies, Leads, IsReplied}
+use Rattle.ceal_session.specs.Runs.{state_at_start}
 use Rattle.ceal_session.specs.State.{State, Situation}
 use Rattle.ceal_cli.specs.ManySessions.{AreManyReplies}
 use Rattle.ceal_cli.specs.Dumps.{IsDumped}
 use Rattle.ceal_cli.specs.Fuel.{DEFAULT_FUEL}
 use Rattle.ceal_cli.specs.Resumed.{IsResumable, IsNotResumed, IsRepliedAfter}
-use Rattle.ceal_cli.specs.Saves.{IsSavedBehind}
+use Rattle.ceal_cli.specs.Saves.{IsSavedAfterLines}
 use Rattle.ceal_cli.specs.Lines.{script_of, script_lines}
 use Rattle.ceal_cli.specs.Modes.{ReadsInput}
 use Rattle.ceal_cli.specs.Verdicts.{IsVerdictLine}
@@ -44,10 +44,10 @@ LeadsFromRun m (line ∷ lines) out n =
     ⊎ ((¬ IsRunLine line) × (text : List ℕ) × (mid : Situation)
     × Replies m line text mid × LeadsFromRun mid lines out n)
 
--- So it is from a state where nothing was run.
+-- The same, in a new session.
 pub record IsRepliedFromRun (code : Code) (s : State) (lines : List (List ℕ)) (out : List ℕ) : Type 0 where
   pub end : Situation
-  pub leads : LeadsFromRun (opening code s) lines out end
+  pub leads : LeadsFromRun (situation_without_run code s) lines out end
 
 -- An accepted program, its trace code, and the script after it.
 pub record Programmed (input : List ℕ) : Type 0 where
@@ -60,14 +60,14 @@ pub record Programmed (input : List ℕ) : Type 0 where
 
 -- the state before the first line, and the lines
 abbrev pub first_state : {input : List ℕ} → Programmed input → ℕ → State
-first_state p fuel = begun p.program fuel
+first_state p fuel = state_at_start p.program fuel
 
-abbrev pub lines_behind : {input : List ℕ} → Programmed input → List (List ℕ)
-lines_behind {input} p = script_lines (script_of input p.part)
+abbrev pub lines_after_mark : {input : List ℕ} → Programmed input → List (List ℕ)
+lines_after_mark {input} p = script_lines (script_of input p.part)
 
 -- what is after the mark, whatever it is
-abbrev pub bytes_behind : {input : List ℕ} → Programmed input → List ℕ
-bytes_behind {input} p = script_of input p.part
+abbrev pub bytes_after_mark : {input : List ℕ} → Programmed input → List ℕ
+bytes_after_mark {input} p = script_of input p.part
 
 abbrev pub accepted_text : List ℕ
 accepted_text = codes "accepted\n"
@@ -85,7 +85,7 @@ pub record IsListing (input out : List ℕ) : Type 0 where
 abbrev pub IsOutputFromRun : List ℕ → List ℕ → Type 0
 IsOutputFromRun input out =
     (p : Programmed input)
-    × IsRepliedFromRun p.code (first_state p DEFAULT_FUEL) (lines_behind p) out
+    × IsRepliedFromRun p.code (first_state p DEFAULT_FUEL) (lines_after_mark p) out
 
 -- The text is empty, or it is the beginning of such a text. Of an empty text nothing more is said: it
 -- is what is written where there was no memory to find out what the input comes to.
@@ -104,27 +104,27 @@ abbrev pub IsAnswer : Mode → List ℕ → List ℕ → Type 0
 IsAnswer Check input out = IsAccepted input × (out ≡ accepted_text)
 IsAnswer Listing input out = IsListing input out
 IsAnswer (Run fuel) input out =
-    (p : Programmed input) × IsReplied p.code (first_state p fuel) (lines_behind p) out
+    (p : Programmed input) × IsReplied p.code (first_state p fuel) (lines_after_mark p) out
 IsAnswer (Dump fuel) input out =
-    (p : Programmed input) × IsDumped p.code (first_state p fuel) (lines_behind p) out
-IsAnswer Verify input out = (p : Programmed input) × IsVerdictLine p.code (bytes_behind p) out
+    (p : Programmed input) × IsDumped p.code (first_state p fuel) (lines_after_mark p) out
+IsAnswer Verify input out = (p : Programmed input) × IsVerdictLine p.code (bytes_after_mark p) out
 IsAnswer (Many fuel) input out =
-    (p : Programmed input) × AreManyReplies p.code (first_state p fuel) (lines_behind p) out
+    (p : Programmed input) × AreManyReplies p.code (first_state p fuel) (lines_after_mark p) out
 IsAnswer (Save fuel) input out =
     (p : Programmed input)
-    × IsSavedBehind p.code (first_state p fuel) (source_of input p.part) (lines_behind p) out
+    × IsSavedAfterLines p.code (first_state p fuel) (source_of input p.part) (lines_after_mark p) out
 IsAnswer Resume input out =
-    (p : Programmed input) × IsRepliedAfter p.program p.code (bytes_behind p) out
+    (p : Programmed input) × IsRepliedAfter p.program p.code (bytes_after_mark p) out
 IsAnswer (Gen kind seed size) input out = IsGenerated kind seed size out
 
 -- The input is taken: it is accepted and, for `resume`, there is a save after the mark, which holds.
 abbrev pub IsTaken : Mode → List ℕ → Type 0
-IsTaken Resume input = (p : Programmed input) × IsResumable p.code (bytes_behind p)
+IsTaken Resume input = (p : Programmed input) × IsResumable p.code (bytes_after_mark p)
 IsTaken _ input = IsAccepted input
 
 -- what `resume` writes for an accepted input that is not taken
 abbrev pub IsUnresumed : Mode → List ℕ → List ℕ → Type 0
-IsUnresumed Resume input out = (p : Programmed input) × IsNotResumed p.code (bytes_behind p) out
+IsUnresumed Resume input out = (p : Programmed input) × IsNotResumed p.code (bytes_after_mark p) out
 IsUnresumed _ input out = ⊥
 
 -- the line of the first fault

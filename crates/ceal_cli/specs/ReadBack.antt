@@ -4,15 +4,15 @@ use Rattle.ceal_base.specs.declared.recorded.Record.{Record}
 use Rattle.ceal_code.specs.Program.{Code}
 use Rattle.ceal_dump.specs.DumpText.{IsDump}
 use Rattle.ceal_lex.specs.Parts.{source_of}
-use Rattle.ceal_session.specs.Replies.{opening, Leads}
+use Rattle.ceal_session.specs.Replies.{situation_without_run, Leads}
 use Rattle.ceal_session.specs.State.{State, Situation, last}
-use Rattle.ceal_session.specs.Steps.{asked}
+use Rattle.ceal_session.specs.Steps.{reply_to_query}
 use Rattle.ceal_session.specs.declared.reply.Query.TheVariants.{Steps}
 use Rattle.ceal_session.specs.declared.reply.Reply.TheVariants.{Told}
 use Rattle.ceal_snap.specs.SaveText.{save_text, IsSave}
 use Rattle.ceal_cli.specs.Dumps.{IsRecordIn, no_run_text}
-use Rattle.ceal_cli.specs.Growth.{Grows}
-use Rattle.ceal_cli.specs.Output.{Programmed, first_state, lines_behind}
+use Rattle.ceal_cli.specs.SinkGrowth.{Grows}
+use Rattle.ceal_cli.specs.Output.{Programmed, first_state, lines_after_mark}
 use Rattle.ceal_cli.specs.Saves.{save_of, with_source}
 use Rattle.ceal_cli.specs.declared.words.Mode.{Mode}
 use Rattle.ceal_cli.specs.declared.words.Mode.TheVariants.{Dump, Save as SaveMode}
@@ -20,8 +20,8 @@ use Rattle.ceal_cli.specs.declared.words.Mode.TheVariants.{Dump, Save as SaveMod
 -- After the lines, from a state where nothing was run, a line `steps` would be told, and this is the record of the run.
 pub record IsRunAfter (code : Code) (s : State) (lines : List (List ℕ)) (end : Situation) (kept : Record) : Type 0 where
   pub replies : List ℕ
-  pub leads : Leads (opening code s) lines replies end
-  pub told : asked end.state Steps ≡ Told Steps
+  pub leads : Leads (situation_without_run code s) lines replies end
+  pub told : reply_to_query end.state Steps ≡ Told Steps
   pub recorded : IsRecordIn end end.state.call (last end) kept
 
 -- The bytes are the dump of the record.
@@ -44,13 +44,13 @@ pub record IsSaveAfter
 abbrev pub IsReadableDump : ℕ → List ℕ → List ℕ → Type 0
 IsReadableDump fuel input out =
     (out ≡ no_run_text)
-    ⊎ (p : Programmed input) × IsDumpAfter p.code (first_state p fuel) (lines_behind p) out
+    ⊎ (p : Programmed input) × IsDumpAfter p.code (first_state p fuel) (lines_after_mark p) out
 
 abbrev pub IsReadableSave : ℕ → List ℕ → List ℕ → Type 0
 IsReadableSave fuel input out =
     (out ≡ no_run_text)
     ⊎ (p : Programmed input)
-    × IsSaveAfter p.code (first_state p fuel) (source_of input p.part) (lines_behind p) out
+    × IsSaveAfter p.code (first_state p fuel) (source_of input p.part) (lines_after_mark p) out
 
 -- by a dump, or the line that there is no run
 abbrev pub WritesDump : Option (List ℕ) → Option (List ℕ) → ℕ → List ℕ → Type 0

@@ -6,7 +6,7 @@ use Rattle.ceal_code.specs.Program.{Code}
 use Rattle.ceal_lex.specs.Parts.{IsSplit, source_of}
 use Rattle.ceal_lex.specs.declared.parts.Split.{Split}
 use Rattle.ceal_session.specs.Replies.{Leads}
-use Rattle.ceal_session.specs.Saving.{Holding, resumed}
+use Rattle.ceal_session.specs.SessionSave.{SaveHolds, situation_of_save}
 use Rattle.ceal_session.specs.State.{Situation}
 use Rattle.ceal_snap.specs.SaveText.{Save, IsSave}
 use Rattle.ceal_cli.specs.Lines.{script_of, script_lines}
@@ -31,19 +31,19 @@ not_holding = codes "refused V2: save does not hold\n"
 
 -- There is a save after the mark, and it holds.
 abbrev pub IsResumable : Code → List ℕ → Type 0
-IsResumable code bytes = (r : Resumption bytes) × Holding code r.saved
+IsResumable code bytes = (r : Resumption bytes) × SaveHolds code r.saved
 
 -- why there is none to continue from
 abbrev pub IsNotResumed : Code → List ℕ → List ℕ → Type 0
 IsNotResumed code bytes out =
     (¬ Resumption bytes × (out ≡ unreadable_save))
-    ⊎ ((r : Resumption bytes) × ¬ Holding code r.saved × (out ≡ not_holding))
+    ⊎ ((r : Resumption bytes) × ¬ SaveHolds code r.saved × (out ≡ not_holding))
 
 -- The replies to the second script, from the situation of the save.
 pub record IsRepliedAfter (program : Typed) (code : Code) (bytes out : List ℕ) : Type 0 where
   pub from : Resumption bytes
-  pub holds : Holding code from.saved
+  pub holds : SaveHolds code from.saved
   pub trace : Trace
   pub items : from.saved.kept.forest ≡ flat trace
   pub end : Situation
-  pub leads : Leads (resumed program code from.saved trace) (lines_after from) out end
+  pub leads : Leads (situation_of_save program code from.saved trace) (lines_after from) out end

@@ -3,7 +3,7 @@
 use Rattle.std.specs.Prelude.{ℕ, List, ◌++◌, codes}
 use Rattle.ceal_base.specs.declared.recorded.Record.{Record}
 use Rattle.ceal_code.specs.Program.{Code}
-use Rattle.ceal_session.specs.Replies.{opening, Leads}
+use Rattle.ceal_session.specs.Replies.{situation_without_run, Leads}
 use Rattle.ceal_session.specs.State.{State, Situation, numbers_in}
 use Rattle.ceal_snap.specs.SaveText.{Save, save_text}
 use Rattle.ceal_cli.specs.Dumps.{IsWrittenOf}
@@ -30,9 +30,9 @@ abbrev pub IsSaveOf : Situation → List ℕ → List ℕ → Type 0
 IsSaveOf m source out = IsWrittenOf m (λ kept. with_source source (save_of m kept)) out
 
 -- The same, after these lines in a new session.
-pub record IsSavedBehind
+pub record IsSavedAfterLines
     (code : Code) (s : State) (source : List ℕ) (lines : List (List ℕ)) (out : List ℕ) : Type 0 where
   pub replies : List ℕ
   pub end : Situation
-  pub leads : Leads (opening code s) lines replies end
+  pub leads : Leads (situation_without_run code s) lines replies end
   pub save : IsSaveOf end source out

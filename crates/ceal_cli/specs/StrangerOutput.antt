@@ -1,10 +1,10 @@
 -- What `resume` writes for a save that holds, whoever wrote it.
 use Rattle.std.specs.Prelude.{◌≡◌, ℕ, List, [], ◌∷◌}
 use Rattle.ceal_session.specs.Replies.{Replies}
-use Rattle.ceal_session.specs.Saving.{resumed}
+use Rattle.ceal_session.specs.SessionSave.{situation_of_save}
 use Rattle.ceal_session.specs.State.{Situation}
 use Rattle.ceal_session.specs.Strangers.{LineAlike, with_first}
-use Rattle.ceal_cli.specs.ManySessions.{joined}
+use Rattle.ceal_cli.specs.ManySessions.{joined_texts}
 use Rattle.ceal_cli.specs.Output.{IsAnswer}
 use Rattle.ceal_cli.specs.Resumed.{lines_after}
 use Rattle.ceal_cli.specs.declared.words.Mode.TheVariants.{Resume}
@@ -21,6 +21,6 @@ pub data AreBeside : Situation → Situation → List (List ℕ) → List (List 
 -- So what `resume` writes is the replies of a session that has the first trace of the call, but for those numbers.
 abbrev pub StrangerOutputLaw : Type 0
 StrangerOutputLaw = (input out : List ℕ) (answer : IsAnswer Resume input out)
-    → (texts : List (List ℕ)) × (others : List (List ℕ)) × (out ≡ joined texts)
-    × AreBeside (resumed answer.0.program answer.0.code answer.1.from.saved answer.1.trace)
+    → (texts : List (List ℕ)) × (others : List (List ℕ)) × (out ≡ joined_texts texts)
+    × AreBeside (situation_of_save answer.0.program answer.0.code answer.1.from.saved answer.1.trace)
     (with_first answer.0.program answer.0.code answer.1.from.saved) (lines_after answer.1.from) texts others

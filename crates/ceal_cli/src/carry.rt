@@ -1,8 +1,8 @@
 // Lines that are carried out, and whose replies are not written.
 
 ghost use Rattle.std.specs.Prelude.{ℕ, List, OnOk, IsErrOf};
-ghost use Rattle.ceal_session.specs.Keeping.{situation};
-ghost use Rattle.ceal_cli.specs.Serving.{Carries, Serves};
+ghost use Rattle.ceal_session.specs.SessionState.{situation};
+ghost use Rattle.ceal_cli.specs.ServedLines.{Carries, Serves};
 
 use crate::lines::ScriptLines;
 use ceal_io::Stopped;

@@ -3,9 +3,9 @@
 ghost use Rattle.std.specs.Prelude.{◌≡◌, true, IfOk, OnOk};
 ghost use Rattle.ceal_dump.specs.DumpText.{all_core, closed, IsDump};
 ghost use Rattle.ceal_lex.specs.Parts.{IsSplit};
-ghost use Rattle.ceal_session.specs.Keeping.{situation};
-ghost use Rattle.ceal_cli.specs.Growth.{Writes};
-ghost use Rattle.ceal_cli.specs.Serving.{IsDumpBehind, IsDumpFrom};
+ghost use Rattle.ceal_session.specs.SessionState.{situation};
+ghost use Rattle.ceal_cli.specs.SinkGrowth.{Writes};
+ghost use Rattle.ceal_cli.specs.ServedLines.{IsDumpAfterLines, IsDumpFrom};
 ghost use Rattle.ceal_cli.specs.Lines.{script_lines};
 ghost use Rattle.ceal_cli.specs.Members.{Opens};
 ghost use Rattle.ceal_cli.specs.Output.{IsOutput};
@@ -67,7 +67,7 @@ fn write_dump<K: Sink>(
 ) -> Result<(), Stopped>
     ensures writes { Writes result (K.written sink.old) (K.written sink.new)
         (K.faults sink.old) (K.faults sink.new)
-        (IsDumpBehind (situation session.old) (script_lines script.now)) }
+        (IsDumpAfterLines (situation session.old) (script_lines script.now)) }
 {
     carry_out_all(session, ScriptLines::new(script))?;
     let text = dump_of(alloc, session)?;

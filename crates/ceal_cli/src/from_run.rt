@@ -1,9 +1,9 @@
 // The replies from that of the first run on.
 
 ghost use Rattle.std.specs.Prelude.{◌↔◌, IsTrue};
-ghost use Rattle.ceal_session.specs.Keeping.{situation};
-ghost use Rattle.ceal_cli.specs.Growth.{Puts};
-ghost use Rattle.ceal_cli.specs.Serving.{AreServedFromRun, BeginServedFromRun};
+ghost use Rattle.ceal_session.specs.SessionState.{situation};
+ghost use Rattle.ceal_cli.specs.SinkGrowth.{Puts};
+ghost use Rattle.ceal_cli.specs.ServedLines.{AreServedFromRun, BeginServedFromRun};
 ghost use Rattle.ceal_cli.specs.Output.{IsRunLine};
 
 use crate::carry::carry_out;

@@ -4,7 +4,7 @@
 ghost use Rattle.std.specs.Prelude.{◌≡◌};
 ghost use Rattle.ceal_many.specs.Laws.{IsDetermined, OwnRepliesLaw, RefusedLaw as Others_refused_law, AloneLaw};
 ghost use Rattle.ceal_session.specs.Replies.{Replies};
-ghost use Rattle.ceal_cli.specs.Continuing.{ResumableLaw, ResumedOutputLaw};
+ghost use Rattle.ceal_cli.specs.CutScripts.{ResumableLaw, ResumedOutputLaw};
 ghost use Rattle.ceal_cli.specs.DumpLaws.{DumpVerifiedLaw, TailLaw};
 ghost use Rattle.ceal_cli.specs.ManyLaws.{ManyIsRunLaw};
 ghost use Rattle.ceal_cli.specs.StrangerOutput.{StrangerOutputLaw};

@@ -2,9 +2,9 @@
 
 ghost use Rattle.std.specs.Prelude.{◌≡◌, []};
 ghost use Rattle.ceal_lex.specs.Parts.{IsSplit};
-ghost use Rattle.ceal_session.specs.Standing.{Stands};
+ghost use Rattle.ceal_session.specs.Consistency.{IsConsistent};
 ghost use Rattle.ceal_cli.specs.Members.{first_situation, AreReady, Answered, Opens};
-ghost use Rattle.ceal_cli.specs.Growth.{Writes};
+ghost use Rattle.ceal_cli.specs.SinkGrowth.{Writes};
 ghost use Rattle.ceal_cli.specs.ManySessions.{AreTold};
 ghost use Rattle.ceal_cli.specs.Output.{IsOutput};
 ghost use Rattle.ceal_cli.specs.declared.words.Mode.TheVariants.{Many as ManyMode};
@@ -22,7 +22,7 @@ use std::alloc::Global;
 // Writes the reply to a line.
 fn reply<K: Sink>(many: &mut Many<Members<'_>>, line: &[u8], sink: &mut K) -> Result<(), Stopped>
     requires ready { AreReady many.old.sessions }
-    requires sound { Stands (first_situation many.old.maker) }
+    requires sound { IsConsistent (first_situation many.old.maker) }
     ensures writes { Writes result (K.written sink.old) (K.written sink.new)
         (K.faults sink.old) (K.faults sink.new)
         (Answered (first_situation many.old.maker)
@@ -40,7 +40,7 @@ fn reply_all<K: Sink>(
     sink: &mut K,
 ) -> Result<(), Stopped>
     requires none { many.old.sessions ≡ [] }
-    requires sound { Stands (first_situation many.old.maker) }
+    requires sound { IsConsistent (first_situation many.old.maker) }
     ensures writes { Writes result (K.written sink.old) (K.written sink.new)
         (K.faults sink.old) (K.faults sink.new)
         (AreTold (first_situation many.old.maker) [] lines.entry) }

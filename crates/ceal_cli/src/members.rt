@@ -33,10 +33,10 @@ pub struct Member {
 
 impl Answerer for Member {
     ghost use Rattle.ceal_cli.specs.Members.{first_situation};
-    ghost use Rattle.ceal_session.specs.Following.{IsLeft};
-    ghost use Rattle.ceal_session.specs.Keeping.{situation};
+    ghost use Rattle.ceal_session.specs.AfterLine.{IsAfterNoMemory};
+    ghost use Rattle.ceal_session.specs.SessionState.{situation};
     ghost use Rattle.ceal_session.specs.Replies.{Replies};
-    ghost use Rattle.ceal_session.specs.Standing.{IsIn, Stands};
+    ghost use Rattle.ceal_session.specs.Consistency.{IsIn, IsConsistent};
     ghost use Rattle.ceal_session.specs.State.{Situation};
 
     type Beginning = Start;
@@ -47,11 +47,11 @@ impl Answerer for Member {
 
     ghost stands = { λ member m. IsIn (situation member.session) m };
 
-    ghost needs = { Stands };
+    ghost needs = { IsConsistent };
 
     ghost answers = { Replies };
 
-    ghost leaves = { IsLeft };
+    ghost leaves = { IsAfterNoMemory };
 
     fn command(&mut self, line: &[u8]) -> Result<Text, NoMemory> {
         // for the proof: a session keeps to its situation, in which each line has a reply

@@ -1,8 +1,8 @@
 // The replies to the lines of a script.
 
-ghost use Rattle.ceal_session.specs.Keeping.{situation};
-ghost use Rattle.ceal_cli.specs.Growth.{Puts};
-ghost use Rattle.ceal_cli.specs.Serving.{AreServed, BeginServed, BeginsReply, IsReply};
+ghost use Rattle.ceal_session.specs.SessionState.{situation};
+ghost use Rattle.ceal_cli.specs.SinkGrowth.{Puts};
+ghost use Rattle.ceal_cli.specs.ServedLines.{AreServed, BeginServed, BeginsReply, IsReply};
 
 use crate::lines::ScriptLines;
 use ceal_io::{Sink, Stopped, write_all};

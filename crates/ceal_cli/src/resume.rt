@@ -4,9 +4,9 @@ ghost use Rattle.std.specs.Prelude.{◌<◌, ◌^◌, ◌↔◌, IsTrue, length,
 ghost use Rattle.ceal_compile.specs.Compiled.{IsCompiled};
 ghost use Rattle.ceal_compile.specs.Source.{IsProgram};
 ghost use Rattle.ceal_lex.specs.Parts.{IsSplit};
-ghost use Rattle.ceal_session.specs.Keeping.{situation};
-ghost use Rattle.ceal_cli.specs.Growth.{Writes};
-ghost use Rattle.ceal_cli.specs.Going.{IsSaveRead, GoesOn, IsUnsound};
+ghost use Rattle.ceal_session.specs.SessionState.{situation};
+ghost use Rattle.ceal_cli.specs.SinkGrowth.{Writes};
+ghost use Rattle.ceal_cli.specs.ResumedInput.{IsSaveRead, ContinuesFromSave, IsUnsound};
 ghost use Rattle.ceal_cli.specs.Output.{IsOutput, IsTaken};
 ghost use Rattle.ceal_cli.specs.Resumed.{Resumption};
 ghost use Rattle.ceal_cli.specs.declared.words.Mode.TheVariants.{Resume};
@@ -63,7 +63,7 @@ fn resumed(
     requires compiled { IsCompiled program }
     requires split { IsSplit bytes.now part.now }
     ensures session { IfOk result
-        (λ session. GoesOn program bytes.now part.now (situation session)) }
+        (λ session. ContinuesFromSave program bytes.now part.now (situation session)) }
     ensures unreadable { IsErrOf result NotResumed.Unreadable → ¬ Resumption bytes.now }
     ensures unsound { IsErrOf result NotResumed.Unsound → IsUnsound program.code bytes.now }
 {

@@ -3,12 +3,12 @@
 ghost use Rattle.std.specs.Prelude.{◌≡◌, true, IfOk, OnOk};
 ghost use Rattle.ceal_dump.specs.DumpText.{all_core, closed};
 ghost use Rattle.ceal_lex.specs.Parts.{IsSplit};
-ghost use Rattle.ceal_session.specs.Keeping.{situation};
-ghost use Rattle.ceal_session.specs.Naming.{AreSpelled};
+ghost use Rattle.ceal_session.specs.SessionState.{situation};
+ghost use Rattle.ceal_session.specs.InputNames.{AreSpelled};
 ghost use Rattle.ceal_snap.specs.SaveText as snap;
 ghost use Rattle.ceal_snap.specs.SaveText.{IsSave};
-ghost use Rattle.ceal_cli.specs.Growth.{Writes};
-ghost use Rattle.ceal_cli.specs.Serving.{IsSaveBehind, IsSaveFrom};
+ghost use Rattle.ceal_cli.specs.SinkGrowth.{Writes};
+ghost use Rattle.ceal_cli.specs.ServedLines.{IsSaveAfterLines, IsSaveFrom};
 ghost use Rattle.ceal_cli.specs.Lines.{script_lines};
 ghost use Rattle.ceal_cli.specs.Members.{Opens};
 ghost use Rattle.ceal_cli.specs.Output.{IsOutput};
@@ -77,7 +77,7 @@ fn write_save<K: Sink>(
 ) -> Result<(), Stopped>
     ensures writes { Writes result (K.written sink.old) (K.written sink.new)
         (K.faults sink.old) (K.faults sink.new)
-        (IsSaveBehind source.now (situation session.old) (script_lines script.now)) }
+        (IsSaveAfterLines source.now (situation session.old) (script_lines script.now)) }
 {
     carry_out_all(session, ScriptLines::new(script))?;
     let text = save_of(alloc, source, session)?;

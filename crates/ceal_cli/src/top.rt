@@ -4,8 +4,8 @@ ghost use Rattle.std.specs.Prelude.{◌≡◌, ◌≢◌, ◌≤◌, ◌⊎◌, 
 ghost use Rattle.std.specs.Io.KnownBytes.{Keeps, IsAtEnd};
 ghost use Rattle.ceal_io.specs.Streams.{Rose, LosesAtMost, LosesCount};
 ghost use Rattle.ceal_cli.specs.Answers.{IsWhole, IsAfterReading, IsSilent, status_number as number_of, status_text};
-ghost use Rattle.ceal_cli.specs.Growth.{WritesAnswer, WritesRefusal, WritesOutput, WritesPrefix, WritesGenerated};
-ghost use Rattle.ceal_cli.specs.Growth.{WritesGeneratedPrefix};
+ghost use Rattle.ceal_cli.specs.SinkGrowth.{WritesAnswer, WritesRefusal, WritesOutput, WritesPrefix, WritesGenerated};
+ghost use Rattle.ceal_cli.specs.SinkGrowth.{WritesGeneratedPrefix};
 ghost use Rattle.ceal_cli.specs.Limits.{KeepsLimits};
 ghost use Rattle.ceal_cli.specs.Output.{IsTaken};
 ghost use Rattle.ceal_cli.specs.ReadBack.{WritesDump, WritesSave, WritesReadable};

@@ -5,7 +5,7 @@ ghost use Rattle.ceal_code.specs.Valid.{valid};
 ghost use Rattle.ceal_compile.specs.Compiled.{IsCompiled};
 ghost use Rattle.ceal_compile.specs.Source.{IsProgram};
 ghost use Rattle.ceal_lex.specs.Parts.{IsSplit};
-ghost use Rattle.ceal_cli.specs.Growth.{Writes};
+ghost use Rattle.ceal_cli.specs.SinkGrowth.{Writes};
 ghost use Rattle.ceal_cli.specs.Output.{IsOutput};
 ghost use Rattle.ceal_cli.specs.Verdicts.{verdict_text, IsVerdictLine};
 ghost use Rattle.ceal_cli.specs.declared.words.Mode.TheVariants.{Verify};

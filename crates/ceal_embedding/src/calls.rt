@@ -2,11 +2,12 @@
 
 ghost use Rattle.std.specs.Prelude.{◌≡◌, true, IsOk, IfOk, IfErr, OnOk, OnErr};
 ghost use Rattle.ceal_base.specs.Access.{word_in};
+ghost use Rattle.ceal_base.specs.Block.{alone};
 ghost use Rattle.ceal_base.specs.Fitting.{kind_at};
 ghost use Rattle.ceal_base.specs.declared.word.BlockId.TheVariants.{Input};
 ghost use Rattle.ceal_code.specs.Value.{is_cell};
 ghost use Rattle.ceal_embedding.specs.Causes.{IsGivenUp};
-ghost use Rattle.ceal_engine.specs.Engine.{alone, stored_at, with_base, IsPresent};
+ghost use Rattle.ceal_engine.specs.Engine.{stored_at, with_base, IsPresent};
 ghost use Rattle.ceal_engine.specs.declared.phase.Phase.TheVariants.{Finished};
 
 use crate::trouble::Trouble;

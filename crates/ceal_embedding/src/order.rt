@@ -1,7 +1,7 @@
 // A session that a program keeps: the total of an order, brought up to date after each change.
 
 ghost use Rattle.std.specs.Prelude.{◌≡◌, IfOk, IfErr};
-ghost use Rattle.ceal_session.specs.Keeping.{situation};
+ghost use Rattle.ceal_session.specs.SessionState.{situation};
 ghost use Rattle.ceal_session.specs.Replies.{Answers};
 ghost use Rattle.ceal_session.specs.State.{numbers_in};
 ghost use Rattle.ceal_theory.specs.Pasts.{goes};

@@ -20,7 +20,8 @@ use Rattle.ceal_engine.proofs.RunMemory.{low-numbers}
 use Rattle.ceal_engine.specs.Engine.{EngineState, IsWhole, fresh_call, trace}
 use Rattle.ceal_engine.specs.Keeping.{IsPartKept, Keeps, heap_in, phase_at, phase_of, running_in, state_of}
 use Rattle.ceal_engine.specs.Runs.{finished, under_way, told, opened}
-use Rattle.ceal_engine.specs.Partial.{spent_in, carried_by, CarriesFrom, IsUnderWay, RenamedFrom, progress_of, GoesOn, Ends, IsAnew, IsOut, IsRepairSoFar, Comes, ComesSo, KeepsWords}
+use Rattle.ceal_engine.specs.Partial.{spent_in, carried_by, CarriesRepair, IsUnderWay, RenamedFrom, progress_of, SliceContinues, SliceEnds, IsAnew, IsOut, IsRepairSoFar, RepairOutcome}
+use Rattle.ceal_engine.specs.Partial.{ProgressOutcome, KeepsWords}
 use Rattle.ceal_engine.specs.declared.phase.Came.{Came}
 use Rattle.ceal_engine.specs.declared.phase.Came.TheVariants as came
 use Rattle.ceal_engine.specs.declared.phase.Progress.{Progress}
@@ -107,10 +108,12 @@ abbrev pub IsOpenRun : Code → ℕ → List Block → Option Call → Running �
 IsOpenRun code fuel inputs None run = ⊥
 IsOpenRun code fuel inputs (Some call) run = IsPartKept code fuel inputs call run
 
-pub open-run : (code : Code) (fuel : ℕ) (inputs : List Block) (before : Run) (call : Option Call) → Keeps code fuel inputs before call → (run : Running) → opened before ≡ Some run → IsOpenRun code fuel inputs call run
+pub open-run : (code : Code) (fuel : ℕ) (inputs : List Block) (before : Run) (call : Option Call) → Keeps code fuel inputs before call → (run : Running) → opened before ≡ Some run
+    → IsOpenRun code fuel inputs call run
 open-run code fuel inputs its.New call k run e = none-some run e
 open-run code fuel inputs (its.Kept old s) None k run e = elim k [ ]
-open-run code fuel inputs (its.Kept old stage.Finished) (Some call) k run e = subst (IsPartKept code fuel inputs call) (some-same (told 0 old) run e) (begun-kept code fuel inputs call k.trace old k.of)
+open-run code fuel inputs (its.Kept old stage.Finished) (Some call) k run e =
+    subst (IsPartKept code fuel inputs call) (some-same (told 0 old) run e) (begun-kept code fuel inputs call k.trace old k.of)
 open-run code fuel inputs (its.Kept old stage.Pending) (Some call) k run e = subst (IsPartKept code fuel inputs call) (some-same (told 0 old) run e) (begun-kept code fuel inputs call k.0 old k.1)
 open-run code fuel inputs (its.Kept old stage.Partial) (Some call) k run e = subst (IsPartKept code fuel inputs call) (some-same old run e) k
 open-run code fuel inputs its.Dropped call k run e = none-some run e
@@ -189,7 +192,8 @@ pub record Renames (code : Code) (next' : ℕ) (before now : Repair) (l m : Trac
   pub apart : (b c : ℕ) → Tied b c pairs → before.known (Core b) ≡ None → now.known (Core c) ≡ None
 
 module _ (code : Code) (inputs : List Block) (f : ℕ) (args : List Word) (fuel : ℕ) (q : Repair) (run : Running) (part : IsPartRun code inputs f args fuel q run) (k : Option ℕ) (next' : ℕ) (r : Repair)
-    (sound : RepairHolds code own inputs f args r) (carried : Carried code inputs next' r q) (z z' : Repair) (s : IsSliceOf code inputs k fuel q (Some z)) (is : sliced code own inputs k fuel r ≡ Some z') where
+    (sound : RepairHolds code own inputs f args r) (carried : Carried code inputs next' r q) (z z' : Repair) (s : IsSliceOf code inputs k fuel q (Some z))
+        (is : sliced code own inputs k fuel r ≡ Some z') where
   names-sound : RepairHolds code s.names inputs f args (counted_anew q)
   names-sound = anew-sound code inputs f args fuel q run part k z s
 
@@ -210,7 +214,8 @@ module _ (code : Code) (inputs : List Block) (f : ℕ) (args : List Word) (fuel 
   pub renames : Renames code next' r q z'.items z.items
   renames = of (subst (λ o. RenamedSlices code own s.names inputs same-carried.pairs r (counted_anew q) o (Some z)) is
       (subst (λ o. RenamedSlices code own s.names inputs same-carried.pairs r (counted_anew q) (sliced code own inputs k fuel r) o) s.is
-      (slice-renamed code inputs part.fits.blocks own s.names own-single s.single same-carried.pairs r (counted_anew q) (alike code s.names inputs f args part.fits r (counted_anew q) sound names-sound next' same-carried) k fuel)))
+      (slice-renamed code inputs part.fits.blocks own s.names own-single s.single same-carried.pairs r (counted_anew q)
+          (alike code s.names inputs f args part.fits r (counted_anew q) sound names-sound next' same-carried) k fuel)))
     where
       of : RenamedSlices code own s.names inputs same-carried.pairs r (counted_anew q) (Some z') (Some z) → Renames code next' r q z'.items z.items
       of (RenamedSlices.some qs wide a from) = record {
@@ -241,7 +246,7 @@ module _ (code : Code) (fuel : ℕ) (inputs : List Block) (call : Call) (g : Sta
   same = same-as g before run is
 
   -- the engine's repair is carried to that of the run
-  pub here : (next' : ℕ) (r : Repair) → (c : CarriesFrom e next' r) → RepairHolds code own inputs call.function call.args r × Carried code inputs next' r k.repair
+  pub here : (next' : ℕ) (r : Repair) → (c : CarriesRepair e next' r) → RepairHolds code own inputs call.function call.args r × Carried code inputs next' r k.repair
   here next' r c = (
     subst (λ (d : Call). RepairHolds code own inputs d.function d.args r) (some-same c.call call (sym c.called)) c.sound,
     carried-same-law code inputs next' r (carried_by e c.items) k.repair c.carried items
@@ -252,7 +257,7 @@ module _ (code : Code) (fuel : ℕ) (inputs : List Block) (call : Call) (g : Sta
       items : k.repair.items ≡ c.items
       items = some-same k.repair.items c.items (sym (part-trace code fuel inputs call run k) ∙ (ap (λ t. trace_of (Rattle.ceal_trace.specs.Items.forest_of t.nodes)) same.trace ∙ c.is))
 
-  module _ (reads : Option ℕ) (next' : ℕ) (r : Repair) (c : CarriesFrom e next' r) where
+  module _ (reads : Option ℕ) (next' : ℕ) (r : Repair) (c : CarriesRepair e next' r) where
     abbrev h : RepairHolds code own inputs call.function call.args r × Carried code inputs next' r k.repair
     h = here next' r c
 
@@ -272,7 +277,7 @@ module _ (code : Code) (fuel : ℕ) (inputs : List Block) (call : Call) (g : Sta
           apart = λ b c t none. ap (λ (g : Contents). plain_of g (Core c)) (sym same.heap) ∙ (sym (k.of.stands.known c) ∙ w.apart b c t none);
         }
 
-    pub comes-more : (run' : Running) → IsSliced code inputs call.function call.args reads fuel k.repair run' More → GoesOn e (under_way code fuel inputs (Some call) run') reads next' r
+    pub comes-more : (run' : Running) → IsSliced code inputs call.function call.args reads fuel k.repair run' More → SliceContinues e (under_way code fuel inputs (Some call) run') reads next' r
     comes-more run' s = let z = found s.0 s.1 in record {
       repair = z.repair;
       is = z.is;
@@ -284,11 +289,12 @@ module _ (code : Code) (fuel : ℕ) (inputs : List Block) (call : Call) (g : Sta
         items = s.0.items;
         is = ap trace_of s.3.stands.items ∙ trace-flat s.0.items;
         sound = z.sound;
-        carried = carried-same-law code inputs next' z.repair s.0 (carried_by (under_way code fuel inputs (Some call) run') s.0.items) z.carried refl (λ b. sym (s.3.stands.known b)) (sym s.3.stands.spent);
+        carried =
+            carried-same-law code inputs next' z.repair s.0 (carried_by (under_way code fuel inputs (Some call) run') s.0.items) z.carried refl (λ b. sym (s.3.stands.known b)) (sym s.3.stands.spent);
       };
     }
 
-    pub comes-done : (run' : Running) → IsSliced code inputs call.function call.args reads fuel k.repair run' Done → Ends e (finished code fuel inputs (Some call) run') reads next' r
+    pub comes-done : (run' : Running) → IsSliced code inputs call.function call.args reads fuel k.repair run' Done → SliceEnds e (finished code fuel inputs (Some call) run') reads next' r
     comes-done run' s = let z = found s.0 s.1 in record {
       repair = z.repair;
       is = z.is;
@@ -322,7 +328,7 @@ module _ (code : Code) (fuel : ℕ) (inputs : List Block) (call : Call) (g : Sta
       ∙ still-known code inputs call.function call.args fuel k.repair run k.of reads s.0 s.1 b block (k.of.stands.known b ∙ (ap (λ h. plain_of h (Core b)) same.heap ∙ w))
 
 -- where all was run again there was no slice
-pub anew-comes : (e n : EngineState) (k : Option ℕ) (next' : ℕ) (r : Repair) → sliced e.code own e.inputs k e.fuel r ≡ None → (error : RunError) → Comes e n k next' r (Err error)
+pub anew-comes : (e n : EngineState) (k : Option ℕ) (next' : ℕ) (r : Repair) → sliced e.code own e.inputs k e.fuel r ≡ None → (error : RunError) → RepairOutcome e n k next' r (Err error)
 anew-comes e n k next' r none Memory = tt
 anew-comes e n k next' r none RanOut = inl none
 
@@ -331,7 +337,8 @@ abbrev all_reads : Option ℕ
 all_reads = None
 
 -- where all was to be repaired, it has ended
-pub ended-so : (e n : EngineState) (next' : ℕ) (r : Repair) (far : Came) → Comes e n None next' r (Ok far) → (far ≡ came.More → IsSome all_reads) → Ends e n None next' r ⊎ IsAnew e n None r
+pub ended-so : (e n : EngineState) (next' : ℕ) (r : Repair) (far : Came) → RepairOutcome e n None next' r (Ok far) → (far ≡ came.More → IsSome all_reads)
+    → SliceEnds e n None next' r ⊎ IsAnew e n None r
 ended-so before after next' r came.More c more = absurd (false≢true (more refl))
 ended-so before after next' r came.Done c more = inl c
 ended-so before after next' r came.Anew c more = inr c
@@ -349,10 +356,11 @@ done-repair before after l came.Done p is done h = h.0
 done-repair before after l came.Anew p is done h = absurd h
 
 -- the same, where it is not told whether the call was run again
-pub comes-so : (e n : EngineState) (k : Option ℕ) (next' : ℕ) (r : Repair) (far : Came) → Comes e n k next' r (Ok far) → (p : Progress) → p ≡ progress_of far → ComesSo e n k next' r (Ok p)
-comes-so before after k next' r came.More c p is = subst (λ q. ComesSo before after k next' r (Ok q)) (sym is) c
-comes-so before after k next' r came.Done c p is = subst (λ q. ComesSo before after k next' r (Ok q)) (sym is) (inl c)
-comes-so before after k next' r came.Anew c p is = subst (λ q. ComesSo before after k next' r (Ok q)) (sym is) (inr c)
+pub comes-so : (e n : EngineState) (k : Option ℕ) (next' : ℕ) (r : Repair) (far : Came) → RepairOutcome e n k next' r (Ok far) → (p : Progress) → p ≡ progress_of far
+    → ProgressOutcome e n k next' r (Ok p)
+comes-so before after k next' r came.More c p is = subst (λ q. ProgressOutcome before after k next' r (Ok q)) (sym is) c
+comes-so before after k next' r came.Done c p is = subst (λ q. ProgressOutcome before after k next' r (Ok q)) (sym is) (inl c)
+comes-so before after k next' r came.Anew c p is = subst (λ q. ProgressOutcome before after k next' r (Ok q)) (sym is) (inr c)
 
 -- ---- in the words of the engine's functions
 
@@ -365,10 +373,12 @@ module _ (code : Code) (fuel : ℕ) (inputs : List Block) (before : Run) (call :
       go None k = elim k [ ]
       go (Some c) k = (c.function, c.args, k.repair, k.of)
 
-  module _ (reads : Option ℕ) (run' : Running) (s : Far) (slice : (f : ℕ) (args : List Word) (r : Repair) → IsPartRun code inputs f args fuel r run → IsSliced code inputs f args reads fuel r run' s) where
+  module _ (reads : Option ℕ) (run' : Running) (s : Far)
+      (slice : (f : ℕ) (args : List Word) (r : Repair) → IsPartRun code inputs f args fuel r run → IsSliced code inputs f args reads fuel r run' s) where
     -- what is true of a call that is there, of the run before it, and of what the slice comes to
     by-parts : (P : Option Call → Run → Type 0)
-        → ((c : Call) (b : Running) (g : Stage) → opened (its.Kept b g) ≡ Some run → (k : IsPartKept code fuel inputs c run) → IsSliced code inputs c.function c.args reads fuel k.repair run' s → P (Some c) (its.Kept b g)) → P call before
+        → ((c : Call) (b : Running) (g : Stage) → opened (its.Kept b g) ≡ Some run → (k : IsPartKept code fuel inputs c run) → IsSliced code inputs c.function c.args reads fuel k.repair run' s
+        → P (Some c) (its.Kept b g)) → P call before
     by-parts P f = go call before refl (open-run code fuel inputs before call keeps run is)
       where
         go : (c : Option Call) (b : Run) → before ≡ b → IsOpenRun code fuel inputs c run → P c b
@@ -388,12 +398,12 @@ module _ (code : Code) (fuel : ℕ) (inputs : List Block) (before : Run) (call :
     keeps-done h = by-parts (λ c b. Keeps code fuel inputs (its.Kept run' stage.Finished) c)
         (λ c b g o k t. let d = subst (IsSliced code inputs c.function c.args reads fuel k.repair run') h t in kept-as code fuel inputs c k.of.fits d.0.items run' d.2)
 
-    pub goes-on : s ≡ More → (next' : ℕ) (r : Repair) → CarriesFrom (old call before) next' r → GoesOn (old call before) (under_way code fuel inputs call run') reads next' r
-    goes-on h = by-parts (λ c b. (next' : ℕ) (r : Repair) → CarriesFrom (old c b) next' r → GoesOn (old c b) (under_way code fuel inputs c run') reads next' r)
+    pub goes-on : s ≡ More → (next' : ℕ) (r : Repair) → CarriesRepair (old call before) next' r → SliceContinues (old call before) (under_way code fuel inputs call run') reads next' r
+    goes-on h = by-parts (λ c b. (next' : ℕ) (r : Repair) → CarriesRepair (old c b) next' r → SliceContinues (old c b) (under_way code fuel inputs c run') reads next' r)
         (λ c b g o k t next' r m. comes-more code fuel inputs c g b run o k reads next' r m run' (subst (IsSliced code inputs c.function c.args reads fuel k.repair run') h t))
 
-    pub ends : s ≡ Done → (next' : ℕ) (r : Repair) → CarriesFrom (old call before) next' r → Ends (old call before) (finished code fuel inputs call run') reads next' r
-    ends h = by-parts (λ c b. (next' : ℕ) (r : Repair) → CarriesFrom (old c b) next' r → Ends (old c b) (finished code fuel inputs c run') reads next' r)
+    pub ends : s ≡ Done → (next' : ℕ) (r : Repair) → CarriesRepair (old call before) next' r → SliceEnds (old call before) (finished code fuel inputs call run') reads next' r
+    ends h = by-parts (λ c b. (next' : ℕ) (r : Repair) → CarriesRepair (old c b) next' r → SliceEnds (old c b) (finished code fuel inputs c run') reads next' r)
         (λ c b g o k t next' r m. comes-done code fuel inputs c g b run o k reads next' r m run' (subst (IsSliced code inputs c.function c.args reads fuel k.repair run') h t))
 
     pub some-reads : s ≡ More → IsSome reads
@@ -404,12 +414,12 @@ module _ (code : Code) (fuel : ℕ) (inputs : List Block) (before : Run) (call :
     keeps-words h = by-parts (λ c b. KeepsWords (heap_in (running_in b)) (Some run'.heap))
         (λ c b g o k t. words-stay code fuel inputs c g b run o k reads run' (subst (IsSliced code inputs c.function c.args reads fuel k.repair run') h t))
 
-    pub no-slice : s ≡ Spent → (next' : ℕ) (r : Repair) → CarriesFrom (old call before) next' r → sliced code own inputs reads fuel r ≡ None
-    no-slice h = by-parts (λ c b. (next' : ℕ) (r : Repair) → CarriesFrom (old c b) next' r → sliced code own inputs reads fuel r ≡ None)
+    pub no-slice : s ≡ Spent → (next' : ℕ) (r : Repair) → CarriesRepair (old call before) next' r → sliced code own inputs reads fuel r ≡ None
+    no-slice h = by-parts (λ c b. (next' : ℕ) (r : Repair) → CarriesRepair (old c b) next' r → sliced code own inputs reads fuel r ≡ None)
         (λ c b g o k t next' r m. comes-none code fuel inputs c g b run o k reads next' r m run' (subst (IsSliced code inputs c.function c.args reads fuel k.repair run') h t))
 
-    pub is-out : s ≡ OutOfFuel → (next' : ℕ) (r : Repair) → CarriesFrom (old call before) next' r → IsOut (old call before) reads r
-    is-out h = by-parts (λ c b. (next' : ℕ) (r : Repair) → CarriesFrom (old c b) next' r → IsOut (old c b) reads r)
+    pub is-out : s ≡ OutOfFuel → (next' : ℕ) (r : Repair) → CarriesRepair (old call before) next' r → IsOut (old call before) reads r
+    is-out h = by-parts (λ c b. (next' : ℕ) (r : Repair) → CarriesRepair (old c b) next' r → IsOut (old c b) reads r)
         (λ c b g o k t next' r m. comes-out code fuel inputs c g b run o k reads next' r m run' (subst (IsSliced code inputs c.function c.args reads fuel k.repair run') h t))
 
     -- then the run from scratch is out of fuel, too
@@ -418,7 +428,8 @@ module _ (code : Code) (fuel : ℕ) (inputs : List Block) (before : Run) (call :
 
 -- ---- a repair of the call is in progress
 
-pub is-under-way : (code : Code) (fuel : ℕ) (inputs : List Block) (run : Run) (call : Option Call) → Keeps code fuel inputs run call → phase_of run ≡ Partial → IsUnderWay (state_of code fuel inputs call run)
+pub is-under-way : (code : Code) (fuel : ℕ) (inputs : List Block) (run : Run) (call : Option Call) → Keeps code fuel inputs run call → phase_of run ≡ Partial
+    → IsUnderWay (state_of code fuel inputs call run)
 is-under-way code fuel inputs its.New call k e = absurd (grind (arith, e))
 is-under-way code fuel inputs (its.Kept run s) None k e = elim k [ ]
 is-under-way code fuel inputs (its.Kept run stage.Finished) (Some call) k e = absurd (grind (arith, e))
@@ -432,7 +443,8 @@ is-under-way code fuel inputs (its.Kept run stage.Partial) (Some call) k e = rec
     items = k.repair.items;
     is = part-trace code fuel inputs call run k;
     sound = k.sound;
-    carried = carried-same-law code inputs k.next k.ordered k.repair (carried_by (under_way code fuel inputs (Some call) run) k.repair.items) k.carried refl (λ b. sym (k.of.stands.known b)) (sym k.of.stands.spent);
+    carried = carried-same-law code inputs k.next k.ordered k.repair (carried_by (under_way code fuel inputs (Some call) run) k.repair.items) k.carried refl (λ b. sym (k.of.stands.known b))
+        (sym k.of.stands.spent);
   };
   few = k.of.few;
 }

@@ -16,9 +16,9 @@ use Rattle.ceal_code.specs.Program.{Code}
 use Rattle.ceal_code.specs.Replay.{Replays, plain_of}
 use Rattle.ceal_engine.proofs.Inputs.{extended-refl}
 use Rattle.ceal_engine.proofs.Present.{sound-engine, whole-run}
-use Rattle.ceal_engine.specs.Keeping.{Kept, Sound as SoundInside, phase_at, state_of}
+use Rattle.ceal_engine.specs.Keeping.{Kept, EngineInvariant as SoundInside, phase_at, state_of}
 use Rattle.ceal_engine.specs.Engine.{EngineState, IsWhole, IsHeapOf, ReplaysCall, is_whole, stands_for}
-use Rattle.ceal_engine.specs.Partial.{spent_in, words_in, carried_by, CarriesFrom, SameRepair, BeginsLaw, KeptLaw}
+use Rattle.ceal_engine.specs.Partial.{spent_in, words_in, carried_by, CarriesRepair, SameRepair, BeginsLaw, KeptLaw}
 use Rattle.ceal_engine.specs.Runs.{OfRuns, SameRun, SetsBase, SetsInput, edited_at, same_stage}
 use Rattle.ceal_engine.specs.declared.phase.Phase.{Phase}
 use Rattle.ceal_engine.specs.declared.phase.Phase.TheVariants.{New, Finished, Pending, Partial, Dropped}
@@ -61,7 +61,8 @@ begins-law e k whole l is number above = go e.call refl
     there : is_some e.heap ≡ true
     there = k.heap_there ∙ whole-run e.phase whole
 
-    of : (call : Call) → e.call ≡ Some call → Fits e.code e.inputs call.function call.args → Replays e.code e.inputs call.function call.args l → CarriesFrom e number (beginning e.code e.inputs l number)
+    of : (call : Call) → e.call ≡ Some call → Fits e.code e.inputs call.function call.args → Replays e.code e.inputs call.function call.args l
+        → CarriesRepair e number (beginning e.code e.inputs l number)
     of call c fits r =
         let edited : Edited e.code e.inputs e.inputs call.function call.args l number = record { call = fits; fit = fits.blocks; extended = extended-refl e.code e.inputs; trace = r; above = above } in
         record {
@@ -74,7 +75,7 @@ begins-law e k whole l is number above = go e.call refl
               (carried-begin-law e.code e.inputs e.inputs call.function call.args l number 0 edited) refl (held-words e l e.heap held there) (none-spent e.phase e.work whole);
         }
 
-    go : (c : Option Call) → e.call ≡ c → CarriesFrom e number (beginning e.code e.inputs l number)
+    go : (c : Option Call) → e.call ≡ c → CarriesRepair e number (beginning e.code e.inputs l number)
     go None c = absurd (false≢true (subst (λ p. is_whole p ≡ true) (k.new c) whole))
     go (Some call) c = of call c (subst (λ o. IfSome o (λ call. Fits e.code e.inputs call.function call.args)) c k.call)
         (subst (λ o. IfSome o (λ call. Replays e.code e.inputs call.function call.args l)) c replays)
@@ -85,7 +86,8 @@ kept-law e n k m same next' r c = record {
   called = same.call ∙ c.called;
   items = c.items;
   is = ap stands_for same.forest ∙ c.is;
-  sound = subst (λ code. RepairHolds code own n.inputs c.call.function c.call.args r) (sym same.code) (more-law e.code own e.inputs n.inputs c.call.function c.call.args fits fit same.inputs r c.sound);
+  sound = subst (λ code. RepairHolds code own n.inputs c.call.function c.call.args r) (sym same.code)
+      (more-law e.code own e.inputs n.inputs c.call.function c.call.args fits fit same.inputs r c.sound);
   carried = subst (λ code. Carried code n.inputs next' r (carried_by n c.items)) (sym same.code)
       (carried-same-law e.code n.inputs next' r (carried_by e c.items) (carried_by n c.items)
       (carried-more-law e.code e.inputs n.inputs fit same.inputs next' r (carried_by e c.items) c.carried) refl (λ b. ap (λ h. words_in h (Core b)) same.heap) same.spent);
@@ -99,7 +101,8 @@ kept-law e n k m same next' r c = record {
 
 -- ---- after an edit and a new input
 
-module _ (code : Code) (fuel : ℕ) (inputs more : List Block) (call : Option Call) (extended : Extended code inputs more) (f : Stage → Stage) (spent : (g : Stage) (work : ℕ) → spent_in (phase_at (f g)) work ≡ spent_in (phase_at g) work) where
+module _ (code : Code) (fuel : ℕ) (inputs more : List Block) (call : Option Call) (extended : Extended code inputs more) (f : Stage → Stage)
+    (spent : (g : Stage) (work : ℕ) → spent_in (phase_at (f g)) work ≡ spent_in (phase_at g) work) where
   abbrev state : List Block → Run → EngineState
   state inputs run = state_of code fuel inputs call run
 
@@ -115,12 +118,14 @@ module _ (code : Code) (fuel : ℕ) (inputs more : List Block) (call : Option Ca
     inputs = extended;
   }
   same-repair (its.Kept old g) its.Dropped o = elim o [ ]
-  same-repair its.Dropped run o = subst (λ r. SameRepair (state inputs its.Dropped) (state more r)) (sym o) (record { code = refl; call = refl; forest = refl; heap = refl; spent = refl; inputs = extended })
+  same-repair its.Dropped run o =
+      subst (λ r. SameRepair (state inputs its.Dropped) (state more r)) (sym o) (record { code = refl; call = refl; forest = refl; heap = refl; spent = refl; inputs = extended })
 
 -- the repair that is carried is the same
-pub carries-still : (code : Code) (fuel : ℕ) (inputs more : List Block) (kept : Kept) (extended : Extended code inputs more) (f : Stage → Stage) (spent : (g : Stage) (work : ℕ) → spent_in (phase_at (f g)) work ≡ spent_in (phase_at g) work)
+pub carries-still : (code : Code) (fuel : ℕ) (inputs more : List Block) (kept : Kept) (extended : Extended code inputs more) (f : Stage → Stage)
+    (spent : (g : Stage) (work : ℕ) → spent_in (phase_at (f g)) work ≡ spent_in (phase_at g) work)
     → (old run : Run) → SoundInside code fuel inputs kept old → SoundInside code fuel more kept run → OfRuns SameRun f old run → (next' : ℕ) (r : Repair)
-    → CarriesFrom (state_of code fuel inputs kept.call old) next' r → CarriesFrom (state_of code fuel more kept.call run) next' r
+    → CarriesRepair (state_of code fuel inputs kept.call old) next' r → CarriesRepair (state_of code fuel more kept.call run) next' r
 carries-still code fuel inputs more kept extended f spent old run before now o =
     kept-law (state_of code fuel inputs kept.call old) (state_of code fuel more kept.call run) (sound-engine code fuel inputs kept old before) (sound-engine code fuel more kept run now)
     (same-repair code fuel inputs more kept.call extended f spent old run o)
@@ -136,5 +141,6 @@ of-both P Q f h its.Dropped run o = o
 pub same-base : (p : Place) (w : Word) (old run : Run) → OfRuns (SetsBase p w) edited_at old run → OfRuns SameRun edited_at old run
 same-base p w = of-both (SetsBase p w) SameRun edited_at (λ old run o. o.same)
 
-pub same-input : (structs : List StructInfo) (input : ℕ) (shape : Shape) (words : List Word) (old run : Run) → OfRuns (SetsInput structs input shape words) same_stage old run → OfRuns SameRun same_stage old run
+pub same-input : (structs : List StructInfo) (input : ℕ) (shape : Shape) (words : List Word) (old run : Run) → OfRuns (SetsInput structs input shape words) same_stage old run
+    → OfRuns SameRun same_stage old run
 same-input structs input shape words = of-both (SetsInput structs input shape words) SameRun same_stage (λ old run o. o.same)

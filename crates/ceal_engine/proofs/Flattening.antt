@@ -46,7 +46,8 @@ next-is : (next : Option Stamp) (o : Option ℕ) → IfSome next (λ n. o ≡ So
 next-is None o some none = sym none
 next-is (Some n) o some none = sym some
 
-pub walk-more : (nodes : List Entry) → Distinct (stamps_in nodes) → (items : List Item) (stamp : Stamp) → Walking nodes items (Some stamp) → (node : Node) → node_at stamp.0 nodes ≡ Some node → (steps : ℕ) → steps ≡ steps_at stamp.0 nodes
+pub walk-more : (nodes : List Entry) → Distinct (stamps_in nodes) → (items : List Item) (stamp : Stamp) → Walking nodes items (Some stamp) → (node : Node) → node_at stamp.0 nodes ≡ Some node
+    → (steps : ℕ) → steps ≡ steps_at stamp.0 nodes
     → (next : Option Stamp) → IfSome next (λ n. successor stamp.0 (stamps_in nodes) ≡ Some n.0) → IfNone next (successor stamp.0 (stamps_in nodes) ≡ None)
     → (items1 items2 : List Item) → items1 ≡ items ++ item_of node → items2 ≡ items1 ++ ticks steps → Walking nodes items2 next
 walk-more nodes d items stamp w node is steps counted next some none items1 items2 more ticked = go w.back w.whole w.here
@@ -70,7 +71,8 @@ walk-more nodes d items stamp w node is steps counted next some none items1 item
               ∙ (rw (node-is, steps-is)
               (append_assoc (forest_of w.front) (item_of x.node) (ticks x.steps)
               ∙ (ap (λ is. forest_of w.front ++ (item_of x.node ++ is)) (sym (append-nil (ticks x.steps))) ∙ sym (forest-append w.front (x ∷ []))))));
-          here = next-is next (successor stamp.0 (stamps_in nodes)) some none ∙ (ap (λ s. successor s (stamps_in nodes)) own ∙ (ap (λ es. successor x.stamp (stamps_in es)) e ∙ after-front w.front x xs fresh));
+          here = next-is next (successor stamp.0 (stamps_in nodes)) some none
+              ∙ (ap (λ s. successor s (stamps_in nodes)) own ∙ (ap (λ es. successor x.stamp (stamps_in es)) e ∙ after-front w.front x xs fresh));
         }
 
 pub walk-last : (nodes : List Entry) (items : List Item) → Walking nodes items None → items ≡ forest_of nodes

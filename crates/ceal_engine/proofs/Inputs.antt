@@ -3,7 +3,7 @@ use Rattle.std.proofs.Common.{◌≡◌, ℕ, zero, suc, ◌==◌, ◌&&◌, Boo
 use Rattle.std.specs.List.{list_all}
 use Rattle.std.specs.Option.{option_map}
 use Rattle.std.specs.Prelude.{IfSome}
-use Rattle.ceal_base.specs.Block.{Block, block_at, changed}
+use Rattle.ceal_base.specs.Block.{Block, block_at, changed, alone}
 use Rattle.ceal_base.specs.Fitting.{kind_in, kind_at, fits_field, block_fits, inputs_fit}
 use Rattle.ceal_base.specs.Shapes.{kinds_of_shape, default_of_field}
 use Rattle.ceal_base.specs.declared.kind.FieldKind.{FieldKind}
@@ -22,7 +22,7 @@ use Rattle.ceal_code.specs.Replay.{plain_words, plain_block}
 use Rattle.ceal_code.specs.Value.{is_cell}
 use Rattle.ceal_code.specs.declared.function.FunctionCode.{FunctionCode}
 use Rattle.ceal_code.specs.declared.function.FunctionCode.TheVariants.{Core as CoreFunction, Init as InitFunction}
-use Rattle.ceal_engine.specs.Engine.{alone, fits_in, with_base}
+use Rattle.ceal_engine.specs.Engine.{fits_in, with_base}
 use Rattle.ceal_engine.specs.Keeping.{argument_count}
 use Rattle.ceal_theory.specs.Adjust.{Extended}
 use Rattle.ceal_base.specs.declared.call.Call.{Call}
@@ -115,7 +115,8 @@ module _ (structs : List StructInfo) where
             count = subst (λ ys. length ys ≡ length inputs) is (length-set inputs n (altered block p.field w));
           }
 
-      of-input : (n : ℕ) (o : Option Block) → slice_get inputs n ≡ o → fits_in structs (alone inputs) (kind_in structs o p.field) w ≡ true → Edited inputs (record { block = Input n; field = p.field }) w
+      of-input : (n : ℕ) (o : Option Block) → slice_get inputs n ≡ o → fits_in structs (alone inputs) (kind_in structs o p.field) w ≡ true
+          → Edited inputs (record { block = Input n; field = p.field }) w
       of-input n None e g = absurd (grind (arith, g))
       of-input n (Some block) e g = at n block e (slice_get (kinds_of_shape structs block.shape) p.field) refl g
 
@@ -147,7 +148,8 @@ plain-set (kind ∷ kinds) [] f w e = refl
 plain-set (kind ∷ kinds) (v ∷ words) zero w e = rw e refl
 plain-set (kind ∷ kinds) (v ∷ words) (suc f) w e = ap (λ ws. (if is_cell (Some kind) then default_of_field kind else v) ∷ ws) (plain-set kinds words f w e)
 
-module _ (code : Code) (inputs : List Block) (n f : ℕ) (w : Word) (block : Block) (there : slice_get inputs n ≡ Some block) (cell : is_cell (slice_get (kinds_of_shape code.structs block.shape) f) ≡ true) where
+module _ (code : Code) (inputs : List Block) (n f : ℕ) (w : Word) (block : Block) (there : slice_get inputs n ≡ Some block)
+    (cell : is_cell (slice_get (kinds_of_shape code.structs block.shape) f) ≡ true) where
   plain-altered : plain_block code.structs (altered block f w) ≡ plain_block code.structs block
   plain-altered = ap (λ ws. record { shape = block.shape; words = ws }) (plain-set (kinds_of_shape code.structs block.shape) block.words f w cell)
 
@@ -166,7 +168,8 @@ module _ (code : Code) (inputs : List Block) (n f : ℕ) (w : Word) (block : Blo
 pub extended-edit : (code : Code) (inputs : List Block) (p : Place) (w : Word) → is_cell (kind_at code.structs (alone inputs) p) ≡ true → Extended code inputs (with_base inputs p w)
 extended-edit code inputs p w t = of-block p.block t
   where
-    of-input : (n : ℕ) (o : Option Block) → slice_get inputs n ≡ o → is_cell (kind_in code.structs o p.field) ≡ true → Extended code inputs (with_base inputs (record { block = Input n; field = p.field }) w)
+    of-input : (n : ℕ) (o : Option Block) → slice_get inputs n ≡ o → is_cell (kind_in code.structs o p.field) ≡ true
+        → Extended code inputs (with_base inputs (record { block = Input n; field = p.field }) w)
     of-input n None e g = absurd (grind (arith, g))
     of-input n (Some block) e g =
         subst (λ ys. Extended code inputs ys) (sym (ap (λ o. changed inputs o n p.field w) e)) (extended-set code inputs n p.field w block e g)

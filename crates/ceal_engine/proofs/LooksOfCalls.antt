@@ -37,9 +37,11 @@ spent-edited stage.Pending work = refl
 spent-edited stage.Partial work = refl
 
 module _ (code : Code) (fuel : ℕ) (inputs : List Block) (call : Option Call) where
-  pub looks-edit : (p : Place) (value : Word) (more : List Block) (old run : Run) → OfRuns (SetsBase p value) edited_at old run → LooksOfEdit (state_of code fuel inputs call old) (state_of code fuel more call run)
+  pub looks-edit : (p : Place) (value : Word) (more : List Block) (old run : Run) → OfRuns (SetsBase p value) edited_at old run
+      → LooksOfEdit (state_of code fuel inputs call old) (state_of code fuel more call run)
   looks-edit p value more its.New run o =
-      subst (λ r. LooksOfEdit (state_of code fuel inputs call its.New) (state_of code fuel more call r)) (sym o) (record { looked = refl; queued = omega arith; writes = refl; differed = refl; spent = refl })
+      subst (λ r. LooksOfEdit (state_of code fuel inputs call its.New) (state_of code fuel more call r)) (sym o)
+          (record { looked = refl; queued = omega arith; writes = refl; differed = refl; spent = refl })
   looks-edit p value more (its.Kept old g) its.New o = elim o [ ]
   looks-edit p value more (its.Kept old g) (its.Kept run h) o = record {
     looked = o.0.looked;
@@ -50,7 +52,8 @@ module _ (code : Code) (fuel : ℕ) (inputs : List Block) (call : Option Call) w
   }
   looks-edit p value more (its.Kept old g) its.Dropped o = elim o [ ]
   looks-edit p value more its.Dropped run o =
-      subst (λ r. LooksOfEdit (state_of code fuel inputs call its.Dropped) (state_of code fuel more call r)) (sym o) (record { looked = refl; queued = omega arith; writes = refl; differed = refl; spent = refl })
+      subst (λ r. LooksOfEdit (state_of code fuel inputs call its.Dropped) (state_of code fuel more call r)) (sym o)
+          (record { looked = refl; queued = omega arith; writes = refl; differed = refl; spent = refl })
 
   pub looks-input : (structs : List StructInfo) (input : ℕ) (shape : Shape) (words : List Word) (more : List Block) (old run : Run) → OfRuns (SetsInput structs input shape words) same_stage old run
       → LooksAtNothing (state_of code fuel inputs call old) (state_of code fuel more call run)
@@ -68,7 +71,8 @@ module _ (code : Code) (fuel : ℕ) (inputs : List Block) (call : Option Call) w
       subst (λ r. LooksAtNothing (state_of code fuel inputs call its.Dropped) (state_of code fuel more call r)) (sym o) (record { looked = refl; queued = refl; writes = refl; differed = refl })
 
   -- a repair
-  pub looks-repair : (before : Run) (run run' : Running) → opened before ≡ Some run → Pays run run' → (after : Stage) → LooksOfRepair (state_of code fuel inputs call before) (state_of code fuel inputs call (its.Kept run' after))
+  pub looks-repair : (before : Run) (run run' : Running) → opened before ≡ Some run → Pays run run' → (after : Stage)
+      → LooksOfRepair (state_of code fuel inputs call before) (state_of code fuel inputs call (its.Kept run' after))
   looks-repair its.New run run' is pays after = none-some run is
   looks-repair (its.Kept before g) run run' is pays after = λ few.
       let s = same-as g before run is in
@@ -92,7 +96,8 @@ pub nothing-same : (e n : EngineState) → n ≡ e → LooksAtNothing e n
 nothing-same e n h = rw h (record { looked = refl; queued = refl; writes = refl; differed = refl })
 
 -- a repair, or a run from nothing
-pub looks-either : (e n : EngineState) (far : Came) → has_run e.phase ≡ true → (far ≢ came.Anew → LooksOfRepair e n) → (far ≡ came.Anew → LooksOfRun n) → (far ≡ came.Anew → IsSomeAnd (trace n) (IsFirst n)) → LooksOfEither e n
+pub looks-either : (e n : EngineState) (far : Came) → has_run e.phase ≡ true → (far ≢ came.Anew → LooksOfRepair e n) → (far ≡ came.Anew → LooksOfRun n)
+    → (far ≡ came.Anew → IsSomeAnd (trace n) (IsFirst n)) → LooksOfEither e n
 looks-either e n came.More there repair run first = inl (there, repair (λ s. absurd cc))
 looks-either e n came.Done there repair run first = inl (there, repair (λ s. absurd cc))
 looks-either e n came.Anew there repair run first = inr (first refl, run refl)

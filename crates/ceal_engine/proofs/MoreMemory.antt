@@ -65,7 +65,8 @@ pub filled-same : (code : Code) (s t : Store) (b : BlockId) → ((f : ℕ) → s
 filled-same code s t b h None = refl
 filled-same code s t b h (Some block) = ap (λ ws. Some (record { shape = block.shape; words = ws })) (contents-same s t b 0 h (kinds_of_shape code.structs block.shape) block.words)
 
-module _ (code : Code) (inputs more : List Block) (f : ℕ) (args : List Word) (fits : Fits code inputs f args) (extended : Extended code inputs more) (l : Trace) (r : Replays code inputs f args l) where
+module _ (code : Code) (inputs more : List Block) (f : ℕ) (args : List Word) (fits : Fits code inputs f args) (extended : Extended code inputs more) (l : Trace)
+    (r : Replays code inputs f args l) where
   old-plain : Extends (input_plain code inputs) (plain_of code inputs l)
   unfolding plain_of
   old-plain = plain-from code r.yields (input_plain code inputs) r.distinct (λ c h. no-core code inputs c)
@@ -80,7 +81,8 @@ module _ (code : Code) (inputs more : List Block) (f : ℕ) (args : List Word) (
   unfolding plain_of
   core-plain c = go (uses c l) refl (plain_after code (input_plain code inputs) l (Core c)) refl
     where
-      go : (n : ℕ) → uses c l ≡ n → (o : Option Block) → plain_after code (input_plain code inputs) l (Core c) ≡ o → plain_after code (input_plain code more) l (Core c) ≡ plain_after code (input_plain code inputs) l (Core c)
+      go : (n : ℕ) → uses c l ≡ n → (o : Option Block) → plain_after code (input_plain code inputs) l (Core c) ≡ o
+          → plain_after code (input_plain code more) l (Core c) ≡ plain_after code (input_plain code inputs) l (Core c)
       go n h (Some block) e = walk.mono (input_plain code more) (inputs-extend code inputs more extended) (Core c) block e ∙ sym e
       go zero h None e = plain-none code (input_plain code more) l c h (no-core code more c) ∙ sym e
       go (suc n) h None e = let k = walk.holds (Core c) (uses-known r.mentions c (omega (arith, h))) in none-some k.block (sym e ∙ k.there)

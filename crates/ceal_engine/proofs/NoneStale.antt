@@ -13,7 +13,7 @@ use Rattle.ceal_engine.proofs.Repairs.{no-end}
 use Rattle.ceal_engine.specs.Calls.{Advances}
 use Rattle.ceal_engine.specs.Engine.{EngineState, IsWhole, stands_for, fresh_call}
 use Rattle.ceal_engine.specs.Keeping.{Keeps, forest_in, phase_of, running_in, state_of}
-use Rattle.ceal_engine.specs.Partial.{CarriesFrom, Comes, IsRunAgain}
+use Rattle.ceal_engine.specs.Partial.{CarriesRepair, RepairOutcome, IsRunAgain}
 use Rattle.ceal_engine.specs.Repaired.{KeepsFront}
 use Rattle.ceal_engine.specs.Runs.{opened}
 use Rattle.ceal_engine.specs.declared.phase.Came.{Came}
@@ -37,7 +37,8 @@ use Rattle.ceal_trace.specs.Nodes.{Timeline}
 
 -- ---- a slice of a repair that is done is there
 
-module _ (code : Code) (inputs : List Block) (f : ℕ) (args : List Word) (fuel : ℕ) (q : Repair) (run : Running) (part : IsPartRun code inputs f args fuel q run) (honest : IsHonest code inputs q.items) where
+module _ (code : Code) (inputs : List Block) (f : ℕ) (args : List Word) (fuel : ℕ) (q : Repair) (run : Running) (part : IsPartRun code inputs f args fuel q run)
+    (honest : IsHonest code inputs q.items) where
   few : q.spent ≤ fuel
   few = omega (arith, part.few, part.stands.spent)
 
@@ -88,14 +89,16 @@ module _ (code : Code) (fuel : ℕ) (inputs : List Block) (before : Run) (call :
 -- ---- the nodes at the beginning
 
 -- nodes that a slice keeps at the beginning are kept of the engine's
-pub front-kept : (code : Code) (fuel : ℕ) (inputs : List Block) (call : Option Call) (before : Run) (run run' : Running) (after : Stage) → opened before ≡ Some run → KeepsNodes code inputs run.tables.trace.nodes run'.tables.trace.nodes
+pub front-kept : (code : Code) (fuel : ℕ) (inputs : List Block) (call : Option Call) (before : Run) (run run' : Running) (after : Stage) → opened before ≡ Some run
+    → KeepsNodes code inputs run.tables.trace.nodes run'.tables.trace.nodes
     → KeepsFront (state_of code fuel inputs call before) (state_of code fuel inputs call (its.Kept run' after))
 front-kept code fuel inputs call its.New run run' after is h = none-some run is
 front-kept code fuel inputs call (its.Kept before g) run run' after is h = λ front back e agrees. h front back (ap (λ (t : Timeline). t.nodes) (same-as g before run is).trace ∙ e) agrees
 front-kept code fuel inputs call its.Dropped run run' after is h = none-some run is
 
 -- they are kept, or the call was run again in place of a repair
-pub front-or-again : (e n : EngineState) (reads : Option ℕ) (far : Came) → (far ≢ came.Anew → KeepsFront e n) → (far ≡ came.Anew → e.phase ≡ Partial) → ((next : ℕ) (r : Repair) → CarriesFrom e next r → Comes e n reads next r (Ok far))
+pub front-or-again : (e n : EngineState) (reads : Option ℕ) (far : Came) → (far ≢ came.Anew → KeepsFront e n) → (far ≡ came.Anew → e.phase ≡ Partial)
+    → ((next : ℕ) (r : Repair) → CarriesRepair e next r → RepairOutcome e n reads next r (Ok far))
     → KeepsFront e n ⊎ IsRunAgain e n reads
 front-or-again e n reads came.More kept part comes = inl (kept (λ s. absurd cc))
 front-or-again e n reads came.Done kept part comes = inl (kept (λ s. absurd cc))

@@ -1,5 +1,6 @@
 -- What an engine keeps is the run from scratch on its present inputs.
-use Rattle.std.proofs.Common.{◌≡◌, ℕ, zero, suc, ◌+◌, ◌<◌, ◌≤◌, ◌*◌, ◌==◌, Bool, true, false, if◌then◌else◌, Option, Some, None, List, [], ◌∷◌, length, map, slice_get, slice_index, refl, sym, ap, ◌∙◌, subst, arith}
+use Rattle.std.proofs.Common.{◌≡◌, ℕ, zero, suc, ◌+◌, ◌<◌, ◌≤◌, ◌*◌, ◌==◌, Bool, true, false, if◌then◌else◌, Option, Some, None, List, [], ◌∷◌, length, map, slice_get, slice_index, refl, sym, ap}
+use Rattle.std.proofs.Common.{◌∙◌, subst, arith}
 use Rattle.std.specs.Option.{option_map}
 use Rattle.std.proofs.lemmas.Bool.{false≢true}
 use Rattle.std.specs.Prelude.{IfSome, IsSome, is_some}
@@ -29,7 +30,7 @@ use Rattle.ceal_engine.proofs.LiveCount.{live-are}
 use Rattle.ceal_engine.proofs.MoreMemory.{core-none}
 use Rattle.ceal_engine.proofs.RunMemory.{allocs-flat, low-numbers, inputs-held, cores-held, steps-held}
 use Rattle.ceal_engine.specs.Engine.{EngineState, ReplaysCall, IsPresent, IsTraced, IsEngine, IsTidy, IsHeapOf, IsWhole, has_run, core, stands_for}
-use Rattle.ceal_engine.specs.Keeping.{Kept, phase_at, phase_of, running_in, forest_in, timeline_in, heap_in, steps_kept, queued_kept, store_in, state_of, IsPartKept, KeepsRun, Keeps, Sound}
+use Rattle.ceal_engine.specs.Keeping.{Kept, phase_at, phase_of, running_in, forest_in, timeline_in, heap_in, steps_kept, queued_kept, store_in, state_of, IsPartKept, KeepsRun, Keeps, EngineInvariant}
 use Rattle.ceal_engine.specs.Runs.{trace_in}
 use Rattle.ceal_engine.specs.declared.phase.Phase.{Phase}
 use Rattle.ceal_engine.specs.declared.phase.Phase.TheVariants.{New, Finished as IsFinished, Pending, Partial, Dropped}
@@ -167,7 +168,8 @@ pub record IsWholeRun (code : Code) (fuel : ℕ) (inputs : List Block) (call : C
   pub honest : phase ≡ IsFinished → IsHonest code inputs trace
   pub idle : phase ≡ IsFinished → run.tables.stale.stamps ≡ []
 
-pub whole-kept : (code : Code) (fuel : ℕ) (inputs : List Block) (call : Call) (run : Running) (s : Stage) → KeepsRun code fuel inputs call run s → IsWhole (phase_at s) → IsWholeRun code fuel inputs call run (phase_at s)
+pub whole-kept : (code : Code) (fuel : ℕ) (inputs : List Block) (call : Call) (run : Running) (s : Stage) → KeepsRun code fuel inputs call run s → IsWhole (phase_at s)
+    → IsWholeRun code fuel inputs call run (phase_at s)
 whole-kept code fuel inputs call run stage.Finished k w = record { whole = refl; trace = k.trace; of = k.of; honest = λ e. k.honest; idle = λ e. k.idle }
 whole-kept code fuel inputs call run stage.Pending k w = record { whole = refl; trace = k.0; of = k.1; honest = λ e. absurd (grind (arith, e)); idle = λ e. absurd (grind (arith, e)) }
 whole-kept code fuel inputs call run stage.Partial k w = absurd (grind (arith, w))
@@ -178,7 +180,8 @@ part-trace code fuel inputs call run k = ap trace_of k.of.stands.items ∙ trace
 
 -- what is true of an engine without a run, of one with a whole run, and of one with a part of a repair
 pub by-run : (code : Code) (fuel : ℕ) (inputs : List Block) (P : Run → Option Call → Type 0) → P its.New None → ((c : Call) → P its.Dropped (Some c))
-    → ((c : Call) (r : Running) (s : Stage) → IsWholeRun code fuel inputs c r (phase_at s) → P (its.Kept r s) (Some c)) → ((c : Call) (r : Running) → IsPartKept code fuel inputs c r → P (its.Kept r stage.Partial) (Some c))
+    → ((c : Call) (r : Running) (s : Stage) → IsWholeRun code fuel inputs c r (phase_at s) → P (its.Kept r s) (Some c))
+    → ((c : Call) (r : Running) → IsPartKept code fuel inputs c r → P (its.Kept r stage.Partial) (Some c))
     → (run : Run) (call : Option Call) → Keeps code fuel inputs run call → P run call
 by-run code fuel inputs P new dropped whole part its.New call k = subst (P its.New) (sym k) new
 by-run code fuel inputs P new dropped whole part (its.Kept run s) None k = elim k [ ]
@@ -188,13 +191,15 @@ by-run code fuel inputs P new dropped whole part (its.Kept run stage.Partial) (S
 by-run code fuel inputs P new dropped whole part its.Dropped None k = absurd (false≢true k)
 by-run code fuel inputs P new dropped whole part its.Dropped (Some call) k = dropped call
 
-module _ (code : Code) (fuel : ℕ) (inputs : List Block) (kept : Kept) (run : Run) (s : Sound code fuel inputs kept run) where
-  by : (P : Run → Option Call → Type 0) → P its.New None → ((c : Call) → P its.Dropped (Some c)) → ((c : Call) (r : Running) (s : Stage) → IsWholeRun code fuel inputs c r (phase_at s) → P (its.Kept r s) (Some c))
+module _ (code : Code) (fuel : ℕ) (inputs : List Block) (kept : Kept) (run : Run) (s : EngineInvariant code fuel inputs kept run) where
+  by : (P : Run → Option Call → Type 0) → P its.New None → ((c : Call) → P its.Dropped (Some c))
+      → ((c : Call) (r : Running) (s : Stage) → IsWholeRun code fuel inputs c r (phase_at s) → P (its.Kept r s) (Some c))
       → ((c : Call) (r : Running) → IsPartKept code fuel inputs c r → P (its.Kept r stage.Partial) (Some c)) → P run kept.call
   by P new dropped whole part = by-run code fuel inputs P new dropped whole part run kept.call s.keeps
 
   uncalled : phase_of run ≡ New → kept.call ≡ None
-  uncalled = by (λ r c. phase_of r ≡ New → c ≡ None) (λ e. refl) (λ c e. absurd (grind (arith, e))) (λ c r s k e. let w = k.whole in absurd (grind (arith, rw e at w))) (λ c r k e. absurd (grind (arith, e)))
+  uncalled =
+      by (λ r c. phase_of r ≡ New → c ≡ None) (λ e. refl) (λ c e. absurd (grind (arith, e))) (λ c r s k e. let w = k.whole in absurd (grind (arith, rw e at w))) (λ c r k e. absurd (grind (arith, e)))
 
   new : kept.call ≡ None → phase_of run ≡ New
   new = by (λ r c. c ≡ None → phase_of r ≡ New) (λ e. refl) (λ c e. none-some c (sym e)) (λ c r s k e. none-some c (sym e)) (λ c r k e. none-some c (sym e))
@@ -216,10 +221,12 @@ module _ (code : Code) (fuel : ℕ) (inputs : List Block) (kept : Kept) (run : R
       (λ c r s k. record { nests = k.of.stands.nests; lives = k.of.stands.blocks.lives }) (λ c r k. record { nests = k.of.stands.nests; lives = k.of.stands.blocks.lives })
 
   -- what is true of the trace of a run
-  of-trace : (P : EngineState → Trace → Type 0) → ((c : Call) (r : Running) (s : Stage) (k : IsWholeRun code fuel inputs c r (phase_at s)) → P (state_of code fuel inputs (Some c) (its.Kept r s)) k.trace)
+  of-trace : (P : EngineState → Trace → Type 0)
+      → ((c : Call) (r : Running) (s : Stage) (k : IsWholeRun code fuel inputs c r (phase_at s)) → P (state_of code fuel inputs (Some c) (its.Kept r s)) k.trace)
       → IsWhole (phase_of run) → IfSome (stands_for (forest_in (running_in run))) (P (state_of code fuel inputs kept.call run))
   of-trace P f = by (λ r c. IsWhole (phase_of r) → IfSome (stands_for (forest_in (running_in r))) (P (state_of code fuel inputs c r))) (λ w. tt) (λ c w. tt)
-      (λ c r s k w. subst (λ o. IfSome o (P (state_of code fuel inputs (Some c) (its.Kept r s)))) (sym (trace-kept code fuel inputs c r k.trace k.of)) (f c r s k)) (λ c r k w. absurd (grind (arith, w)))
+      (λ c r s k w. subst (λ o. IfSome o (P (state_of code fuel inputs (Some c) (its.Kept r s)))) (sym (trace-kept code fuel inputs c r k.trace k.of)) (f c r s k))
+          (λ c r k w. absurd (grind (arith, w)))
 
   traced : phase_of run ≡ IsFinished → IfSome (stands_for (forest_in (running_in run))) (IsTraced (state_of code fuel inputs kept.call run))
   traced = by (λ r c. phase_of r ≡ IsFinished → IfSome (stands_for (forest_in (running_in r))) (IsTraced (state_of code fuel inputs c r))) (λ e. tt) (λ c e. tt)

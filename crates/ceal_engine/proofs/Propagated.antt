@@ -62,7 +62,8 @@ module _ (code : Code) (fuel : ℕ) (inputs : List Block) where
   keeps-told work its.Dropped call w k = k
 
   -- where there is a run, nothing else of the engine changes
-  pub told-state : (work : ℕ) (call : Option Call) (run : Run) → phase_of run ≡ IsFinished → state_of code fuel inputs call (told_of work run) ≡ record (state_of code fuel inputs call run) { work = work }
+  pub told-state : (work : ℕ) (call : Option Call) (run : Run) → phase_of run ≡ IsFinished
+      → state_of code fuel inputs call (told_of work run) ≡ record (state_of code fuel inputs call run) { work = work }
   told-state work call its.New e = absurd (grind (arith, e))
   told-state work call (its.Kept run s) e = refl
   told-state work call its.Dropped e = absurd (grind (arith, e))

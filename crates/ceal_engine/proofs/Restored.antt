@@ -39,11 +39,13 @@ module _ (code : Code) (fuel : ℕ) (inputs : List Block) (f : ℕ) (args : List
       })
 
   -- an engine with a finished run of the call has the trace
-  pub engine-restored : (e : EngineState) → IsEngine e → e.code ≡ code → e.inputs ≡ inputs → e.call ≡ Some (record { function = f; args = args }) → e.phase ≡ IsFinished → IsSomeAnd (trace e) (IsRestored items)
+  pub engine-restored : (e : EngineState) → IsEngine e → e.code ≡ code → e.inputs ≡ inputs → e.call ≡ Some (record { function = f; args = args }) → e.phase ≡ IsFinished
+      → IsSomeAnd (trace e) (IsRestored items)
   engine-restored e w c i k p = go (trace e) (w.kept ∙ ap has_run p) (w.replays (rw p refl)) (w.traced p)
     where
       go : (o : Option Trace) → is_some o ≡ true → IfSome o (ReplaysCall e) → IfSome o (IsTraced e) → IsSomeAnd o (IsRestored items)
       go None h s t = absurd (cc h)
       go (Some m) h s t =
-          let q : IfSome {T = Call} (Some (record { function = f; args = args })) (λ call. Replays e.code e.inputs call.function call.args m) = subst (λ o. IfSome {T = Call} o (λ call. Replays e.code e.inputs call.function call.args m)) k s in
+          let q : IfSome {T = Call} (Some (record { function = f; args = args })) (λ call. Replays e.code e.inputs call.function call.args m) =
+              subst (λ o. IfSome {T = Call} o (λ call. Replays e.code e.inputs call.function call.args m)) k s in
           renamed m (subst (λ i. Replays code i f args m) i (subst (λ c. Replays c e.inputs f args m) c q)) (subst (λ i. IsHonest code i m) i (subst (λ c. IsHonest c e.inputs m) c t.honest))

@@ -1,5 +1,6 @@
 -- The memory of a run: what its modifiables hold is what the trace leaves, its heap has the blocks of the trace.
-use Rattle.std.proofs.Common.{◌≡◌, ℕ, zero, suc, ◌+◌, ◌<◌, ◌≤◌, nat_le, Bool, true, false, Option, Some, None, List, [], ◌∷◌, ◌++◌, length, slice_get, refl, sym, ap, ap₂, subst, ◌∙◌, arith, append-nil}
+use Rattle.std.proofs.Common.{◌≡◌, ℕ, zero, suc, ◌+◌, ◌<◌, ◌≤◌, nat_le, Bool, true, false, Option, Some, None, List, [], ◌∷◌, ◌++◌, length, slice_get, refl, sym, ap, ap₂, subst, ◌∙◌, arith}
+use Rattle.std.proofs.Common.{append-nil}
 use Rattle.std.specs.Option.{option_map}
 use Rattle.ceal_base.proofs.TraceLemmas.{steps-flat}
 use Rattle.ceal_base.specs.Block.{Block}
@@ -29,9 +30,9 @@ use Rattle.ceal_mods.specs.Writes.{Write as WriteOf, last_of}
 use Rattle.ceal_repair.proofs.Nodes.NodeItems.{allocs-append, known-more}
 use Rattle.ceal_repair.proofs.Runs.NewBlock.{count-in, in-count, contents-written}
 use Rattle.ceal_repair.proofs.Lists.ListChanges.{last-contents}
-use Rattle.ceal_repair.specs.Answers.{Stands, IsKeptRun}
+use Rattle.ceal_repair.specs.Answers.{StandsForTrace, IsKeptRun}
 use Rattle.ceal_repair.specs.Kept.{base_in}
-use Rattle.ceal_repair.specs.Words.{default_of}
+use Rattle.ceal_repair.specs.Words.{default_by_standing}
 use Rattle.ceal_repair.specs.declared.running.Running.{Running}
 use Rattle.ceal_theory.proofs.Repair.DistinctBlocks.{uses}
 use Rattle.ceal_theory.proofs.SlicedRepair.DoneReplays.{same-bases}
@@ -75,7 +76,7 @@ allocs-known bs (item.Read p value u v args ∷ is) b i = allocs-known bs is b i
 allocs-known bs (item.End ∷ is) b i = allocs-known bs is b i
 
 -- the blocks of the trace have numbers below the next one of the heap
-pub low-numbers : (code : Code) (inputs : List Block) (l : Trace) (run : Running) → Stands code inputs l run → Above (next run.heap) l
+pub low-numbers : (code : Code) (inputs : List Block) (l : Trace) (run : Running) → StandsForTrace code inputs l run → Above (next run.heap) l
 low-numbers code inputs l run s b h = go (uses b l) refl
   where
     go : (n : ℕ) → uses b l ≡ n → uses b l ≡ 0
@@ -143,7 +144,8 @@ module _ (code : Code) (inputs : List Block) (f : ℕ) (args : List Word) (fuel 
   words = plain_of code inputs l
 
   sound : RepairHolds code own inputs f args (beginning code inputs l limit)
-  sound = begin-sound code own inputs inputs f args l limit limit (record { call = k.fits; fit = k.fits.blocks; extended = extended-refl code inputs; trace = k.replays; above = above }) own-single above
+  sound = begin-sound code own inputs inputs f args l limit limit
+      (record { call = k.fits; fit = k.fits.blocks; extended = extended-refl code inputs; trace = k.replays; above = above }) own-single above
 
   again : HonestAgain code (length inputs) (starting code inputs words) l k.replays.known h.after
   again = honest-again code (length inputs) h.walk k.replays.mentions (starting code inputs words) (λ p i. sym (same-bases code inputs words p i))
@@ -174,13 +176,14 @@ module _ (code : Code) (inputs : List Block) (f : ℕ) (args : List Word) (fuel 
   live-known : (n : ℕ) → IsLive run.heap (Core n) → In n (allocs (flat l))
   live-known n live = subst (λ is. In n (allocs is)) k.stands.items ((k.stands.blocks.lives.live n).0 live)
 
-  core-held : (n : ℕ) (block : Block) → heap_words run.heap (Core n) ≡ Some block → (field : ℕ) → contents mods (record { block = Core n; field = field }) ≡ h.after (record { block = Core n; field = field })
+  core-held : (n : ℕ) (block : Block) → heap_words run.heap (Core n) ≡ Some block → (field : ℕ)
+      → contents mods (record { block = Core n; field = field }) ≡ h.after (record { block = Core n; field = field })
   unfolding starting
   core-held n block e field =
       let live = live-of (standing run.heap (Core n)) (λ block r. k.stands.released (Core n) block r) block e in
       let i : In n (allocs (flat l)) = live-known n (live.0, live.1) in
       let base : base_in mods (record { block = Core n; field = field }) ≡ cell_default (field_kind code.structs block.shape field) =
-      k.stands.blocks.bases.of_cores n field ∙ (ap (λ st. default_of code.structs st field) live.1 ∙ ap (λ (b : Block). cell_default (field_kind code.structs b.shape field)) live.2) in
+      k.stands.blocks.bases.of_cores n field ∙ (ap (λ st. default_by_standing code.structs st field) live.1 ∙ ap (λ (b : Block). cell_default (field_kind code.structs b.shape field)) live.2) in
       held (record { block = Core n; field = field }) (uses-known k.replays.mentions n (subst (λ bs. 1 ≤ count n bs) (allocs-flat l) (in-count n (allocs (flat l)) i))) (allocs-known [] (flat l) n i)
       (base ∙ ap (λ o. default_in code.structs o field) (sym e ∙ k.stands.words n))
 
@@ -197,7 +200,8 @@ module _ (code : Code) (inputs : List Block) (f : ℕ) (args : List Word) (fuel 
       zero-more : 0 + n ≡ n
       zero-more = omega arith
 
-      go : (o : Option Block) → slice_get inputs n ≡ o → option_map (filled code (contents mods) (Input (0 + n))) o ≡ option_map (filled code (store_after code (bases code inputs) l) (Input (0 + n))) o
+      go : (o : Option Block) → slice_get inputs n ≡ o
+          → option_map (filled code (contents mods) (Input (0 + n))) o ≡ option_map (filled code (store_after code (bases code inputs) l) (Input (0 + n))) o
       go None e = refl
       go (Some block) e =
           rw zero-more

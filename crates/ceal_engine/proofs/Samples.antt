@@ -14,7 +14,7 @@ use Rattle.ceal_code.specs.Fresh.{fresh, run}
 use Rattle.ceal_code.specs.Replay.{bases, input_plain, plain_of, stored, block_after}
 use Rattle.ceal_code.specs.Step.{stack_after_quiet, next, chosen, bound, woven}
 use Rattle.ceal_code.specs.Value.{expr_value, values, set, unset}
-use Rattle.ceal_engine.specs.Engine.{EngineState, trace, core, IsRun, IsPresent, takes, with_base, edited}
+use Rattle.ceal_engine.specs.Engine.{EngineState, trace, core, IsRun, IsPresent, takes, with_base, phase_after_edit}
 use Rattle.ceal_engine.specs.Repaired.{first_trace}
 use Rattle.ceal_engine.specs.declared.phase.Phase.{Phase}
 use Rattle.ceal_engine.specs.declared.phase.Phase.TheVariants.{Finished as IsFinished, Pending}
@@ -55,7 +55,8 @@ unfolding input_plain plain_of bases stored block_after
 a_after = refl
 
 first : first_trace (engine IsFinished 4) ≡ Some (record { items = items 4 5; work = 2 })
-unfolding first_of anew next stack_after_quiet chosen bound woven set unset expr_value values bases input_plain stored take_read hidden-the_row-CodeExpr-0 shape-the_row-CodeExpr-0 denote.Hole.Carrier.hidden
+unfolding first_of anew next stack_after_quiet chosen bound woven set unset expr_value values bases input_plain stored take_read hidden-the_row-CodeExpr-0 shape-the_row-CodeExpr-0
+    denote.Hole.Carrier.hidden
 first = refl
 
 -- it is the run from scratch
@@ -94,10 +95,11 @@ no_core_block = refl
 with_nine : with_base (inputs 4 0) (place 0) (Num (pos 9)) ≡ inputs 9 0
 with_nine = refl
 
-is_pending : edited IsFinished ≡ Pending
+is_pending : phase_after_edit IsFinished ≡ Pending
 is_pending = refl
 
 -- the trace after a propagation: one step is re-executed
 repaired : adjusted inc (engine Pending 9).inputs 0 2 (items 4 5) ≡ Some (record { items = items 9 10; work = 1 })
-unfolding adjusted anew next stack_after_quiet chosen bound woven set unset expr_value values bases input_plain plain_of stored hidden-the_row-CodeExpr-0 shape-the_row-CodeExpr-0 denote.Hole.Carrier.hidden
+unfolding adjusted anew next stack_after_quiet chosen bound woven set unset expr_value values bases input_plain plain_of stored hidden-the_row-CodeExpr-0 shape-the_row-CodeExpr-0
+    denote.Hole.Carrier.hidden
 repaired = refl

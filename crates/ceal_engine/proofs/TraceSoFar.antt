@@ -29,11 +29,13 @@ Repairs code fuel inputs old new p =
     (f : ℕ) (args : List Word) (l : Trace) → IsKeptRun code inputs f args fuel l old → old.spent ≡ 0
     → IsRepaired code inputs f args fuel l old new p
 
-module _ (code : Code) (fuel : ℕ) (inputs : List Block) (before : Run) (whole : IsWhole (phase_of before)) (call : Option Call) (keeps : Keeps code fuel inputs before call) (run : Running) (is : opened before ≡ Some run)
+module _ (code : Code) (fuel : ℕ) (inputs : List Block) (before : Run) (whole : IsWhole (phase_of before)) (call : Option Call) (keeps : Keeps code fuel inputs before call) (run : Running)
+    (is : opened before ≡ Some run)
     (run' : Running) (p : Progress) (repairs : Repairs code fuel inputs run run' p) where
   -- what is true of a call that is there, of the run before it and of the trace of that
   by-parts : (P : Option Call → Run → Type 0)
-      → ((c : Call) (b : Running) (g : Stage) (l : Trace) (was : IsKeptRun code inputs c.function c.args fuel l b) → run ≡ told 0 b → IsRepaired code inputs c.function c.args fuel l run run' p → P (Some c) (its.Kept b g)) → P call before
+      → ((c : Call) (b : Running) (g : Stage) (l : Trace) (was : IsKeptRun code inputs c.function c.args fuel l b) → run ≡ told 0 b → IsRepaired code inputs c.function c.args fuel l run run' p
+      → P (Some c) (its.Kept b g)) → P call before
   by-parts P f = go before call whole is keeps
     where
       go : (b : Run) (c : Option Call) → IsWhole (phase_of b) → opened b ≡ Some run → Keeps code fuel inputs b c → P c b
@@ -47,7 +49,8 @@ module _ (code : Code) (fuel : ℕ) (inputs : List Block) (before : Run) (whole 
       go its.Dropped c w j k = none-some run j
 
   -- the new trace is the repair of the old one
-  pub done-so-far : p ≡ Done → (l : Trace) → stands_for (forest_in (running_in before)) ≡ Some l → IsRepairSoFar (state_of code fuel inputs call before) (finished code fuel inputs call run') l came.Done
+  pub done-so-far : p ≡ Done → (l : Trace) → stands_for (forest_in (running_in before)) ≡ Some l
+      → IsRepairSoFar (state_of code fuel inputs call before) (finished code fuel inputs call run') l came.Done
   done-so-far h =
       by-parts (λ c b. (l : Trace) → stands_for (forest_in (running_in b)) ≡ Some l → IsRepairSoFar (state_of code fuel inputs c b) (finished code fuel inputs c run') l came.Done)
       (λ c b g m was own r l t.

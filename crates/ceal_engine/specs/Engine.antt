@@ -1,7 +1,8 @@
 -- What an engine has, and when it is the run from scratch on the present inputs.
 use Rattle.std.specs.Option.{option_map}
-use Rattle.std.specs.Prelude.{◌≡◌, ℕ, ◌<◌, ◌≤◌, ◌*◌, ◌&&◌, Bool, true, false, Option, Some, None, IfSome, IsSome, is_some, Result, Ok, Err, List, [], length, slice_get, ⊤}
-use Rattle.ceal_base.specs.Block.{Block, Blocks, written_at}
+use Rattle.std.specs.Prelude.{◌≡◌, ℕ, ◌<◌, ◌≤◌, ◌*◌, ◌&&◌, Bool, true, false, Option, Some, None, IfSome, IsSome}
+use Rattle.std.specs.Prelude.{is_some, Result, Ok, Err, List, [], length, slice_get, ⊤}
+use Rattle.ceal_base.specs.Block.{Block, Blocks, written_at, alone}
 use Rattle.ceal_base.specs.Finished.{Finished}
 use Rattle.ceal_base.specs.Fitting.{kind_at, fits_field, memory_fits, inputs_fit}
 use Rattle.ceal_base.specs.Same.{Same, index_of}
@@ -92,10 +93,6 @@ stands_for (Some items) = trace_of items
 -- the trace of the last run
 abbrev pub trace : EngineState → Option Trace
 trace e = stands_for e.forest
-
--- input blocks as a memory without core blocks
-abbrev pub alone : List Block → Blocks
-alone inputs = record { inputs = inputs; made = [] }
 
 -- the block of an input with its bases, or a core block of the memory
 abbrev pub block_of : List Block → Store → BlockId → Option Block
@@ -209,12 +206,12 @@ pub record IsEngine (e : EngineState) : Type 0 where
   pub heap_there : is_some e.heap ≡ has_run e.phase
 
 -- the phase after an edit
-abbrev pub edited : Phase → Phase
-edited New = New
-edited IsFinished = Pending
-edited Pending = Pending
-edited Partial = Partial
-edited Dropped = Dropped
+abbrev pub phase_after_edit : Phase → Phase
+phase_after_edit New = New
+phase_after_edit IsFinished = Pending
+phase_after_edit Pending = Pending
+phase_after_edit Partial = Partial
+phase_after_edit Dropped = Dropped
 
 -- whether a word fits a field of this kind; none fits a field that is not there
 abbrev pub fits_in : List StructInfo → Blocks → Option FieldKind → Word → Bool

@@ -1,5 +1,6 @@
 -- How an engine keeps what it has: the call with room for its arguments, and the tables and the heap of the run.
-use Rattle.std.specs.Prelude.{◌≡◌, ℕ, zero, suc, ◌+◌, ◌≤◌, ◌<◌, ◌^◌, true, Option, Some, None, IfSome, is_some, List, [], ◌∷◌, length, slice_get}
+use Rattle.std.specs.Prelude.{◌≡◌, ℕ, zero, suc, ◌+◌, ◌≤◌, ◌<◌, ◌^◌, true, Option, Some, None, IfSome, is_some, List}
+use Rattle.std.specs.Prelude.{[], ◌∷◌, length, slice_get}
 use Rattle.std.specs.Global.{Vec}
 use Rattle.std.specs.Option.{option_map}
 use Rattle.std.specs.Vec.{vec_capacity}
@@ -196,7 +197,7 @@ Keeps code fuel inputs (its.Kept run s) (Some call) = KeepsRun code fuel inputs 
 Keeps code fuel inputs its.Dropped call = is_some call ≡ true
 
 -- what is true of every engine inside
-pub record Sound (code : Code) (fuel : ℕ) (inputs : List Block) (call : Kept) (run : Run) : Type 0 where
+pub record EngineInvariant (code : Code) (fuel : ℕ) (inputs : List Block) (call : Kept) (run : Run) : Type 0 where
   pub is_valid : valid code ≡ true
   pub limits : InLimits fuel
   pub fit : inputs_fit code.structs inputs ≡ true

@@ -30,10 +30,10 @@ phase_after More = Partial
 phase_after Done = Finished
 
 -- the phase after a repair has gone on
-abbrev pub phase_behind : Came → Phase
-phase_behind came.More = Partial
-phase_behind came.Done = Finished
-phase_behind came.Anew = Finished
+abbrev pub phase_after_repair : Came → Phase
+phase_after_repair came.More = Partial
+phase_after_repair came.Done = Finished
+phase_after_repair came.Anew = Finished
 
 -- a run that was made again is up to date, too
 abbrev pub progress_of : Came → Progress
@@ -59,7 +59,7 @@ abbrev pub carried_by : EngineState → Trace → Repair
 carried_by e l = record { items = l; known = words_in e.heap; number = 0; spent = spent_in e.phase e.work }
 
 -- It is the engine's repair, but that its new blocks are numbered in their order, from `next` on.
-pub record CarriesFrom (e : EngineState) (next : ℕ) (r : Repair) : Type 0 where
+pub record CarriesRepair (e : EngineState) (next : ℕ) (r : Repair) : Type 0 where
   pub call : Call
   pub called : e.call ≡ Some call
   pub items : Trace
@@ -71,7 +71,7 @@ pub record CarriesFrom (e : EngineState) (next : ℕ) (r : Repair) : Type 0 wher
 pub record IsUnderWay (e : EngineState) : Type 0 where
   pub next : ℕ
   pub repair : Repair
-  pub carries : CarriesFrom e next repair
+  pub carries : CarriesRepair e next repair
   pub few : e.work ≤ e.fuel
 
 -- The items are those of the repair with core blocks renamed one to one. Those below `next` keep their numbers, and a
@@ -84,15 +84,15 @@ pub record RenamedFrom (e : EngineState) (next : ℕ) (r : Repair) (l m : Trace)
   pub apart : (b c : ℕ) → Tied b c pairs → r.known (Core b) ≡ None → words_in e.heap (Core c) ≡ None
 
 -- A slice of the repair is there, and is not done; its items are the engine's trace, and the engine goes on with it.
-pub record GoesOn (e n : EngineState) (k : Option ℕ) (next : ℕ) (r : Repair) : Type 0 where
+pub record SliceContinues (e n : EngineState) (k : Option ℕ) (next : ℕ) (r : Repair) : Type 0 where
   pub repair : Repair
   pub is : sliced e.code own e.inputs k e.fuel r ≡ Some repair
   pub more : is_done e.code e.inputs repair ≡ false
   pub items : IsSomeAnd (trace n) (RenamedFrom e next r repair.items)
-  pub carries : CarriesFrom n next repair
+  pub carries : CarriesRepair n next repair
 
 -- A slice of the repair is there, and is done; its items are the engine's trace, and what was spent on it is the work.
-pub record Ends (e n : EngineState) (k : Option ℕ) (next : ℕ) (r : Repair) : Type 0 where
+pub record SliceEnds (e n : EngineState) (k : Option ℕ) (next : ℕ) (r : Repair) : Type 0 where
   pub repair : Repair
   pub is : sliced e.code own e.inputs k e.fuel r ≡ Some repair
   pub done : is_done e.code e.inputs repair ≡ true
@@ -107,7 +107,7 @@ pub record IsAnew (e n : EngineState) (k : Option ℕ) (r : Repair) : Type 0 whe
 -- The call was run again in place of a repair that was under way.
 pub record IsRunAgain (e n : EngineState) (k : Option ℕ) : Type 0 where
   pub part : e.phase ≡ Partial
-  pub anew : (next : ℕ) (r : Repair) → CarriesFrom e next r → IsAnew e n k r
+  pub anew : (next : ℕ) (r : Repair) → CarriesRepair e next r → IsAnew e n k r
 
 -- What a repair of a run makes of its trace, by how far it has come. Where nothing was stale nothing has changed.
 abbrev pub IsRepairSoFar : EngineState → EngineState → Trace → Came → Type 0
@@ -124,23 +124,23 @@ IsOut e k r =
     ⊎ ((r' : Repair) × (sliced e.code own e.inputs k e.fuel r ≡ Some r') × (is_done e.code e.inputs r' ≡ true))
 
 -- What that many reads, or all, make of the engine's repair, by the answer.
-abbrev pub Comes : EngineState → EngineState → Option ℕ → ℕ → Repair → Result Came RunError → Type 0
-Comes e n k next r (Ok came.More) = GoesOn e n k next r
-Comes e n k next r (Ok came.Done) = Ends e n k next r
-Comes e n k next r (Ok came.Anew) = IsAnew e n k r
-Comes e n k next r (Err OutOfFuel) = IsOut e k r
-Comes e n k next r (Err Memory) = ⊤
+abbrev pub RepairOutcome : EngineState → EngineState → Option ℕ → ℕ → Repair → Result Came RunError → Type 0
+RepairOutcome e n k next r (Ok came.More) = SliceContinues e n k next r
+RepairOutcome e n k next r (Ok came.Done) = SliceEnds e n k next r
+RepairOutcome e n k next r (Ok came.Anew) = IsAnew e n k r
+RepairOutcome e n k next r (Err OutOfFuel) = IsOut e k r
+RepairOutcome e n k next r (Err Memory) = ⊤
 
 -- the same, where it is not told whether the call was run again
-abbrev pub ComesSo : EngineState → EngineState → Option ℕ → ℕ → Repair → Result Progress RunError → Type 0
-ComesSo e n k next r (Ok More) = GoesOn e n k next r
-ComesSo e n k next r (Ok Done) = Ends e n k next r ⊎ IsAnew e n k r
-ComesSo e n k next r (Err error) = Comes e n k next r (Err error)
+abbrev pub ProgressOutcome : EngineState → EngineState → Option ℕ → ℕ → Repair → Result Progress RunError → Type 0
+ProgressOutcome e n k next r (Ok More) = SliceContinues e n k next r
+ProgressOutcome e n k next r (Ok Done) = SliceEnds e n k next r ⊎ IsAnew e n k r
+ProgressOutcome e n k next r (Err error) = RepairOutcome e n k next r (Err error)
 
 -- the same, where all that is left is repaired
-abbrev pub EndsSo : {A : Type 0} → EngineState → EngineState → ℕ → Repair → Result A RunError → Type 0
-EndsSo e n next r (Ok done) = Ends e n None next r ⊎ IsAnew e n None r
-EndsSo e n next r (Err error) = Comes e n None next r (Err error)
+abbrev pub EndOutcome : {A : Type 0} → EngineState → EngineState → ℕ → Repair → Result A RunError → Type 0
+EndOutcome e n next r (Ok done) = SliceEnds e n None next r ⊎ IsAnew e n None r
+EndOutcome e n next r (Err error) = RepairOutcome e n None next r (Err error)
 
 -- each block that could be read can be read still, and has the same words
 abbrev pub KeepsWords : Option Contents → Option Contents → Type 0
@@ -161,10 +161,10 @@ pub record SameRepair (e n : EngineState) : Type 0 where
 abbrev pub BeginsLaw : Type 0
 BeginsLaw =
     (e : EngineState) → IsEngine e → IsWhole e.phase → (l : Trace) → trace e ≡ Some l → (next : ℕ) → Above next l
-    → CarriesFrom e next (beginning e.code e.inputs l next)
+    → CarriesRepair e next (beginning e.code e.inputs l next)
 
 -- after an edit, and with one input more, it carries the repair that it carried
 abbrev pub KeptLaw : Type 0
 KeptLaw =
     (e n : EngineState) → IsEngine e → IsEngine n → SameRepair e n → (next : ℕ) (r : Repair)
-    → CarriesFrom e next r → CarriesFrom n next r
+    → CarriesRepair e next r → CarriesRepair n next r

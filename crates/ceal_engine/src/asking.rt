@@ -1,11 +1,12 @@
 // Whether an engine's calls may be made: a test for each of their premises.
 
 ghost use Rattle.std.specs.Prelude.{◌≡◌, ◌<◌, ◌+◌, ◌^◌, true, length, slice_get, IsTrue};
+ghost use Rattle.ceal_base.specs.Block.{alone};
 ghost use Rattle.ceal_base.specs.Fitting.{block_fits, inputs_fit, kind_at, kind_in};
 ghost use Rattle.ceal_code.specs.Fitting.{Fits, args_fit};
 ghost use Rattle.ceal_code.specs.Valid.{valid};
 ghost use Rattle.ceal_code.specs.Value.{is_cell};
-ghost use Rattle.ceal_engine.specs.Engine.{alone, block_in, takes};
+ghost use Rattle.ceal_engine.specs.Engine.{block_in, takes};
 ghost use Rattle.ceal_engine.specs.declared.phase.Phase.TheVariants.{New};
 
 use crate::engine::Engine;
@@ -44,8 +45,8 @@ fn is_modifiable(kind: Option<FieldKind>) -> bool
 }
 
 impl Engine {
-    /// Whether `add_input` takes an input of this shape with these words: there is one for each field, each fits, and there
-    /// is a number for one input more.
+    /// Whether `add_input` takes an input of this shape with these words: there is one for each field, each fits, and
+    /// there is a number for one input more.
     pub fn takes_input(&self, shape: Shape, words: &[Word]) -> bool
         ensures fits { IsTrue result → block_fits self.now.code.structs (alone self.now.inputs)
             (record { shape = shape; words = words.now }) ≡ true }

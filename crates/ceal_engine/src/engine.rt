@@ -2,12 +2,13 @@
 
 ghost use Rattle.std.specs.Prelude.{◌≡◌, ◌∷◌, ℕ, [], ◌++◌, ◌<◌, ◌+◌, ◌^◌, true, Some, None, IfOk, OnOk, OnErr, length};
 ghost use Rattle.std.specs.Option.{IsSomeAnd};
+ghost use Rattle.ceal_base.specs.Block.{alone};
 ghost use Rattle.ceal_base.specs.Fitting.{block_fits, inputs_fit};
 ghost use Rattle.ceal_base.specs.declared.word.BlockId.TheVariants.{Input};
 ghost use Rattle.ceal_code.specs.Valid.{valid};
-ghost use Rattle.ceal_engine.specs.Engine.{InLimits, alone, trace, edited, takes, with_base};
+ghost use Rattle.ceal_engine.specs.Engine.{InLimits, trace, phase_after_edit, takes, with_base};
 ghost use Rattle.ceal_engine.specs.Looks.{LooksAtNothing, LooksOfEdit};
-ghost use Rattle.ceal_engine.specs.Partial.{CarriesFrom};
+ghost use Rattle.ceal_engine.specs.Partial.{CarriesRepair};
 ghost use Rattle.ceal_engine.specs.Repaired.{IsRestorable, IsRestored};
 ghost use Rattle.ceal_engine.specs.declared.phase.Phase.TheVariants.{New, Finished};
 ghost use Rattle.ceal_theory.specs.Slices.{Repair as RepairOf};
@@ -34,8 +35,8 @@ mod runs;
 /// Runs trace code on inputs, and keeps the memory of the run up to date where inputs are edited.
 ///
 /// Contracts see the code and the fuel, the inputs with their present bases, the call, the phase, the trace of the last
-/// run with its nodes and its heap, and what a finished run came to: its memory by block numbers, its steps, its number of
-/// core blocks, and the work.
+/// run with its nodes and its heap, and what a finished run came to: its memory by block numbers, its steps, its number
+/// of core blocks, and the work.
 #[derive(Drop)]
 pub struct Engine {
     alloc: Global,
@@ -53,7 +54,7 @@ impl Model for Engine {
     ghost use Rattle.ceal_code.specs.contracts.expr.CodeExpr as expr;
     ghost use Rattle.ceal_code.specs.contracts.function.InitStmt as stmt;
     ghost use Rattle.ceal_engine.specs.Engine.{EngineState};
-    ghost use Rattle.ceal_engine.specs.Keeping.{state_of, Sound};
+    ghost use Rattle.ceal_engine.specs.Keeping.{state_of, EngineInvariant};
 
     ghost Value = { EngineState };
 
@@ -61,7 +62,7 @@ impl Model for Engine {
 
     ghost view = { λ e. state_of e.code e.fuel e.inputs e.call.call e.run };
 
-    ghost invariant = { λ e. Sound e.code e.fuel e.inputs e.call e.run };
+    ghost invariant = { λ e. EngineInvariant e.code e.fuel e.inputs e.call e.run };
 }
 
 /// Sets the word of a field of an input.
@@ -75,8 +76,8 @@ fn set_base(inputs: &mut Inputs, place: Place, value: Word)
 }
 
 impl Engine {
-    /// An engine without inputs. A run may take `fuel` steps. It takes the room for the arguments of a call. Its memo tables
-    /// begin with a seed that everybody knows: it is for values that nobody chooses to be slow.
+    /// An engine without inputs. A run may take `fuel` steps. It takes the room for the arguments of a call. Its memo
+    /// tables begin with a seed that everybody knows: it is for values that nobody chooses to be slow.
     pub fn new(alloc: Global, code: Code, fuel: u32) -> Result<Engine, NoMemory>
         requires valid { valid code ≡ true }
         requires fuel { InLimits fuel }
@@ -113,9 +114,9 @@ impl Engine {
         })
     }
 
-    /// An engine with a finished run of a call on these inputs, of which so much work is told. The forest is a trace of the
-    /// call that is honest on the inputs, so the run from scratch leaves that trace, up to the numbers of its core blocks;
-    /// the call is run, and the forest is not looked at.
+    /// An engine with a finished run of a call on these inputs, of which so much work is told. The forest is a trace of
+    /// the call that is honest on the inputs, so the run from scratch leaves that trace, up to the numbers of its core
+    /// blocks; the call is run, and the forest is not looked at.
     pub fn restore(
         alloc: Global,
         code: Code,
@@ -209,7 +210,7 @@ impl Engine {
         ensures heap { self.new.heap ≡ self.old.heap }
         ensures work { self.new.work ≡ self.old.work }
         ensures carries { OnOk result ((next : ℕ) (r : RepairOf) →
-            CarriesFrom self.old next r → CarriesFrom self.new next r) }
+            CarriesRepair self.old next r → CarriesRepair self.new next r) }
         ensures looks { LooksAtNothing self.old self.new }
         ensures number { IfOk result (λ id. id ≡ Input (length self.old.inputs)) }
         ensures inputs { OnOk result
@@ -237,9 +238,9 @@ impl Engine {
         ensures heap { self.new.heap ≡ self.old.heap }
         ensures work { self.new.work ≡ self.old.work }
         ensures carries { OnOk result ((next : ℕ) (r : RepairOf) →
-            CarriesFrom self.old next r → CarriesFrom self.new next r) }
+            CarriesRepair self.old next r → CarriesRepair self.new next r) }
         ensures looks { LooksOfEdit self.old self.new }
-        ensures phase { OnOk result (self.new.phase ≡ edited self.old.phase) }
+        ensures phase { OnOk result (self.new.phase ≡ phase_after_edit self.old.phase) }
         ensures inputs { OnOk result (self.new.inputs ≡ with_base self.old.inputs place value) }
         ensures err { OnErr result (self.new ≡ self.old) }
     {

@@ -27,7 +27,7 @@ pub enum Progress {
     Done,
 }
 
-/// What going on with a repair comes to.
+/// The outcome of continuing a repair.
 #[derive(Clone, Copy, PartialEq, Eq, Debug)]
 pub enum Came {
     /// a read is stale still

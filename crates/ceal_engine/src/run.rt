@@ -5,12 +5,13 @@ ghost use Rattle.ceal_base.specs.declared.word.BlockId.TheVariants.{Input};
 ghost use Rattle.ceal_base.specs.declared.word.Word.TheVariants.{Num};
 ghost use Rattle.ceal_code.specs.Value.{field_kind};
 ghost use Rattle.ceal_engine.specs.Keeping.{phase_at, phase_of, running_in};
-ghost use Rattle.ceal_engine.specs.Runs.{LeavesCells, OfRuns, SetsBase, SetsInput, edited_at, opened_at, same_stage, told_of};
+ghost use Rattle.ceal_engine.specs.Runs.{LeavesCells, OfRuns, SetsBase, SetsInput, edited_at, opened_at, same_stage};
+ghost use Rattle.ceal_engine.specs.Runs.{told_of};
 ghost use Rattle.ceal_engine.specs.declared.phase.Phase.TheVariants.{Finished as IsFinished};
 ghost use Rattle.ceal_engine.specs.declared.run.Run.TheVariants.{Kept as IsKept, Dropped as IsDropped};
 ghost use Rattle.ceal_mods.specs.Mods.{cell_of};
 ghost use Rattle.ceal_repair.specs.Kept.{Kept, base_in};
-ghost use Rattle.ceal_repair.specs.Words.{IsTouched, NONE_BEHIND};
+ghost use Rattle.ceal_repair.specs.Words.{IsTouched, NO_FIELD};
 
 use crate::phase::Phase;
 use ceal_base::kind::Shape;
@@ -152,7 +153,7 @@ impl Run {
         ensures touched { OnOk result (IfSome (running_in self.new) (λ r.
             IsTouched code.now.structs input shape r.tables.mods)) }
         ensures few { OnOk result (IfSome (running_in self.new) (λ r.
-            field_kind code.now.structs shape NONE_BEHIND ≡ None)) }
+            field_kind code.now.structs shape NO_FIELD ≡ None)) }
     {
         match self {
             Run::New => Ok(()),
@@ -169,7 +170,7 @@ impl Run {
         requires touched { IfSome (running_in self.old) (λ r.
             IsTouched code.now.structs input shape r.tables.mods) }
         requires few { IfSome (running_in self.old) (λ r.
-            field_kind code.now.structs shape NONE_BEHIND ≡ None) }
+            field_kind code.now.structs shape NO_FIELD ≡ None) }
         requires unread { IfSome (running_in self.old) (λ r. (field : ℕ) → (cell_of r.tables.mods
             (record { block = Input input; field = field })).reads ≡ []) }
         ensures { OfRuns (SetsInput code.now.structs input shape words.now) same_stage

@@ -11,7 +11,7 @@ use Rattle.ceal_memo.specs.Keys.{ReadKey, OfRead}
 use Rattle.ceal_repair.specs.AsItems.{nodes_of}
 use Rattle.ceal_repair.specs.Chain.{Chained}
 use Rattle.ceal_repair.specs.Covered.{contents_after, queue_of, with_seen, Covers}
-use Rattle.ceal_repair.specs.Entries.{entry, closing, entries}
+use Rattle.ceal_repair.specs.Entries.{entry, end_entry, entries}
 use Rattle.ceal_repair.specs.Lists.{writes_in, stamps_where, reads_at, entries_in, before, between}
 use Rattle.ceal_repair.specs.Words.{base_of}
 use Rattle.ceal_theory.specs.Cover as cover
@@ -27,7 +27,7 @@ b = record { block = Input 1; field = 0 }
 
 -- 4 was read and 5 written, at stamps that are not in order
 abbrev increment : List Entry
-increment = entry 0 Root 1 ∷ entry 7 (Read a (Num (pos 4)) (record { 0 = 1 }) 2 (At b ∷ [])) 1 ∷ entry 3 (Write b (Num (pos 5))) 0 ∷ closing 5 7 0 ∷ []
+increment = entry 0 Root 1 ∷ entry 7 (Read a (Num (pos 4)) (record { 0 = 1 }) 2 (At b ∷ [])) 1 ∷ entry 3 (Write b (Num (pos 5))) 0 ∷ end_entry 5 7 0 ∷ []
 
 -- the tables have the writes and the reads of each place, and the memo the keys of reads
 writes_of_b : writes_in b increment ≡ record { stamp = 3; value = Num (pos 5) } ∷ []

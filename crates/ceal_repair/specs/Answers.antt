@@ -28,7 +28,7 @@ use Rattle.ceal_trace.specs.Nodes.{Entry}
 
 -- The nodes of a run stand for this trace on these inputs: its flat items are theirs, and the blocks that can be read
 -- are its blocks with their plain words, none of them revoked; the region has their slots and no others.
-pub record Stands (code : Code) (inputs : List Block) (l : Trace) (run : Running) : Type 0 where
+pub record StandsForTrace (code : Code) (inputs : List Block) (l : Trace) (run : Running) : Type 0 where
   pub kept : Kept run.tables
   pub nests : Nests run.tables.trace.nodes
   pub items : forest_of run.tables.trace.nodes ≡ flat l
@@ -41,7 +41,7 @@ pub record Stands (code : Code) (inputs : List Block) (l : Trace) (run : Running
 -- given out to core blocks. Inputs may have got other bases since it was honest.
 pub record IsKeptRun (code : Code) (inputs : List Block) (f : ℕ) (args : List Word) (fuel : ℕ)
     (l : Trace) (run : Running) : Type 0 where
-  pub stands : Stands code inputs l run
+  pub stands : StandsForTrace code inputs l run
   pub fits : Fits code inputs f args
   pub replays : Replays code inputs f args l
   pub few : steps_of l ≤ fuel
@@ -51,7 +51,7 @@ pub record IsKeptRun (code : Code) (inputs : List Block) (f : ℕ) (args : List 
 -- is queued.
 pub record IsRunOf (code : Code) (inputs : List Block) (f : ℕ) (args : List Word) (fuel : ℕ)
     (l : Trace) (run : Running) : Type 0 where
-  pub stands : Stands code inputs l run
+  pub stands : StandsForTrace code inputs l run
   pub replays : Replays code inputs f args l
   pub honest : IsHonest code inputs l
   pub few : steps_of l ≤ fuel

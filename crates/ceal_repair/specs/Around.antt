@@ -2,7 +2,7 @@
 use Rattle.std.specs.Prelude.{◌≡◌, ℕ, Option, None, Some, List, [], ◌∷◌, ◌++◌}
 use Rattle.ceal_code.specs.Step.{Stack}
 use Rattle.ceal_order.specs.declared.stamp.Stamp.{Stamp}
-use Rattle.ceal_repair.specs.Entries.{stamped, closing, entries}
+use Rattle.ceal_repair.specs.Entries.{stamp_of_number, end_entry, entries}
 use Rattle.ceal_repair.specs.Frames.{Frame, Begun, Taken, Kept}
 use Rattle.ceal_theory.specs.Course.{Wait, Fixes, Takes, Begins}
 use Rattle.ceal_theory.specs.Groves.{Grove}
@@ -14,12 +14,12 @@ pub data Inside (ws : List Wait) (rs : List ℕ) : List Wait → List ℕ → Li
   level : (g : Grove) → Inside ws rs ws rs (entries g)
   deeper : {vs : List Wait} {qs : List ℕ} {es : List Entry} (g : Grove) (e r m : ℕ)
       → Inside ws rs vs qs es
-      → Inside ws rs (Fixes ∷ vs) (r ∷ qs) (entries g ++ closing e r m ∷ es)
+      → Inside ws rs (Fixes ∷ vs) (r ∷ qs) (entries g ++ end_entry e r m ∷ es)
 
 -- Where nodes that are left over end: without a limit nothing stands after them, else the end of a read, at the limit.
 abbrev pub Bounds : Option Stamp → List Entry → Type 0
 Bounds None es = es ≡ []
-Bounds (Some e) es = (r m : ℕ) × (rest : List Entry) × (es ≡ closing e.0 r m ∷ rest)
+Bounds (Some e) es = (r m : ℕ) × (rest : List Entry) × (es ≡ end_entry e.0 r m ∷ rest)
 
 -- Both begin with the limit, the frames (the next first), what waits for them, and the reads that are open for them,
 -- the last begun first; the last list is that of the nodes.
@@ -38,12 +38,12 @@ mutual
     taken : {until : Stamp} {fs : List Frame} {ws : List Wait} {rs : List ℕ} {tail : List Entry}
         (below : Stack) (e r m : ℕ) (g : Grove)
         → Tails limit beyond (Some until) fs ws rs tail
-        → Tails limit beyond (Some (stamped e)) (Taken below until ∷ fs) (Takes below ∷ ws) (r ∷ rs)
-        (closing e r m ∷ (entries g ++ tail))
+        → Tails limit beyond (Some (stamp_of_number e)) (Taken below until ∷ fs) (Takes below ∷ ws) (r ∷ rs)
+        (end_entry e r m ∷ (entries g ++ tail))
     -- a stale read of a taken one: its end, and the nodes that are passed then
     kept : {until : Stamp} {fs : List Frame} {ws : List Wait} {rs : List ℕ} {back : List Entry} (e r m : ℕ)
         → Passes limit beyond until fs ws rs back
-        → Tails limit beyond (Some (stamped e)) (Kept until ∷ fs) (Fixes ∷ ws) (r ∷ rs) (closing e r m ∷ back)
+        → Tails limit beyond (Some (stamp_of_number e)) (Kept until ∷ fs) (Fixes ∷ ws) (r ∷ rs) (end_entry e r m ∷ back)
 
   -- the nodes after the cursor, where kept nodes are passed up to the end of a taken read
   pub data Passes (limit : Option Stamp) (beyond : List Entry)
@@ -52,4 +52,5 @@ mutual
         (below : Stack) (e r m : ℕ) (g : Grove)
         → Inside (Takes below ∷ ws) (r ∷ rs) vs qs es
         → Tails limit beyond (Some until) fs ws rs tail
-        → Passes limit beyond (stamped e) (Taken below until ∷ fs) vs qs (es ++ closing e r m ∷ (entries g ++ tail))
+        → Passes limit beyond (stamp_of_number e) (Taken below until ∷ fs) vs qs
+            (es ++ end_entry e r m ∷ (entries g ++ tail))

@@ -6,7 +6,7 @@ use Rattle.ceal_order.specs.declared.stamp.Stamp.{Stamp}
 use Rattle.ceal_repair.specs.declared.cutting.Cut.{Cut}
 use Rattle.ceal_repair.specs.declared.cutting.Cut.TheVariants.{Alloc as CutAlloc, Write as CutWrite, Read as CutRead}
 use Rattle.ceal_repair.specs.AsItems.{item_in}
-use Rattle.ceal_repair.specs.Kept.{QueuedBehind}
+use Rattle.ceal_repair.specs.Kept.{QueuedAfter}
 use Rattle.ceal_repair.specs.declared.tables.Tables.{Tables}
 use Rattle.ceal_theory.specs.Groves.{Knot, knot, Grove, Bare, Made, Put, Got, cut}
 use Rattle.ceal_order.specs.Stamps.{is_in}
@@ -15,16 +15,16 @@ use Rattle.ceal_trace.specs.declared.node.Node.{Node}
 use Rattle.ceal_trace.specs.declared.node.Node.TheVariants.{Alloc, Write, Read, End}
 
 -- the stamp of this number
-abbrev pub stamped : ℕ → Stamp
-stamped s = record { 0 = s }
+abbrev pub stamp_of_number : ℕ → Stamp
+stamp_of_number s = record { 0 = s }
 
 -- a node at a stamp with its steps
 abbrev pub entry : ℕ → Node → ℕ → Entry
 entry s node n = record { stamp = s; node = node; steps = n }
 
 -- the end of a read
-abbrev pub closing : ℕ → ℕ → ℕ → Entry
-closing e read n = entry e (End (stamped read)) n
+abbrev pub end_entry : ℕ → ℕ → ℕ → Entry
+end_entry e read n = entry e (End (stamp_of_number read)) n
 
 -- the nodes of a grove, where each end is that of its read
 abbrev pub entries : Grove → List Entry
@@ -32,7 +32,7 @@ entries Bare = []
 entries (Made s b key n rest) = entry s (Alloc b key) n ∷ entries rest
 entries (Put s p v n rest) = entry s (Write p v) n ∷ entries rest
 entries (Got s p v u x args n inside e m rest) =
-    entry s (Read p v u x args) n ∷ (entries inside ++ closing e s m ∷ entries rest)
+    entry s (Read p v u x args) n ∷ (entries inside ++ end_entry e s m ∷ entries rest)
 
 -- nodes as the laws of courses have them; the root is no such node
 abbrev pub knots_of : List Entry → List Knot
@@ -60,7 +60,7 @@ pub record Lies (cursor : ℕ) (front : List Entry) (left : Grove) (tail : List 
   pub ends : front ≡ done ++ last ∷ []
   pub is_at : last.stamp ≡ cursor
   pub nodes : t.trace.nodes ≡ front ++ (entries left ++ tail)
-  pub late : QueuedBehind cursor t
+  pub late : QueuedAfter cursor t
 
 -- the stamp of the first of these nodes
 abbrev pub first_in : List Entry → Option ℕ

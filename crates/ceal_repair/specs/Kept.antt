@@ -55,8 +55,8 @@ pub record Kept (t : Tables) : Type 0 where
   pub chained : ChainedBy (queue_of t.stale.stamps) t
 
 -- what is queued stands after a node
-abbrev pub QueuedBehind : ℕ → Tables → Type 0
-QueuedBehind s t = (r : ℕ) → is_in r t.stale.stamps ≡ true → position s t.trace.nodes < position r t.trace.nodes
+abbrev pub QueuedAfter : ℕ → Tables → Type 0
+QueuedAfter s t = (r : ℕ) → is_in r t.stale.stamps ≡ true → position s t.trace.nodes < position r t.trace.nodes
 
 -- what is queued does not stand before a node
 abbrev pub QueuedFrom : ℕ → Tables → Type 0

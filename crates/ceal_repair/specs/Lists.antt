@@ -74,10 +74,10 @@ up_to s [] = []
 up_to s (e ∷ es) = if e.stamp == s then e ∷ [] else e ∷ up_to s es
 
 -- the nodes after one
-abbrev pub behind : ℕ → List Entry → List Entry
-behind s [] = []
-behind s (e ∷ es) = if e.stamp == s then es else behind s es
+abbrev pub nodes_after : ℕ → List Entry → List Entry
+nodes_after s [] = []
+nodes_after s (e ∷ es) = if e.stamp == s then es else nodes_after s es
 
 -- the nodes after one and before another
 abbrev pub between : ℕ → ℕ → List Entry → List Entry
-between after until nodes = before until (behind after nodes)
+between after until nodes = before until (nodes_after after nodes)

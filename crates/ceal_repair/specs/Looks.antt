@@ -8,8 +8,8 @@ use Rattle.ceal_trace.specs.declared.node.Node.{Node}
 use Rattle.ceal_trace.specs.declared.node.Node.TheVariants.{Write}
 
 -- the contents that were looked at, and twice the reads that are queued
-abbrev pub owed : Tables → ℕ
-owed t = t.mods.looked + 2 * length t.stale.stamps
+abbrev pub looks_owed : Tables → ℕ
+looks_owed t = t.mods.looked + 2 * length t.stale.stamps
 
 -- no content differed from what had been recorded of it, or one did
 abbrev pub NoneDiffers : Tables → Tables → Type 0
@@ -40,7 +40,7 @@ write_count (e ∷ es) = writes_at e.node + write_count es
 
 -- what is owed, and three more for each write
 abbrev pub due : Tables → ℕ
-due t = owed t + 3 * write_count t.trace.nodes
+due t = looks_owed t + 3 * write_count t.trace.nodes
 
 -- Each step that was re-executed pays for five looks, and each content that differed for two; n of them are left over.
 -- No run has 2 ^ 64 contents that differed.

@@ -15,7 +15,7 @@ use Rattle.ceal_repair.specs.Entries.{entries, entry}
 use Rattle.ceal_repair.specs.Words.{words_of}
 use Rattle.ceal_repair.specs.Frames.{Frame, Begun, Taken, Kept as FrameKept}
 use Rattle.ceal_repair.specs.Covered.{contents_after}
-use Rattle.ceal_repair.specs.Kept.{Kept, QueuedBehind, base_in}
+use Rattle.ceal_repair.specs.Kept.{Kept, QueuedAfter, base_in}
 use Rattle.ceal_repair.specs.declared.tables.Tables.{Tables}
 use Rattle.ceal_theory.specs.Chosen.{ComesBy, first_begins}
 use Rattle.ceal_theory.specs.Course.{Wait, fixing_at, running_at}
@@ -101,7 +101,7 @@ pub record Placed (start : Start) (v : View) (reads : List ℕ) (behind : List E
   pub last : Entry
   pub nodes : v.tables.trace.nodes ≡ through done last ++ behind
   pub cursor : last.stamp ≡ v.cursor
-  pub late : QueuedBehind v.cursor v.tables
+  pub late : QueuedAfter v.cursor v.tables
   pub opened : unclosed (Some []) (through done last) ≡ Some (reads ++ start.reads)
   pub began : Began start (through done last)
   pub unfinished : Unfinished v.frames v.tables.trace.nodes

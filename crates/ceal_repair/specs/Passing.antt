@@ -3,7 +3,7 @@ use Rattle.std.specs.Prelude.{◌≡◌, ◌<◌}
 use Rattle.ceal_base.specs.declared.word.Place.{Place}
 use Rattle.ceal_base.specs.declared.word.Word.{Word}
 use Rattle.ceal_order.specs.declared.stamp.Stamp.{Stamp}
-use Rattle.ceal_repair.specs.Kept.{Kept, IsStale, Records, QueuedBehind, QueuedFrom, contents_at}
+use Rattle.ceal_repair.specs.Kept.{Kept, IsStale, Records, QueuedAfter, QueuedFrom, contents_at}
 use Rattle.ceal_repair.specs.Moment.{Start, PassingNow}
 use Rattle.ceal_repair.specs.Repairs.{code_of, inputs_of, running_of, view}
 use Rattle.ceal_repair.specs.declared.repair.Repair.{Repair}
@@ -32,6 +32,6 @@ pub record StaleInside (start : Start) (read : Stamp) (r : Repair) : Type 0 wher
   pub is_read : Records place value (node_at read.0 before.trace.nodes)
   pub nodes : (running_of r).tables.trace.nodes ≡ with_value read.0 (contents_at read.0 before place) before.trace.nodes
   pub limit : position read.0 before.trace.nodes < position until.0 before.trace.nodes
-  pub queued : QueuedBehind read.0 (running_of r).tables
+  pub queued : QueuedAfter read.0 (running_of r).tables
   pub cells : (running_of r).tables.mods.cells ≡ before.mods.cells
   pub kept : Kept (running_of r).tables

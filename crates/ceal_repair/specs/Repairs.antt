@@ -124,11 +124,11 @@ abbrev pub left_nodes : Repair → List Entry
 left_nodes r = nodes_to r.limit r.cursor.0 (running_of r).tables.trace.nodes
 
 -- a repair after an act of its unit: it goes on, or it is over
-abbrev pub Turned : Bool → Start → Repair → Type 0
-Turned true start r = Runs start r
-Turned false start r = IsOver start r
+abbrev pub RunsOrEnds : Bool → Start → Repair → Type 0
+RunsOrEnds true start r = Runs start r
+RunsOrEnds false start r = IsOver start r
 
 -- a repair is over within the fuel, or has run more steps than that
-abbrev pub Completed : Bool → ℕ → Start → Repair → Type 0
-Completed true fuel start r = IsOver start r × ((view r).spent ≤ fuel)
-Completed false fuel start r = Runs start r × (fuel < (view r).spent)
+abbrev pub EndsWithin : Bool → ℕ → Start → Repair → Type 0
+EndsWithin true fuel start r = IsOver start r × ((view r).spent ≤ fuel)
+EndsWithin false fuel start r = Runs start r × (fuel < (view r).spent)

@@ -11,12 +11,12 @@ use Rattle.ceal_code.specs.Program.{Code}
 use Rattle.ceal_code.specs.Replay.{count, core_numbers}
 use Rattle.ceal_heap.specs.Heap.{plain_of}
 use Rattle.ceal_repair.specs.Blocks.{HasBlocks, Given}
-use Rattle.ceal_repair.specs.Entries.{stamped, entry, entries, closing}
+use Rattle.ceal_repair.specs.Entries.{stamp_of_number, entry, entries, end_entry}
 use Rattle.ceal_repair.specs.Moment.{Start}
 use Rattle.ceal_repair.specs.Repairs.{Runs}
 use Rattle.ceal_repair.specs.declared.repair.Repair.{Repair as RepairInCode}
 use Rattle.ceal_repair.specs.declared.running.Running.{Running}
-use Rattle.ceal_repair.specs.Kept.{Kept, IsStale, Records, QueuedBehind, contents_at}
+use Rattle.ceal_repair.specs.Kept.{Kept, IsStale, Records, QueuedAfter, contents_at}
 use Rattle.ceal_theory.specs.Chosen.{Continues}
 use Rattle.ceal_theory.specs.Groves.{Grove, stepped, trace_in}
 use Rattle.ceal_theory.specs.Repair.{Single}
@@ -42,7 +42,7 @@ pub record ReadAt (nodes : List Entry) : Type 0 where
   pub end_steps : ℕ
   pub behind : List Entry
   pub whole : nodes ≡ before
-      ++ entry read (Read place value unit var args) steps ∷ (entries inside ++ closing end read end_steps ∷ behind)
+      ++ entry read (Read place value unit var args) steps ∷ (entries inside ++ end_entry end read end_steps ∷ behind)
 
 -- A turn begins: the unit of a read runs on this content, with what is inside the read left over.
 -- These blocks were there at first, these numbers were given out before, these blocks are known,
@@ -60,8 +60,8 @@ turn_start code inputs r first numbers chosen old reads a now = record {
   stamp = a.read;
   node = Read a.place now a.unit a.var a.args;
   reads = reads;
-  limit = Some (stamped a.end);
-  beyond = closing a.end a.read a.end_steps ∷ a.behind;
+  limit = Some (stamp_of_number a.end);
+  beyond = end_entry a.end a.read a.end_steps ∷ a.behind;
 }
 
 -- The nodes, the queue and the heap of a run stand for a repair that goes on.
@@ -133,7 +133,7 @@ pub record FoundStale (code : Code) (inputs : List Block) (f : ℕ) (args : List
   pub value : Word
   pub is_read : Records place value (node_at read before.tables.trace.nodes)
   pub nodes : run.tables.trace.nodes ≡ with_value read (contents_at read before.tables place) before.tables.trace.nodes
-  pub queued : QueuedBehind read run.tables
+  pub queued : QueuedAfter read run.tables
   pub cells : run.tables.mods.cells ≡ before.tables.mods.cells
   pub heap : run.heap ≡ before.heap
   pub spent : run.spent ≡ before.spent

@@ -17,7 +17,7 @@ QueuesReadsOf p old new =
     → is_in s (cell_of old.mods p).reads ≡ true
 
 -- what has come into it stands after a node
-abbrev pub QueuesBehind : ℕ → Tables → Tables → Type 0
-QueuesBehind node old new =
+abbrev pub QueuesAfter : ℕ → Tables → Tables → Type 0
+QueuesAfter node old new =
     (s : ℕ) → is_in s old.stale.stamps ≡ false → is_in s new.stale.stamps ≡ true
     → place node (stamps_in old.trace.nodes) < place s (stamps_in old.trace.nodes)

@@ -20,17 +20,18 @@ words_of code inputs heap = with_inputs code inputs (plain_of heap)
 
 -- what a modifiable of a number of this standing holds before any write: the default of its kind by the shape of
 -- the block, or of the last one where the number is free; 0 where there is none
-abbrev pub default_of : List StructInfo → Standing → ℕ → Word
-default_of structs Unused field = Num (pos 0)
-default_of structs (Live block) field = cell_default (field_kind structs block.shape field)
-default_of structs (Revoked block) field = cell_default (field_kind structs block.shape field)
-default_of structs (Released shape) field = cell_default (field_kind structs shape field)
+abbrev pub default_by_standing : List StructInfo → Standing → ℕ → Word
+default_by_standing structs Unused field = Num (pos 0)
+default_by_standing structs (Live block) field = cell_default (field_kind structs block.shape field)
+default_by_standing structs (Revoked block) field = cell_default (field_kind structs block.shape field)
+default_by_standing structs (Released shape) field = cell_default (field_kind structs shape field)
 
 -- each modifiable has its base: those of inputs their contents, those of core blocks their defaults;
 -- where there is no block it is 0
 pub record HasBases (structs : List StructInfo) (inputs : List Block) (heap : Contents) (mods : Mods) : Type 0 where
   pub of_cores : (b field : ℕ)
-      → base_in mods (record { block = Core b; field = field }) ≡ default_of structs (standing heap (Core b)) field
+      → base_in mods (record { block = Core b; field = field })
+      ≡ default_by_standing structs (standing heap (Core b)) field
   pub of_inputs : (i field : ℕ)
       → base_in mods (record { block = Input i; field = field }) ≡ content_in structs (slice_get inputs i) field
 
@@ -42,9 +43,9 @@ base_of structs shape words field kept =
     then unwrap_or (slice_get words field) (field_default (field_kind structs shape field)) else kept
 
 -- a base where the modifiables of the block that had the number before are set back to 0
-abbrev pub cleared : List StructInfo → Option Shape → ℕ → Word → Word
-cleared structs None field kept = kept
-cleared structs (Some before) field kept = if is_cell (field_kind structs before field) then Num (pos 0) else kept
+abbrev pub base_cleared : List StructInfo → Option Shape → ℕ → Word → Word
+base_cleared structs None field kept = kept
+base_cleared structs (Some before) field kept = if is_cell (field_kind structs before field) then Num (pos 0) else kept
 
 -- the places of the modifiables of an input of this shape were touched
 abbrev pub IsTouched : List StructInfo → ℕ → Shape → Mods → Type 0
@@ -52,5 +53,5 @@ IsTouched structs input shape mods = (field : ℕ) → is_cell (field_kind struc
     → HasCell mods (record { block = Input input; field = field })
 
 -- no block has a field of this number
-abbrev pub NONE_BEHIND : ℕ
-NONE_BEHIND = 4294967295
+abbrev pub NO_FIELD : ℕ
+NO_FIELD = 4294967295

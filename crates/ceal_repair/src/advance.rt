@@ -30,11 +30,12 @@ pub enum Progress {
     OutOfFuel,
 }
 
-/// Change propagation (Acar, *Self-Adjusting Computation*, 2005): brings a run nearer to inputs that have other bases. It
-/// re-executes `reads` stale reads in the order of time, each with everything inside it, or all of them if `reads` is None; what
-/// the new run of a unit takes of the old one stays. The nodes before the first stale read stay as they are, and where no read
-/// is stale it takes no memory. A repair that begins has spent no step; where its steps exceed the fuel, those of a run from
-/// scratch do so too. What the run keeps is changed in place: after Spent, OutOfFuel or an error it is of no further use.
+/// Change propagation (Acar, *Self-Adjusting Computation*, 2005): brings a run nearer to inputs that have other bases.
+/// It re-executes `reads` stale reads in the order of time, each with everything inside it, or all of them if `reads`
+/// is None; what the new run of a unit takes of the old one stays. The nodes before the first stale read stay as they
+/// are, and where no read is stale it takes no memory. A repair that begins has spent no step; where its steps exceed
+/// the fuel, those of a run from scratch do so too. What the run keeps is changed in place: after Spent, OutOfFuel or
+/// an error it is of no further use.
 pub fn advance(
     room: &mut Room,
     code: &Code,

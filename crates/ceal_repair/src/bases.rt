@@ -1,6 +1,7 @@
 // What modifiables hold before any write.
 
-ghost use Rattle.std.specs.Prelude.{◌≡◌, ◌<◌, ◌≤◌, ◌^◌, ℕ, false, true, length, if◌then◌else◌, IfOk, OnOk, Some, [], slice_get, unwrap_or};
+ghost use Rattle.std.specs.Prelude.{◌≡◌, ◌<◌, ◌≤◌, ◌^◌, ℕ, false, true, length, if◌then◌else◌, IfOk, OnOk, Some, []};
+ghost use Rattle.std.specs.Prelude.{slice_get, unwrap_or};
 ghost use Rattle.ceal_base.specs.Operators.{same_block};
 ghost use Rattle.ceal_base.specs.Shapes.{default_of_field};
 ghost use Rattle.ceal_base.specs.declared.word.BlockId.TheVariants.{Input};
@@ -9,7 +10,7 @@ ghost use Rattle.ceal_base.specs.declared.word.Word.{Word as WordOf};
 ghost use Rattle.ceal_mods.specs.Mods.{IsUntouched, cell_of};
 ghost use Rattle.ceal_order.specs.Stamps.{is_in};
 ghost use Rattle.ceal_code.specs.Replay.{content_in};
-ghost use Rattle.ceal_repair.specs.Words.{base_of, cleared};
+ghost use Rattle.ceal_repair.specs.Words.{base_of, base_cleared};
 ghost use Rattle.ceal_repair.specs.Kept.{Kept, base_in};
 ghost use Rattle.ceal_repair.specs.Looks.{NoneDiffers};
 
@@ -32,8 +33,8 @@ pub fn word_or_default(words: &[Word], field: u32, kind: FieldKind) -> Word
     }
 }
 
-/// Sets what the modifiables of a block hold before any write: their words, or their defaults where the block has none. The
-/// block has this shape. Reads of its places may be queued, no others.
+/// Sets what the modifiables of a block hold before any write: their words, or their defaults where the block has none.
+/// The block has this shape. Reads of its places may be queued, no others.
 pub fn set_bases(
     tables: &mut Tables,
     structs: &[StructInfo],
@@ -71,7 +72,8 @@ pub fn set_bases(
     Err(NoMemory)
 }
 
-/// Sets back to 0 what the modifiables of a block of this shape hold before any write. Reads of its places may be queued, no others.
+/// Sets back to 0 what the modifiables of a block of this shape hold before any write. Reads of its places may be
+/// queued, no others.
 fn clear_bases(
     tables: &mut Tables,
     structs: &[StructInfo],
@@ -85,7 +87,7 @@ fn clear_bases(
     ensures differed { NoneDiffers tables.old tables.new }
     ensures here { OnOk result ((p : PlaceOf) → same_block p.block id ≡ true
         → base_in tables.new.mods p
-        ≡ cleared structs.now (Some before) p.field (base_in tables.old.mods p)) }
+        ≡ base_cleared structs.now (Some before) p.field (base_in tables.old.mods p)) }
     ensures others { (p : PlaceOf) → same_block p.block id ≡ false
         → base_in tables.new.mods p ≡ base_in tables.old.mods p }
     ensures only { (s : ℕ) → is_in s tables.new.stale.stamps ≡ true
@@ -107,7 +109,8 @@ fn clear_bases(
     Err(NoMemory)
 }
 
-// Sets them back for a new block whose number another one had before. A modifiable of the new block gets its default anyway.
+// Sets them back for a new block whose number another one had before. A modifiable of the new block gets its default
+// anyway.
 fn clear_others(
     tables: &mut Tables,
     structs: &[StructInfo],
@@ -123,7 +126,7 @@ fn clear_others(
     ensures here { OnOk result ((p : PlaceOf) → same_block p.block id ≡ true
         → base_of structs.now shape [] p.field (base_in tables.new.mods p)
         ≡ base_of structs.now shape [] p.field
-        (cleared structs.now before p.field (base_in tables.old.mods p))) }
+        (base_cleared structs.now before p.field (base_in tables.old.mods p))) }
     ensures others { (p : PlaceOf) → same_block p.block id ≡ false
         → base_in tables.new.mods p ≡ base_in tables.old.mods p }
     ensures only { (s : ℕ) → is_in s tables.new.stale.stamps ≡ true
@@ -139,8 +142,8 @@ fn clear_others(
     }
 }
 
-/// Sets what the modifiables of a new block hold before any write: their defaults. Those of the block that had its number before
-/// are set back to 0. Reads of its places may be queued, no others.
+/// Sets what the modifiables of a new block hold before any write: their defaults. Those of the block that had its
+/// number before are set back to 0. Reads of its places may be queued, no others.
 pub fn renew_bases(
     tables: &mut Tables,
     structs: &[StructInfo],
@@ -155,7 +158,7 @@ pub fn renew_bases(
     ensures differed { NoneDiffers tables.old tables.new }
     ensures here { OnOk result ((p : PlaceOf) → same_block p.block id ≡ true
         → base_in tables.new.mods p ≡ base_of structs.now shape [] p.field
-        (cleared structs.now before p.field (base_in tables.old.mods p))) }
+        (base_cleared structs.now before p.field (base_in tables.old.mods p))) }
     ensures others { (p : PlaceOf) → same_block p.block id ≡ false
         → base_in tables.new.mods p ≡ base_in tables.old.mods p }
     ensures only { (s : ℕ) → is_in s tables.new.stale.stamps ≡ true

@@ -3,19 +3,19 @@
 ghost use Rattle.std.specs.Prelude.{IfOk, OnOk};
 ghost use Rattle.ceal_repair.specs.Moment.{Start};
 ghost use Rattle.ceal_repair.specs.Looks.{Pays};
-ghost use Rattle.ceal_repair.specs.Repairs.{Runs, Completed, SameCall, running_of};
+ghost use Rattle.ceal_repair.specs.Repairs.{Runs, EndsWithin, SameCall, running_of};
 
 use crate::repair::Repair;
 use ceal_base::no_memory::NoMemory;
 
-/// Lets the units of a repair act until it is over, or has run more steps than the fuel allows: then it answers false. No run that
-/// fits into memory comes to 2^64 acts; one that did would be answered as out of memory.
+/// Lets the units of a repair act until it is over, or has run more steps than the fuel allows: then it answers false.
+/// No run that fits into memory comes to 2^64 acts; one that did would be answered as out of memory.
 pub fn complete(repair: &mut Repair<'_>, fuel: u32) -> Result<bool, NoMemory>
     requires runs { (start : Start) × Runs start repair.old }
     ensures call { OnOk result (SameCall repair.old repair.new) }
     ensures pays { OnOk result (Pays (running_of repair.old) (running_of repair.new)) }
     ensures done { IfOk result
-        (λ done. (start : Start) → Runs start repair.old → Completed done fuel start repair.new) }
+        (λ done. (start : Start) → Runs start repair.old → EndsWithin done fuel start repair.new) }
 {
     for _act in 0..u64::MAX {
         if repair.spent() > fuel {

@@ -43,7 +43,8 @@ fn cut_of(trace: &Trace, node: Stamp) -> Cut
 }
 
 impl Running {
-    /// Revokes the first node that is left over after a cursor, a read with its end. The block of an allocation can still be read.
+    /// Revokes the first node that is left over after a cursor, a read with its end. The block of an allocation can
+    /// still be read.
     fn cut(&mut self, cursor: Stamp, node: Stamp) -> Result<(), NoMemory>
         requires kept { Kept self.old.tables }
         requires has { (code : CodeOf) × (inputs : List Block)
@@ -81,8 +82,9 @@ impl Running {
         }
     }
 
-    /// Revokes the nodes that are left over after a cursor up to one of them, which is then the first; or all of them, up to the
-    /// node after them. A read goes with its end, and what is inside it stays. No trace that fits into memory has 2^64 nodes.
+    /// Revokes the nodes that are left over after a cursor up to one of them, which is then the first; or all of them,
+    /// up to the node after them. A read goes with its end, and what is inside it stays. No trace that fits into memory
+    /// has 2^64 nodes.
     pub fn cut_until(&mut self, cursor: Stamp, until: Stamp) -> Result<(), NoMemory>
         requires kept { Kept self.old.tables }
         requires has { (code : CodeOf) × (inputs : List Block)

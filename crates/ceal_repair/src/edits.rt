@@ -10,7 +10,7 @@ ghost use Rattle.ceal_code.specs.Value.{field_kind as kind_of};
 ghost use Rattle.ceal_mods.specs.Mods.{HasCell, cell_of};
 ghost use Rattle.ceal_repair.specs.Kept.{Kept, base_in};
 ghost use Rattle.ceal_repair.specs.Looks.{LooksAtNothing, NoneDiffers};
-ghost use Rattle.ceal_repair.specs.Words.{base_of, IsTouched, NONE_BEHIND};
+ghost use Rattle.ceal_repair.specs.Words.{base_of, IsTouched, NO_FIELD};
 
 use crate::bases::word_or_default;
 use crate::tables::Tables;
@@ -35,7 +35,8 @@ fn touch(tables: &mut Tables, place: Place) -> Result<(), NoMemory>
     tables.mods.set_base(place, Word::Num(0))
 }
 
-/// Touches the places of the modifiables of an input that is to come. Its places hold 0 before any write, and do so still.
+/// Touches the places of the modifiables of an input that is to come. Its places hold 0 before any write, and do so
+/// still.
 pub fn touch_input(
     tables: &mut Tables,
     structs: &[StructInfo],
@@ -49,7 +50,7 @@ pub fn touch_input(
     ensures cells { (p : PlaceOf) → cell_of tables.new.mods p ≡ cell_of tables.old.mods p }
     ensures looks { LooksAtNothing tables.old tables.new }
     ensures touched { OnOk result (IsTouched structs.now input shape tables.new.mods) }
-    ensures few { OnOk result (kind_of structs.now shape NONE_BEHIND ≡ None) }
+    ensures few { OnOk result (kind_of structs.now shape NO_FIELD ≡ None) }
     ensures kept { Kept tables.new }
 {
     for field in 0..u32::MAX {
@@ -97,7 +98,7 @@ pub fn set_input(
 )
     requires kept { Kept tables.old }
     requires touched { IsTouched structs.now input shape tables.old.mods }
-    requires few { kind_of structs.now shape NONE_BEHIND ≡ None }
+    requires few { kind_of structs.now shape NO_FIELD ≡ None }
     requires unread { (field : ℕ) → (cell_of tables.old.mods
         (record { block = Input input; field = field })).reads ≡ [] }
     ensures trace { tables.new.trace ≡ tables.old.trace }

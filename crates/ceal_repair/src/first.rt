@@ -17,8 +17,9 @@ use ceal_theory::names::chosen_law;
 use ceal_theory::walks::known_law;
 use std::alloc::Global;
 
-/// Runs a call of a core function from nothing: its nodes stand for the first trace of the call, its blocks with the numbers that
-/// the heap gives them. It is out of fuel exactly when the run from scratch needs more steps than the fuel allows.
+/// Runs a call of a core function from nothing: its nodes stand for the first trace of the call, its blocks with the
+/// numbers that the heap gives them. It is out of fuel exactly when the run from scratch needs more steps than the fuel
+/// allows.
 pub fn first(
     alloc: Global,
     code: &Code,

@@ -3,8 +3,8 @@
 use ceal_code::waits::Floor;
 use ceal_order::stamp::Stamp;
 
-/// What follows the end of a read. A unit runs with nodes left over up to the limit that the repair has. The units below are set
-/// aside on a floor of the stack.
+/// What follows the end of a read. A unit runs with nodes left over up to the limit that the repair has. The units
+/// below are set aside on a floor of the stack.
 #[derive(Clone, Copy)]
 pub enum Frame {
     /// the read is new: the units below run, with what its own leave over

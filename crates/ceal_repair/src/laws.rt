@@ -6,15 +6,15 @@ ghost use Rattle.ceal_code.specs.Replay.{Store};
 ghost use Rattle.ceal_order.specs.Stamps.{is_in};
 ghost use Rattle.ceal_repair.specs.AsItems.{nodes_of, StartsAll};
 ghost use Rattle.ceal_repair.specs.Covered.{Queue, queue_of, Covers};
-ghost use Rattle.ceal_repair.specs.Kept.{Kept, CoveredBy, QueuedBehind, QueuedFrom, IsHonestRecord};
+ghost use Rattle.ceal_repair.specs.Kept.{Kept, CoveredBy, QueuedAfter, QueuedFrom, IsHonestRecord};
 ghost use Rattle.ceal_repair.specs.declared.tables.Tables.{Tables};
 ghost use Rattle.ceal_theory.specs.Cover.{Covered, none_waits};
 ghost use Rattle.ceal_trace.specs.Nodes.{Entry, position};
 
-/// Laws: a read up to a node after which all that is queued stands has the content of its moment; so has one before a node
-/// before which nothing is queued, and where nothing is queued each one.
+/// Laws: a read up to a node after which all that is queued stands has the content of its moment; so has one before a
+/// node before which nothing is queued, and where nothing is queued each one.
 pub fn unqueued_reads_are_honest()
-    ensures behind { (t : Tables) → Kept t → (s : ℕ) → QueuedBehind s t → (r : ℕ)
+    ensures behind { (t : Tables) → Kept t → (s : ℕ) → QueuedAfter s t → (r : ℕ)
         → position r t.trace.nodes ≤ position s t.trace.nodes → IsHonestRecord r t }
     ensures from { (t : Tables) → Kept t → (s : ℕ) → QueuedFrom s t → (r : ℕ)
         → position r t.trace.nodes < position s t.trace.nodes → IsHonestRecord r t }
@@ -22,14 +22,14 @@ pub fn unqueued_reads_are_honest()
         → IsHonestRecord r t }
 {}
 
-/// A law: wherever a read has not the content of its moment, a queued read of its place stands there or before it, with no
-/// write of the place between.
+/// A law: wherever a read has not the content of its moment, a queued read of its place stands there or before it, with
+/// no write of the place between.
 pub fn stale_reads_are_covered()
     ensures { (t : Tables) → Kept t → CoveredBy (queue_of t.stale.stamps) t }
 {}
 
-/// A law: what is covered is so in the words of the theory of repair, where each allocation stands where the modifiables of
-/// its block hold their defaults. The lists of the modifiables know nothing of allocations.
+/// A law: what is covered is so in the words of the theory of repair, where each allocation stands where the
+/// modifiables of its block hold their defaults. The lists of the modifiables know nothing of allocations.
 pub fn covered_as_items()
     ensures law { (code : Code) (q : Queue) (s : Store) (nodes : List Entry)
         → StartsAll code s nodes → Covers q s (λ p. false) nodes

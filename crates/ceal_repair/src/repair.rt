@@ -7,7 +7,8 @@ ghost use Rattle.ceal_code.specs.declared.step.Act.TheVariants as does;
 ghost use Rattle.ceal_repair.specs.Moment.{Start};
 ghost use Rattle.ceal_repair.specs.Reads.{closure_in};
 ghost use Rattle.ceal_repair.specs.Looks.{Pays};
-ghost use Rattle.ceal_repair.specs.Repairs.{code_of, inputs_of, running_of, stack_of, arguments_of, view, next_in, step_of, Runs, Acts, IsOver, Turned, SameCall};
+ghost use Rattle.ceal_repair.specs.Repairs.{code_of, inputs_of, running_of, stack_of, arguments_of, view, next_in};
+ghost use Rattle.ceal_repair.specs.Repairs.{step_of, Runs, Acts, IsOver, RunsOrEnds, SameCall};
 ghost use Rattle.ceal_repair.specs.Kept.{Kept};
 ghost use Rattle.ceal_order.specs.Stamps.{head_of};
 ghost use Rattle.ceal_trace.specs.Nodes.{has_node, stamps_in, with_steps, steps_at};
@@ -35,11 +36,12 @@ mod take;
 mod turn;
 pub mod turns;
 
-/// A repair that is under way, or a run from nothing. A unit runs; the nodes up to the cursor are final, and those after it, up to
-/// the limit, are left over to the unit. The cursor only moves on. The arguments are those of the read that is made.
+/// A repair that is under way, or a run from nothing. A unit runs; the nodes up to the cursor are final, and those
+/// after it, up to the limit, are left over to the unit. The cursor only moves on. The arguments are those of the read
+/// that is made.
 ///
-/// It holds nothing itself: what the run keeps is changed in place, and the units, the frames and the arguments are in the
-/// room of its caller.
+/// It holds nothing itself: what the run keeps is changed in place, and the units, the frames and the arguments are in
+/// the room of its caller.
 #[derive(Drop)]
 pub struct Repair<'a> {
     alloc: Global,
@@ -54,7 +56,8 @@ pub struct Repair<'a> {
 }
 
 impl<'a> Repair<'a> {
-    /// Before the first act, after the root: the units of the room are still to do, no frame waits, and nothing is left over.
+    /// Before the first act, after the root: the units of the room are still to do, no frame waits, and nothing is
+    /// left over.
     pub fn at_root(
         code: &'a Code,
         inputs: &'a Inputs,
@@ -147,8 +150,8 @@ impl<'a> Repair<'a> {
         Ok(())
     }
 
-    /// One step more was re-executed, after the node at the cursor. Where the count has no room in 32 bits, there is no memory for
-    /// that many steps.
+    /// One step more was re-executed, after the node at the cursor. Where the count has no room in 32 bits, there is no
+    /// memory for that many steps.
     fn step(&mut self) -> Result<(), NoMemory>
         requires kept { Kept (running_of self.old).tables }
         requires here { has_node self.old.cursor.0 (running_of self.old).tables.trace.nodes ≡ true }
@@ -174,14 +177,14 @@ impl<'a> Repair<'a> {
         Ok(())
     }
 
-    /// What the running unit does next. It answers false where the unit is over and nothing follows. After running out of memory the
-    /// repair is of no further use.
+    /// What the running unit does next. It answers false where the unit is over and nothing follows. After running out
+    /// of memory the repair is of no further use.
     pub fn act(&mut self) -> Result<bool, NoMemory>
         requires runs { (start : Start) × Runs start self.old }
         ensures call { OnOk result (SameCall self.old self.new) }
         ensures pays { OnOk result (Pays (running_of self.old) (running_of self.new)) }
         ensures runs { IfOk result
-            (λ more. (start : Start) → Runs start self.old → Turned more start self.new) }
+            (λ more. (start : Start) → Runs start self.old → RunsOrEnds more start self.new) }
         ensures spent { IfOk result
             (λ more. more ≡ false → (view self.new).spent ≡ (view self.old).spent) }
     {
@@ -214,7 +217,8 @@ impl<'a> Repair<'a> {
         ensures call { OnOk result (SameCall self.old self.new) }
         ensures pays { OnOk result (Pays (running_of self.old) (running_of self.new)) }
         ensures runs { IfOk result
-            (λ more. (start : Start) → Acts start does.Over self.old → Turned more start self.new) }
+            (λ more. (start : Start) → Acts start does.Over self.old
+            → RunsOrEnds more start self.new) }
         ensures spent { IfOk result
             (λ more. more ≡ false → (view self.new).spent ≡ (view self.old).spent) }
     {

@@ -11,8 +11,9 @@ use ceal_code::code::Code;
 use ceal_code::stack::Stack;
 use std::alloc::Global;
 
-/// Room for the units of a repair, for what follows the ends of its reads, and for the arguments of the read that it makes. It is
-/// kept from one repair to the next, so that a repair for which it is large enough takes no memory for them.
+/// Room for the units of a repair, for what follows the ends of its reads, and for the arguments of the read that it
+/// makes. It is kept from one repair to the next, so that a repair for which it is large enough takes no memory for
+/// them.
 #[derive(Drop)]
 pub struct Room {
     pub(crate) stack: Stack,

@@ -62,7 +62,8 @@ fn few_words(block: &BlockWords) -> Result<&[Word], NoMemory>
 }
 
 impl Running {
-    /// A run that is up to date ends: it may have more steps than the fuel allows. Otherwise its revoked blocks are released.
+    /// A run that is up to date ends: it may have more steps than the fuel allows. Otherwise its revoked blocks are
+    /// released.
     pub fn conclude(&mut self, fuel: u32) -> Progress
         ensures { Concludes result fuel self.old self.new }
     {
@@ -109,7 +110,8 @@ impl Running {
         }
     }
 
-    /// Makes the block of a key, with what its modifiables hold before any write. Reads of its places may be queued, no others.
+    /// Makes the block of a key, with what its modifiables hold before any write. Reads of its places may be queued,
+    /// no others.
     pub fn make(
         &mut self,
         alloc: Global,

@@ -1,6 +1,7 @@
 // The tables of a trace, kept in step with its nodes.
 
-ghost use Rattle.std.specs.Prelude.{◌≡◌, ◌<◌, ◌≤◌, ◌+◌, ℕ, [], ◌∷◌, Some, None, false, length, IfOk, OnOk, OnErr, IsTrue};
+ghost use Rattle.std.specs.Prelude.{◌≡◌, ◌<◌, ◌≤◌, ◌+◌, ℕ, [], ◌∷◌, Some, None, false, length, IfOk, OnOk, OnErr};
+ghost use Rattle.std.specs.Prelude.{IsTrue};
 ghost use Rattle.ceal_base.specs.declared.word.Place.{Place as PlaceOf};
 ghost use Rattle.ceal_code.specs.Replay.{stored};
 ghost use Rattle.ceal_memo.specs.Keys.{OfRead, OfAlloc};
@@ -8,10 +9,11 @@ ghost use Rattle.ceal_memo.specs.Memo.{IsOf};
 ghost use Rattle.ceal_mods.specs.Mods.{cell_of, IsUntouched};
 ghost use Rattle.ceal_order.specs.Stamps.{is_in};
 ghost use Rattle.ceal_repair.specs.Covered.{contents_after};
-ghost use Rattle.ceal_repair.specs.Kept.{Kept, QueuedBehind, base_in};
+ghost use Rattle.ceal_repair.specs.Kept.{Kept, QueuedAfter, base_in};
 ghost use Rattle.ceal_repair.specs.Lists.{up_to, between};
-ghost use Rattle.ceal_repair.specs.Looks.{owed, LooksNever, NoneDiffers};
-ghost use Rattle.ceal_trace.specs.Nodes.{has_node, node_at, position, is_read, end_in, with_entry_after, with_steps, new_entry, Inserted};
+ghost use Rattle.ceal_repair.specs.Looks.{looks_owed, LooksNever, NoneDiffers};
+ghost use Rattle.ceal_trace.specs.Nodes.{has_node, node_at, position, is_read, end_in, with_entry_after, with_steps};
+ghost use Rattle.ceal_trace.specs.Nodes.{new_entry, Inserted};
 ghost use Rattle.ceal_trace.specs.declared.node.Node.TheVariants.{Root, Alloc, Write, Read, End};
 
 use ceal_base::forest::Key;
@@ -118,7 +120,7 @@ impl Tables {
         ensures mods { OnOk result (self.new.mods ≡ self.old.mods) }
         ensures queue { OnOk result (self.new.stale ≡ self.old.stale) }
         ensures behind { IfOk result
-            (λ s. QueuedBehind after.0 self.old → QueuedBehind s.0 self.new) }
+            (λ s. QueuedAfter after.0 self.old → QueuedAfter s.0 self.new) }
         ensures kept { OnOk result (Kept self.new) }
     {
         mods_follow();
@@ -140,12 +142,12 @@ impl Tables {
         ensures inserted { IfOk result
             (λ s. Inserted after.0 s.0
             (Write place value) self.old.trace.nodes self.new.trace.nodes) }
-        ensures looks { OnOk result (owed self.new ≤ owed self.old + 2) }
+        ensures looks { OnOk result (looks_owed self.new ≤ looks_owed self.old + 2) }
         ensures differed { OnOk result (NoneDiffers self.old self.new) }
         ensures bases { OnOk result
             ((p : PlaceOf) → base_in self.new.mods p ≡ base_in self.old.mods p) }
         ensures behind { IfOk result
-            (λ s. QueuedBehind after.0 self.old → QueuedBehind s.0 self.new) }
+            (λ s. QueuedAfter after.0 self.old → QueuedAfter s.0 self.new) }
         ensures kept { OnOk result (Kept self.new) }
     {
         mods_follow();
@@ -166,7 +168,7 @@ impl Tables {
         requires here { IsTrue (has_node after.0 self.old.trace.nodes) }
         ensures value { result
             ≡ contents_after (base_in self.old.mods) (up_to after.0 self.old.trace.nodes) place }
-        ensures looks { owed self.new ≤ owed self.old + 1 }
+        ensures looks { looks_owed self.new ≤ looks_owed self.old + 1 }
         ensures differed { NoneDiffers self.old self.new }
         ensures trace { self.new.trace ≡ self.old.trace }
         ensures cells { self.new.mods.cells ≡ self.old.mods.cells }
@@ -180,8 +182,8 @@ impl Tables {
         }
     }
 
-    /// Puts a read directly after a node up to which none is queued, with what its place holds there. It has no end yet. Its key
-    /// comes as the memo enters it, too.
+    /// Puts a read directly after a node up to which none is queued, with what its place holds there. It has no end
+    /// yet. Its key comes as the memo enters it, too.
     pub fn begin_read(
         &mut self,
         alloc: Global,
@@ -192,7 +194,7 @@ impl Tables {
         requires kept { Kept self.old }
         requires here { IsTrue (has_node after.0 self.old.trace.nodes) }
         requires hashed { IsOf self.old.memo (OfRead key.now) hashed }
-        requires late { QueuedBehind after.0 self.old }
+        requires late { QueuedAfter after.0 self.old }
         ensures value { IfOk result (λ b.
             b.value ≡ contents_after (base_in self.old.mods)
             (up_to after.0 self.old.trace.nodes) key.now.place) }
@@ -205,13 +207,13 @@ impl Tables {
             (Read key.now.place b.value key.now.unit key.now.var key.now.args) self.old.trace.nodes
             self.new.trace.nodes) }
         ensures open { IfOk result (λ b. end_in b.read.0 self.new.trace.nodes ≡ None) }
-        ensures looks { OnOk result (owed self.new ≤ owed self.old + 1) }
+        ensures looks { OnOk result (looks_owed self.new ≤ looks_owed self.old + 1) }
         ensures differed { OnOk result (NoneDiffers self.old self.new) }
         ensures bases { OnOk result
             ((p : PlaceOf) → base_in self.new.mods p ≡ base_in self.old.mods p) }
         ensures queue { OnOk result (self.new.stale ≡ self.old.stale) }
         ensures behind { IfOk result
-            (λ b. QueuedBehind after.0 self.old → QueuedBehind b.read.0 self.new) }
+            (λ b. QueuedAfter after.0 self.old → QueuedAfter b.read.0 self.new) }
         ensures kept { OnOk result (Kept self.new) }
     {
         mods_follow();
@@ -246,7 +248,7 @@ impl Tables {
         ensures mods { OnOk result (self.new.mods ≡ self.old.mods) }
         ensures queue { OnOk result (self.new.stale ≡ self.old.stale) }
         ensures behind { IfOk result
-            (λ s. QueuedBehind after.0 self.old → QueuedBehind s.0 self.new) }
+            (λ s. QueuedAfter after.0 self.old → QueuedAfter s.0 self.new) }
         ensures kept { OnOk result (Kept self.new) }
     {
         mods_follow();

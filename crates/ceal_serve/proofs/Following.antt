@@ -10,13 +10,13 @@ use Rattle.ceal_lex.specs.Parts.{IsBeforeLine}
 use Rattle.ceal_script.specs.Lines.{IsLineOf}
 use Rattle.ceal_script.specs.Words.{HasWords}
 use Rattle.ceal_script.specs.declared.command.Command.TheVariants.{Blank}
-use Rattle.ceal_session.specs.Following.{opened}
+use Rattle.ceal_session.specs.AfterLine.{situation_at_start}
 use Rattle.ceal_session.specs.Laws.{AnswersIn, BegunLaw, KeptLaw, SomeScriptLaw}
-use Rattle.ceal_session.specs.Replies.{opening, Replies, Leads, behind}
+use Rattle.ceal_session.specs.Replies.{situation_without_run, Replies, Leads, situation_after}
 use Rattle.ceal_session.specs.State.{Situation}
 use Rattle.ceal_cli.specs.Lines.{lines_of, script_lines, without_return}
 use Rattle.ceal_cli.specs.Output.{Begins, IsPrefix, first_state}
-use Rattle.ceal_cli.specs.Serving.{BeginsReply, IsReply, Serves}
+use Rattle.ceal_cli.specs.ServedLines.{BeginsReply, IsReply, Serves}
 use Rattle.ceal_serve.specs.Exchange.{Exchange, Says, saying}
 use Rattle.ceal_serve.specs.Listening.{HasLine, Hears, HearsEnd, HearsSome, IsCaughtUp, heard_more, heard_end}
 use Rattle.ceal_serve.specs.Replying.{Follows, IsAt, IsLast}
@@ -45,7 +45,7 @@ empty-is-blank : IsLineOf Blank []
 unfolding HasWords
 empty-is-blank = record { words = []; has_words = tt; says = tt }
 
-blank-reply : (m : Situation) → Replies m [] [] (behind m (Some Blank))
+blank-reply : (m : Situation) → Replies m [] [] (situation_after m (Some Blank))
 blank-reply m = record { command = Some Blank; reads = empty-is-blank; reply = refl; next = refl }
 
 empty-lines : script_lines [] ≡ [] ∷ []
@@ -59,11 +59,12 @@ still P Q (inr q) = absurd (cc q.0)
 -- the replies to nothing are nothing
 pub nothing-served : (m : Situation) → (end : Situation) × Leads m (script_lines []) [] end
 unfolding Leads
-nothing-served m = (behind m (Some Blank), subst (λ (l : List (List ℕ)). Leads m l [] (behind m (Some Blank))) (sym empty-lines) ([], behind m (Some Blank), [], blank-reply m, (refl, refl), refl))
+nothing-served m = (situation_after m (Some Blank), subst (λ (l : List (List ℕ)). Leads m l [] (situation_after m (Some Blank))) (sym empty-lines)
+    ([], situation_after m (Some Blank), [], blank-reply m, (refl, refl), refl))
 
 -- the session begins after the mark
 pub begins-there : BegunLaw → (p : Program) (fuel : ℕ) (text : List ℕ) → IsHead false text [] → IsBeforeLine text → IsProgram text p.typed → IsCompiled p
-    → Follows fuel text [] (opened p fuel)
+    → Follows fuel text [] (situation_at_start p fuel)
 unfolding Leads
 begins-there begins p fuel text head complete reads compiled = record {
   parts = record { head = text; script = []; is_head = head; whole = sym (append-nil text) };
@@ -71,27 +72,27 @@ begins-there begins p fuel text head complete reads compiled = record {
   complete = complete;
   front = [];
   lines = λ more. refl;
-  end = opened p fuel;
+  end = situation_at_start p fuel;
   leads = (refl, refl);
   is_in = begins p fuel compiled;
 }
 
 module _ (fuel : ℕ) (text said : List ℕ) (session : Situation) (h : Follows fuel text said session) where
   abbrev first : Situation
-  first = opening h.program.code (first_state h.program fuel)
+  first = situation_without_run h.program.code (first_state h.program fuel)
 
   -- all is said to the complete lines
   answered : IsAnswered fuel text said
   answered =
       let lines-now : script_lines h.parts.script ≡ h.front ++ ([] ∷ []) =
       ap script_lines (sym (append-nil h.parts.script)) ∙ (h.lines [] ∙ ap (λ (l : List (List ℕ)). h.front ++ l) empty-lines) in
-      let leads : Leads first (h.front ++ ([] ∷ [])) (said ++ []) (behind h.end (Some Blank)) =
-      leads-more h.front [] first h.end (behind h.end (Some Blank)) said [] h.leads (blank-reply h.end) in
-      let now = subst (λ (t : List ℕ). Leads first (h.front ++ ([] ∷ [])) t (behind h.end (Some Blank))) (append-nil said) leads in
+      let leads : Leads first (h.front ++ ([] ∷ [])) (said ++ []) (situation_after h.end (Some Blank)) =
+      leads-more h.front [] first h.end (situation_after h.end (Some Blank)) said [] h.leads (blank-reply h.end) in
+      let now = subst (λ (t : List ℕ). Leads first (h.front ++ ([] ∷ [])) t (situation_after h.end (Some Blank))) (append-nil said) leads in
       inr (record {
         parts = h.parts;
         program = h.program;
-        replies = record { end = behind h.end (Some Blank); leads = subst (λ (l : List (List ℕ)). Leads first l said (behind h.end (Some Blank))) (sym lines-now) now };
+        replies = record { end = situation_after h.end (Some Blank); leads = subst (λ (l : List (List ℕ)). Leads first l said (situation_after h.end (Some Blank))) (sym lines-now) now };
       })
 
   -- what is said where the text continues so and ends

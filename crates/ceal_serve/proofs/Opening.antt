@@ -6,9 +6,9 @@ use Rattle.ceal_compile.specs.Compiled.{IsCompiled}
 use Rattle.ceal_compile.specs.FaultLine.{fault_line}
 use Rattle.ceal_compile.specs.Source.{IsFirstFault, IsProgram}
 use Rattle.ceal_compile.specs.declared.program.Program.{Program}
-use Rattle.ceal_session.specs.Following.{opened}
+use Rattle.ceal_session.specs.AfterLine.{situation_at_start}
 use Rattle.ceal_session.specs.Laws.{BegunLaw}
-use Rattle.ceal_session.specs.Replies.{Leads, opening}
+use Rattle.ceal_session.specs.Replies.{Leads, situation_without_run}
 use Rattle.ceal_session.specs.State.{Situation}
 use Rattle.ceal_cli.specs.Lines.{script_lines}
 use Rattle.ceal_cli.specs.Output.{IsPrefix, Programmed, first_state}
@@ -75,23 +75,24 @@ module _ (fuel : ℕ) (text rest : List ℕ) (e : Exchange) (p : Program) (reads
   done-open is h = elim h.heard [
     | inl k ↦ absurd (true-is-not k.0)
     | inr k ↦ (let head : IsHead true text [] = open-head text is (Ok p.typed) reads in
-        let none = nothing-served (opening p.code (first_state (program-at true [] head) e.fuel)) in (
+        let none = nothing-served (situation_without_run p.code (first_state (program-at true [] head) e.fuel)) in (
           k.1,
           record {
             parts = record { head = text; script = []; is_head = head; whole = k.2 ∙ sym (append-nil text) };
             program = program-at true [] head;
-            replies = record { end = none.0; leads = subst (λ (l : List ℕ). Leads (opening p.code (first_state (program-at true [] head) e.fuel)) (script_lines []) l none.0) (sym h.unsaid) none.1 };
+            replies = record { end = none.0; leads =
+                subst (λ (l : List ℕ). Leads (situation_without_run p.code (first_state (program-at true [] head) e.fuel)) (script_lines []) l none.0) (sym h.unsaid) none.1 };
           },
         ))
   ]
 
   -- after the mark the session begins
-  pub at-opening : BegunLaw → length text < 2 ^ 32 → IsMarkedSource text → IsHeardSource fuel true text rest e → (session : Situation) → session ≡ opened p fuel → IsAt rest session e
+  pub at-opening : BegunLaw → length text < 2 ^ 32 → IsMarkedSource text → IsHeardSource fuel true text rest e → (session : Situation) → session ≡ situation_at_start p fuel → IsAt rest session e
   at-opening begins small is h session same = elim h.heard [
     | inr k ↦ absurd (true-is-not (sym k.0))
-    | inl k ↦ (let f : Follows fuel text [] (opened p fuel) = begins-there begins p fuel text (marked-head text small is false []) (complete-source text small is) reads compiled in
-        let g : Follows e.fuel text [] (opened p fuel) = subst (λ n. Follows n text [] (opened p fuel)) (sym h.fuel_is) f in
-        let i : Follows e.fuel text e.said (opened p fuel) = subst (λ (l : List ℕ). Follows e.fuel text l (opened p fuel)) (sym h.unsaid) g in
+    | inl k ↦ (let f : Follows fuel text [] (situation_at_start p fuel) = begins-there begins p fuel text (marked-head text small is false []) (complete-source text small is) reads compiled in
+        let g : Follows e.fuel text [] (situation_at_start p fuel) = subst (λ n. Follows n text [] (situation_at_start p fuel)) (sym h.fuel_is) f in
+        let i : Follows e.fuel text e.said (situation_at_start p fuel) = subst (λ (l : List ℕ). Follows e.fuel text l (situation_at_start p fuel)) (sym h.unsaid) g in
         record { text = text; heard = k.2; follows = subst (λ s. Follows e.fuel text e.said s) (sym same) i })
   ]
 
@@ -108,7 +109,7 @@ module _ (fuel : ℕ) (marked : Bool) (text rest : List ℕ) (o : Option Exchang
         known-same o o (IsHeardSource fuel marked text rest) (IsOver true) refl
         (λ e k. done-open fuel text rest e p reads compiled (subst (λ b. SourceIs b text) open-is is) (subst (λ b. IsHeardSource fuel b text rest e) open-is k)) h
 
-    pub at-known : BegunLaw → length text < 2 ^ 32 → marked ≡ true → (session : Situation) → session ≡ opened p fuel → IfSome o (IsAt rest session)
+    pub at-known : BegunLaw → length text < 2 ^ 32 → marked ≡ true → (session : Situation) → session ≡ situation_at_start p fuel → IfSome o (IsAt rest session)
     at-known begins small marked-is session same =
         known-same o o (IsHeardSource fuel marked text rest) (IsAt rest session) refl
         (λ e k. at-opening fuel text rest e p reads compiled begins small (subst (λ b. SourceIs b text) marked-is is) (subst (λ b. IsHeardSource fuel b text rest e) marked-is k) session same) h

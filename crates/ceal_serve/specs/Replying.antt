@@ -1,8 +1,8 @@
 -- Replies to lines, one after another.
 use Rattle.std.specs.Prelude.{◌≡◌, ℕ, true, false, List, ◌++◌}
 use Rattle.ceal_lex.specs.Parts.{IsBeforeLine}
-use Rattle.ceal_session.specs.Replies.{Leads, opening}
-use Rattle.ceal_session.specs.Standing.{IsIn}
+use Rattle.ceal_session.specs.Replies.{Leads, situation_without_run}
+use Rattle.ceal_session.specs.Consistency.{IsIn}
 use Rattle.ceal_session.specs.State.{Situation}
 use Rattle.ceal_cli.specs.Lines.{script_lines}
 use Rattle.ceal_cli.specs.Output.{Programmed, first_state}
@@ -17,7 +17,7 @@ pub record Follows (fuel : ℕ) (text said : List ℕ) (session : Situation) : T
   pub front : List (List ℕ)
   pub lines : (more : List ℕ) → script_lines (parts.script ++ more) ≡ front ++ script_lines more
   pub end : Situation
-  pub leads : Leads (opening program.code (first_state program fuel)) front said end
+  pub leads : Leads (situation_without_run program.code (first_state program fuel)) front said end
   pub is_in : IsIn session end
 
 -- So it is, and the rest was heard after it.

@@ -1,9 +1,9 @@
 // The replies to the lines, one after another.
 
 ghost use Rattle.std.specs.Prelude.{◌≡◌, IfSome, OnOk, OnErr, IsErrOf, if◌then◌else◌};
-ghost use Rattle.ceal_session.specs.Keeping.{situation};
+ghost use Rattle.ceal_session.specs.SessionState.{situation};
 ghost use Rattle.ceal_cli.specs.Lines.{without_return as no_return};
-ghost use Rattle.ceal_cli.specs.Serving.{BeginsReply, IsReply};
+ghost use Rattle.ceal_cli.specs.ServedLines.{BeginsReply, IsReply};
 ghost use Rattle.ceal_serve.specs.Exchange.{Says};
 ghost use Rattle.ceal_serve.specs.Listening.{HasLine};
 ghost use Rattle.ceal_serve.specs.Replying.{IsAt, IsLast};

@@ -3,8 +3,8 @@
 ghost use Rattle.std.specs.Prelude.{◌≡◌, ◌≢◌, ◌≤◌, [], IfSome, IfOk, OnOk, IsErrOf, vec_len};
 ghost use Rattle.ceal_cli.specs.declared.top.Status.TheVariants.{Done, Refused, Usage, TooLong, ReadFault, WriteFault};
 ghost use Rattle.ceal_io.specs.Streams.{Rose};
-ghost use Rattle.ceal_session.specs.Following.{IsAllowed};
-ghost use Rattle.ceal_session.specs.Keeping.{situation};
+ghost use Rattle.ceal_session.specs.AfterLine.{IsAllowed};
+ghost use Rattle.ceal_session.specs.SessionState.{situation};
 ghost use Rattle.ceal_serve.specs.Exchange.{IsBegun};
 ghost use Rattle.ceal_serve.specs.Listening.{IsHeardSource, SourceIs};
 ghost use Rattle.ceal_serve.specs.Replying.{IsAt};

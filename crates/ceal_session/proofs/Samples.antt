@@ -8,10 +8,10 @@ use Rattle.ceal_script.specs.declared.command.Command.TheVariants.{Mod, Set, Pro
 use Rattle.ceal_script.specs.declared.command.KindWord.TheVariants.{Int}
 use Rattle.ceal_script.specs.declared.command.PlaceWord.{PlaceWord}
 use Rattle.ceal_script.specs.declared.command.ValueWord.TheVariants.{Num as NumWord, Null as NullWord}
-use Rattle.ceal_session.specs.Runs.{begun}
+use Rattle.ceal_session.specs.Runs.{state_at_start}
 use Rattle.ceal_session.specs.Senses.{words_of}
 use Rattle.ceal_session.specs.State.{State}
-use Rattle.ceal_session.specs.Steps.{stays, refuses, answered}
+use Rattle.ceal_session.specs.Steps.{stays, refuses, step_of_command}
 use Rattle.ceal_session.specs.declared.refusal.Refusal.TheVariants.{C2, C3, C4, C7}
 use Rattle.ceal_session.specs.declared.reply.Reply.TheVariants.{Ok}
 
@@ -22,7 +22,7 @@ abbrev place : List ℕ → PlaceWord
 place name = record { name = name; field = None }
 
 abbrev empty : State
-empty = begun (record { structs = []; functions = [] }) 10
+empty = state_at_start (record { structs = []; functions = [] }) 10
 
 -- after `mod a int 4`
 abbrev with_four : State
@@ -32,25 +32,25 @@ with_four = record empty { names = codes "a" ∷ []; inputs = cell 4 ∷ []; set
 abbrev with_nine : State
 with_nine = record with_four { inputs = cell 9 ∷ []; pending = true }
 
-makes : answered empty false (Mod (codes "a") Int (NumWord (pos 4))) ≡ stays with_four Ok
+makes : step_of_command empty false (Mod (codes "a") Int (NumWord (pos 4))) ≡ stays with_four Ok
 unfolding words_of
 makes = refl
 
-name_taken : answered with_four false (Mod (codes "a") Int (NumWord (pos 5))) ≡ refuses with_four C3
+name_taken : step_of_command with_four false (Mod (codes "a") Int (NumWord (pos 5))) ≡ refuses with_four C3
 unfolding words_of
 name_taken = refl
 
-sets : answered with_four false (Set (place (codes "a")) (NumWord (pos 9))) ≡ stays with_nine Ok
+sets : step_of_command with_four false (Set (place (codes "a")) (NumWord (pos 9))) ≡ stays with_nine Ok
 sets = refl
 
-no_such_name : answered with_four false (Set (place (codes "b")) (NumWord (pos 9))) ≡ refuses with_four C2
+no_such_name : step_of_command with_four false (Set (place (codes "b")) (NumWord (pos 9))) ≡ refuses with_four C2
 no_such_name = refl
 
-wrong_kind : answered with_four false (Set (place (codes "a")) NullWord) ≡ refuses with_four C4
+wrong_kind : step_of_command with_four false (Set (place (codes "a")) NullWord) ≡ refuses with_four C4
 wrong_kind = refl
 
-no_run : answered with_nine false Propagate ≡ refuses with_nine C7
+no_run : step_of_command with_nine false Propagate ≡ refuses with_nine C7
 no_run = refl
 
-nothing_told : answered with_nine false (Get (place (codes "a"))) ≡ refuses with_nine C7
+nothing_told : step_of_command with_nine false (Get (place (codes "a"))) ≡ refuses with_nine C7
 nothing_told = refl

@@ -6,7 +6,7 @@ use Rattle.ceal_script.specs.declared.command.Command.TheVariants.{Mod, New, Set
 use Rattle.ceal_theory.specs.Pasts.{goes}
 use Rattle.ceal_session.specs.Replies.{Reads, Replies, Leads}
 use Rattle.ceal_session.specs.Runs.{present_run}
-use Rattle.ceal_session.specs.Standing.{Stands}
+use Rattle.ceal_session.specs.Consistency.{IsConsistent}
 use Rattle.ceal_session.specs.State.{Situation, numbers_in}
 use Rattle.ceal_session.specs.Strangers.{Completes}
 
@@ -29,5 +29,5 @@ HaveNoEdit lines = AllByRecursion (λ line. (command : Option Command) → Reads
 -- run or a repair, be it whole or the last slice of it.
 abbrev pub BoundedLaw : Type 0
 BoundedLaw =
-    (m mid n : Situation) (lines : List (List ℕ)) (line out text : List ℕ) → Stands m → goes m.past ≡ false
+    (m mid n : Situation) (lines : List (List ℕ)) (line out text : List ℕ) → IsConsistent m → goes m.past ≡ false
     → HaveNoEdit lines → Leads m lines out mid → Replies mid line text n → Completes mid line n → AreOrdered n

@@ -5,8 +5,8 @@ use Rattle.std.specs.Prelude.{◌≡◌, ℕ, Bool, true, false, Option, Result,
 use Rattle.ceal_base.specs.declared.call.Call.{Call}
 use Rattle.ceal_script.specs.declared.command.Command.{Command}
 use Rattle.ceal_theory.specs.Pasts.{Past, NoTrace, Traced, Going}
-use Rattle.ceal_session.specs.Replies.{Reads, Answers, Leads, behind}
-use Rattle.ceal_session.specs.Standing.{Stands}
+use Rattle.ceal_session.specs.Replies.{Reads, Answers, Leads, situation_after}
+use Rattle.ceal_session.specs.Consistency.{IsConsistent}
 use Rattle.ceal_session.specs.State.{State, Situation, Numbers, numbers_in}
 use Rattle.ceal_session.specs.Works.{call_in, past_in, bound_in}
 use Rattle.ceal_session.specs.declared.refusal.Refusal.{Refusal}
@@ -36,37 +36,37 @@ unfoldable pub AreEntries : Situation → List (List ℕ) → List Entry → Typ
 AreEntries m [] entries = entries ≡ []
 AreEntries m (line ∷ lines) entries =
     (command : Option Command) × (later : List Entry) × Reads line command
-    × AreEntries (behind m command) lines later × (entries ≡ entries_in m command ++ later)
+    × AreEntries (situation_after m command) lines later × (entries ≡ entries_in m command ++ later)
 
 -- whether a repair is in progress after the line of the first entry
-abbrev pub goes_on : List Entry → Bool
-goes_on (More ∷ later) = true
-goes_on (Counted numbers ∷ later) = false
-goes_on (Out ∷ later) = false
-goes_on [] = false
+abbrev pub begins_with_more : List Entry → Bool
+begins_with_more (More ∷ later) = true
+begins_with_more (Counted numbers ∷ later) = false
+begins_with_more (Out ∷ later) = false
+begins_with_more [] = false
 
 -- the latest numbers, and the entries that are still to come, after a line
 pub record Told : Type 0 where
   pub latest : Numbers
   pub coming : List Entry
 
-abbrev pub taken : Numbers → List Entry → Told
-taken latest [] = record { latest = latest; coming = [] }
-taken latest (Counted numbers ∷ later) = record { latest = numbers; coming = later }
-taken latest (More ∷ later) = record { latest = latest; coming = later }
-taken latest (Out ∷ later) = record { latest = latest; coming = later }
+abbrev pub told_after_run : Numbers → List Entry → Told
+told_after_run latest [] = record { latest = latest; coming = [] }
+told_after_run latest (Counted numbers ∷ later) = record { latest = numbers; coming = later }
+told_after_run latest (More ∷ later) = record { latest = latest; coming = later }
+told_after_run latest (Out ∷ later) = record { latest = latest; coming = later }
 
-abbrev pub told_behind : Result Call Refusal → Numbers → List Entry → Told
-told_behind (Err r) latest entries = record { latest = latest; coming = entries }
-told_behind (Ok call) latest entries = taken latest entries
+abbrev pub told_after : Result Call Refusal → Numbers → List Entry → Told
+told_after (Err r) latest entries = record { latest = latest; coming = entries }
+told_after (Ok call) latest entries = told_after_run latest entries
 
 -- The text that the plain meaning of the source gives to the lines, with the latest numbers and the entries to come.
 unfoldable pub AreReplies : State → Told → List (List ℕ) → List ℕ → Type 0
 AreReplies s told [] out = out ≡ []
 AreReplies s told (line ∷ lines) out =
     (text : List ℕ) × (next : State) × (rest : List ℕ)
-    × (a : Answers s told.latest (goes_on told.coming) line text next)
-    × AreReplies next (told_behind (call_in s a.command) told.latest told.coming) lines rest × (out ≡ text ++ rest)
+    × (a : Answers s told.latest (begins_with_more told.coming) line text next)
+    × AreReplies next (told_after (call_in s a.command) told.latest told.coming) lines rest × (out ≡ text ++ rest)
 
 -- The replies of lines are this text.
 pub record Tells (m : Situation) (lines : List (List ℕ)) (out : List ℕ) : Type 0 where
@@ -76,7 +76,8 @@ pub record Tells (m : Situation) (lines : List (List ℕ)) (out : List ℕ) : Ty
 
 abbrev pub EntriesLaw : Type 0
 EntriesLaw =
-    (m end : Situation) (lines : List (List ℕ)) (out : List ℕ) → Stands m → Leads m lines out end → Tells m lines out
+    (m end : Situation) (lines : List (List ℕ)) (out : List ℕ) → IsConsistent m → Leads m lines out end
+    → Tells m lines out
 
 -- And the entries and the text are functions of the lines.
 abbrev pub OneTextLaw : Type 0

@@ -19,19 +19,19 @@ pub record JournalState : Type 0 where
   pub measure : Measure
 
 -- the bound is this number, and nothing was edited since
-abbrev pub settled_at : ℕ → JournalState
-settled_at n = record { since = []; measure = Number n }
+abbrev pub journal_of_bound : ℕ → JournalState
+journal_of_bound n = record { since = []; measure = Number n }
 
 -- nothing was run
-abbrev pub opened : JournalState
-opened = settled_at 0
+abbrev pub journal_at_start : JournalState
+journal_at_start = journal_of_bound 0
 
 abbrev pub with_edit : JournalState → Edit → JournalState
 with_edit j e = record j { since = j.since ++ e ∷ [] }
 
 -- a repair is completed
-abbrev pub completed : JournalState → JournalState
-completed j = record { since = []; measure = Between j.since }
+abbrev pub journal_after_completion : JournalState → JournalState
+journal_after_completion j = record { since = []; measure = Between j.since }
 
 -- the bound is known to be this number
 abbrev pub with_bound : JournalState → ℕ → JournalState

@@ -6,10 +6,10 @@ use Rattle.ceal_compile.specs.Compiled.{IsCompiled}
 use Rattle.ceal_compile.specs.declared.program.Program.{Program}
 use Rattle.ceal_script.specs.declared.command.Command.{Command}
 use Rattle.ceal_theory.specs.Pasts.{goes}
-use Rattle.ceal_session.specs.Asking.{IsCellOf}
-use Rattle.ceal_session.specs.Following.{opened, Repairs, dropped}
+use Rattle.ceal_session.specs.Questions.{IsCellOf}
+use Rattle.ceal_session.specs.AfterLine.{situation_at_start, IsAfterLine, situation_out_of_fuel}
 use Rattle.ceal_session.specs.Replies.{Reads, Answers, Replies, Leads}
-use Rattle.ceal_session.specs.Standing.{Stands, IsIn}
+use Rattle.ceal_session.specs.Consistency.{IsConsistent, IsIn}
 use Rattle.ceal_session.specs.State.{State, Situation, Numbers, numbers_in}
 use Rattle.ceal_session.specs.Steps.{call_of}
 
@@ -47,27 +47,27 @@ JoinedLaw =
 
 -- The first situation of a session is sound: it is the one in which nothing was run.
 abbrev pub BegunLaw : Type 0
-BegunLaw = (p : Program) (fuel : ℕ) → IsCompiled p → IsIn (opened p fuel) (opened p fuel)
+BegunLaw = (p : Program) (fuel : ℕ) → IsCompiled p → IsIn (situation_at_start p fuel) (situation_at_start p fuel)
 
 -- In a situation that a session reaches each line has a reply, and the one after it is such a one.
 pub record Replied (m : Situation) (line : List ℕ) : Type 0 where
   pub text : List ℕ
   pub next : Situation
   pub replies : Replies m line text next
-  pub stands : Stands next
+  pub stands : IsConsistent next
 
 abbrev pub SomeReplyLaw : Type 0
-SomeReplyLaw = (m : Situation) (line : List ℕ) → Stands m → Replied m line
+SomeReplyLaw = (m : Situation) (line : List ℕ) → IsConsistent m → Replied m line
 
 -- And so have lines one after another.
 pub record Led (m : Situation) (lines : List (List ℕ)) : Type 0 where
   pub out : List ℕ
   pub end : Situation
   pub leads : Leads m lines out end
-  pub stands : Stands end
+  pub stands : IsConsistent end
 
 abbrev pub SomeScriptLaw : Type 0
-SomeScriptLaw = (m : Situation) (lines : List (List ℕ)) → Stands m → Led m lines
+SomeScriptLaw = (m : Situation) (lines : List (List ℕ)) → IsConsistent m → Led m lines
 
 -- The line is answered in the situation as the session answered it, and the session is in the situation after it.
 pub record AnswersIn (m : Situation) (line text : List ℕ) (session : Situation) : Type 0 where
@@ -78,7 +78,7 @@ pub record AnswersIn (m : Situation) (line text : List ℕ) (session : Situation
 -- So it is with each line of a session that is in a situation.
 abbrev pub KeptLaw : Type 0
 KeptLaw = (old new m : Situation) (line text : List ℕ) → IsIn old m
-    → Answers old.state (numbers_in old) (goes new.past) line text new.state → Repairs old line new
+    → Answers old.state (numbers_in old) (goes new.past) line text new.state → IsAfterLine old line new
     → AnswersIn m line text new
 
 -- Where there was no memory for an accepted `run` or `propagate`, what is left of it is in what is left of
@@ -86,10 +86,10 @@ KeptLaw = (old new m : Situation) (line text : List ℕ) → IsIn old m
 abbrev pub DroppedLaw : Type 0
 DroppedLaw =
     (session m : Situation) (command : Command) (call : Call) → IsIn session m → call_of m.state command ≡ Ok call
-    → IsIn (dropped session call) (dropped m call)
+    → IsIn (situation_out_of_fuel session call) (situation_out_of_fuel m call)
 
 -- A modifiable stays one after each line, so a handle stands for the same as long as its session.
 abbrev pub KeptHandleLaw : Type 0
 KeptHandleLaw =
-    (m n : Situation) (line text : List ℕ) (p : Place) → Stands m → Replies m line text n → IsCellOf m.state p
+    (m n : Situation) (line text : List ℕ) (p : Place) → IsConsistent m → Replies m line text n → IsCellOf m.state p
     → IsCellOf n.state p

@@ -11,7 +11,7 @@ use Rattle.ceal_script.specs.Lines.{IsLineOf}
 use Rattle.ceal_script.specs.declared.command.Command.{Command}
 use Rattle.ceal_theory.specs.Pasts.{NoTrace, goes}
 use Rattle.ceal_session.specs.State.{State, Situation, Numbers, numbers_in}
-use Rattle.ceal_session.specs.Steps.{answered_line}
+use Rattle.ceal_session.specs.Steps.{step_of_line}
 use Rattle.ceal_session.specs.Texts.{IsText}
 use Rattle.ceal_session.specs.Works.{past_in, bound_in}
 
@@ -25,17 +25,17 @@ Reads line None = (command : Command) → IsLineOf command line → ⊥
 pub record Answers (s : State) (numbers : Numbers) (more : Bool) (line text : List ℕ) (next : State) : Type 0 where
   pub command : Option Command
   pub reads : Reads line command
-  pub reply : IsText s numbers (answered_line s more command).reply text
-  pub state : next ≡ (answered_line s more command).state
+  pub reply : IsText s numbers (step_of_line s more command).reply text
+  pub state : next ≡ (step_of_line s more command).state
 
 -- nothing was run
-abbrev pub opening : Code → State → Situation
-opening code s = record { state = s; code = code; past = NoTrace; bound = 0 }
+abbrev pub situation_without_run : Code → State → Situation
+situation_without_run code s = record { state = s; code = code; past = NoTrace; bound = 0 }
 
 -- the situation after a line of this command, or of none
-abbrev pub behind : Situation → Option Command → Situation
-behind m command = record {
-  state = (answered_line m.state (goes (past_in m command)) command).state;
+abbrev pub situation_after : Situation → Option Command → Situation
+situation_after m command = record {
+  state = (step_of_line m.state (goes (past_in m command)) command).state;
   code = m.code;
   past = past_in m command;
   bound = bound_in m command;
@@ -45,8 +45,8 @@ behind m command = record {
 pub record Replies (m : Situation) (line text : List ℕ) (n : Situation) : Type 0 where
   pub command : Option Command
   pub reads : Reads line command
-  pub reply : IsText m.state (numbers_in m) (answered_line m.state (goes (past_in m command)) command).reply text
-  pub next : n ≡ behind m command
+  pub reply : IsText m.state (numbers_in m) (step_of_line m.state (goes (past_in m command)) command).reply text
+  pub next : n ≡ situation_after m command
 
 -- The lines are answered, one after another, by these bytes, and the situation after them is the other one.
 unfoldable pub Leads : Situation → List (List ℕ) → List ℕ → Situation → Type 0
@@ -58,4 +58,4 @@ Leads m (line ∷ lines) out n =
 -- The replies to a script, from a state where nothing was run, are these bytes.
 pub record IsReplied (code : Code) (s : State) (lines : List (List ℕ)) (out : List ℕ) : Type 0 where
   pub end : Situation
-  pub leads : Leads (opening code s) lines out end
+  pub leads : Leads (situation_without_run code s) lines out end

@@ -1,6 +1,6 @@
 -- A session that begins, and the run from scratch at each moment of it.
 use Rattle.std.specs.Prelude.{ℕ, Bool, true, false, Option, Some, None, List, []}
-use Rattle.ceal_base.specs.Block.{Block, Blocks}
+use Rattle.ceal_base.specs.Block.{Block, Blocks, alone}
 use Rattle.ceal_base.specs.Finished.{Finished}
 use Rattle.ceal_base.specs.declared.typed.Typed.{Typed}
 use Rattle.ceal_mean.specs.Fresh.{fresh}
@@ -8,8 +8,8 @@ use Rattle.ceal_base.specs.declared.call.Call.{Call}
 use Rattle.ceal_session.specs.State.{State}
 
 -- no inputs, and no run
-abbrev pub begun : Typed → ℕ → State
-begun program fuel = record {
+abbrev pub state_at_start : Typed → ℕ → State
+state_at_start program fuel = record {
   program = program;
   fuel = fuel;
   names = [];
@@ -20,12 +20,8 @@ begun program fuel = record {
   pending = false;
 }
 
--- inputs as a memory without core blocks
-abbrev pub inputs_alone : List Block → Blocks
-inputs_alone inputs = record { inputs = inputs; made = [] }
-
 abbrev pub memory_of : State → Blocks
-memory_of s = inputs_alone s.inputs
+memory_of s = alone s.inputs
 
 -- the run from scratch of a call on the inputs of this moment
 abbrev pub run_of : State → Call → Option Finished

@@ -19,6 +19,7 @@ use Rattle.ceal_script.specs.declared.command.ValueWord.TheVariants.{Num as NumW
 use Rattle.ceal_session.specs.State.{State}
 use Rattle.ceal_session.specs.declared.sense.Sense.{Sense}
 use Rattle.ceal_session.specs.declared.sense.Sense.TheVariants.{Unknown, Plain, Word as IsWord}
+use Rattle.ceal_show.specs.Shown.{shape_in}
 
 -- the numbers of a struct, a function and a field of a name, counted in text order
 abbrev pub struct_named : State → List ℕ → Option ℕ
@@ -73,10 +74,6 @@ part_sense s n field (Some (Struct number)) =
     member_sense n (fields_numbered s number) (field_named (fields_numbered s number) field)
 part_sense s n field (Some ModInt) = Unknown
 part_sense s n field (Some (ModPtr number)) = Unknown
-
-abbrev pub shape_in : Option Block → Option Shape
-shape_in None = None
-shape_in (Some block) = Some block.shape
 
 abbrev pub shape_at : State → ℕ → Option Shape
 shape_at s n = shape_in (slice_get s.inputs n)

@@ -13,8 +13,8 @@ is_finished Partial = false
 is_finished Dropped = false
 
 -- the blocks of a finished run, by the engine's numbers
-unfoldable pub seen : EngineState → Shown
-seen e = λ b. if is_finished e.phase then stored_at e.memory b else None
+unfoldable pub shown_blocks : EngineState → Shown
+shown_blocks e = λ b. if is_finished e.phase then stored_at e.memory b else None
 
 -- the name of each input
 abbrev pub label : List (List ℕ) → ℕ → List ℕ

@@ -57,23 +57,23 @@ with_input s name block =
 abbrev pub block_of : Shape → List Word → Block
 block_of shape words = record { shape = shape; words = words }
 
-abbrev pub made_if : State → List ℕ → Block → Bool → Step
-made_if s name block fits = if fits then stays (with_input s name block) reply.Ok else refuses s C4
+abbrev pub step_if_fits : State → List ℕ → Block → Bool → Step
+step_if_fits s name block fits = if fits then stays (with_input s name block) reply.Ok else refuses s C4
 
-abbrev pub made_with : State → List ℕ → Shape → Option (List Word) → Step
-made_with s name shape None = refuses s C4
-made_with s name shape (Some words) =
-    made_if s name (block_of shape words) (block_fits s.program.structs (memory_of s) (block_of shape words))
+abbrev pub step_of_words : State → List ℕ → Shape → Option (List Word) → Step
+step_of_words s name shape None = refuses s C4
+step_of_words s name shape (Some words) =
+    step_if_fits s name (block_of shape words) (block_fits s.program.structs (memory_of s) (block_of shape words))
 
-abbrev pub made : State → List ℕ → Shape → List Sense → Step
-made s name shape senses =
+abbrev pub step_of_input : State → List ℕ → Shape → List Sense → Step
+step_of_input s name shape senses =
     if list_any is_unknown senses then refuses s C2
     else if list_any (bytes_eq name) s.names then refuses s C3
-    else made_with s name shape (words_of senses)
+    else step_of_words s name shape (words_of senses)
 
-abbrev pub made_of : State → List ℕ → Option Shape → List Sense → Step
-made_of s name None senses = refuses s C2
-made_of s name (Some shape) senses = made s name shape senses
+abbrev pub step_of_shape : State → List ℕ → Option Shape → List Sense → Step
+step_of_shape s name None senses = refuses s C2
+step_of_shape s name (Some shape) senses = step_of_input s name shape senses
 
 -- `set`: another base
 abbrev pub with_base : State → Place → Word → State
@@ -83,37 +83,38 @@ abbrev pub fits_cell : State → Option FieldKind → Word → Bool
 fits_cell s None word = false
 fits_cell s (Some kind) word = fits_field s.program.structs (memory_of s) kind word
 
-abbrev pub set_base : State → Place → Word → Step
-set_base s p word =
+abbrev pub step_of_base : State → Place → Word → Step
+step_of_base s p word =
     if fits_cell s (kind_at s.program.structs (memory_of s) p) word then stays (with_base s p word) reply.Ok
     else refuses s C4
 
-abbrev pub set_word : State → Sense → Sense → Step
-set_word s (IsWord (At p)) (IsWord word) = set_base s p word
-set_word s _ _ = refuses s C4
+abbrev pub step_of_word : State → Sense → Sense → Step
+step_of_word s (IsWord (At p)) (IsWord word) = step_of_base s p word
+step_of_word s _ _ = refuses s C4
 
-abbrev pub set : State → Sense → Sense → Step
-set s place value = if is_unknown place || is_unknown value then refuses s C2 else set_word s place value
+abbrev pub step_of_set : State → Sense → Sense → Step
+step_of_set s place value = if is_unknown place || is_unknown value then refuses s C2 else step_of_word s place value
 
 -- `run`: the call, or why there is none
 abbrev pub fits_function : State → TypedFunction → List Word → Bool
 fits_function s f words =
     is_none f.initialiser && words_fit s.program.structs (memory_of s) (take f.params f.kinds) words
 
-abbrev pub called_with : State → ℕ → TypedFunction → Option (List Word) → Result Call Refusal
-called_with s n f None = Err C5
-called_with s n f (Some words) =
+abbrev pub call_of_words : State → ℕ → TypedFunction → Option (List Word) → Result Call Refusal
+call_of_words s n f None = Err C5
+call_of_words s n f (Some words) =
     if fits_function s f words
     then if is_some s.call then Err C6 else Ok (record { function = n; args = words })
     else Err C5
 
-abbrev pub called_function : State → ℕ → Option TypedFunction → List Sense → Result Call Refusal
-called_function s n None senses = Err C2
-called_function s n (Some f) senses = if list_any is_unknown senses then Err C2 else called_with s n f (words_of senses)
+abbrev pub call_of_function : State → ℕ → Option TypedFunction → List Sense → Result Call Refusal
+call_of_function s n None senses = Err C2
+call_of_function s n (Some f) senses =
+    if list_any is_unknown senses then Err C2 else call_of_words s n f (words_of senses)
 
-abbrev pub called : State → Option ℕ → List Sense → Result Call Refusal
-called s None senses = Err C2
-called s (Some n) senses = called_function s n (slice_get s.program.functions n) senses
+abbrev pub call_of_run : State → Option ℕ → List Sense → Result Call Refusal
+call_of_run s None senses = Err C2
+call_of_run s (Some n) senses = call_of_function s n (slice_get s.program.functions n) senses
 
 -- the call is that of a core function, on words that fit
 abbrev pub is_call_of : State → Option TypedFunction → List Word → Bool
@@ -129,9 +130,9 @@ pub record IsFirst (s : State) (call : Call) : Type 0 where
   pub none : s.call ≡ None
 
 -- `propagate`: the call of the accepted `run`
-abbrev pub called_again : Option Call → Result Call Refusal
-called_again None = Err C7
-called_again (Some call) = Ok call
+abbrev pub call_again : Option Call → Result Call Refusal
+call_again None = Err C7
+call_again (Some call) = Ok call
 
 -- The table of replies to a line that runs. `reads` is how many stale reads it re-executes at most, where it says so,
 -- `more` whether a repair is in progress after it, and `out` whether the run from scratch is out of fuel.
@@ -160,23 +161,23 @@ runs s reads more (Ok call) = record {
 abbrev pub has_no_run : State → Bool
 has_no_run s = s.out_of_fuel || is_none s.call
 
-abbrev pub asked : State → Query → Reply
-asked s q = if has_no_run s then Refused C7 else if s.pending then Refused C8 else Told q
+abbrev pub reply_to_query : State → Query → Reply
+reply_to_query s q = if has_no_run s then Refused C7 else if s.pending then Refused C8 else Told q
 
 -- `get`: only a modifiable has a content
-abbrev pub got : State → Sense → Reply
-got s (IsWord (At p)) = asked s (GetOf p)
-got s sense = if is_unknown sense then Refused C2 else Refused C4
+abbrev pub reply_to_get : State → Sense → Reply
+reply_to_get s (IsWord (At p)) = reply_to_query s (GetOf p)
+reply_to_get s sense = if is_unknown sense then Refused C2 else Refused C4
 
-abbrev pub shown : State → Option ℕ → Reply
-shown s None = Refused C2
-shown s (Some n) = asked s (ShowOf n)
+abbrev pub reply_to_show : State → Option ℕ → Reply
+reply_to_show s None = Refused C2
+reply_to_show s (Some n) = reply_to_query s (ShowOf n)
 
 -- the call of a line that runs
 abbrev pub call_of : State → Command → Result Call Refusal
-call_of s (Run function args) = called s (function_named s function) (map (value_sense s) args)
-call_of s Propagate = called_again s.call
-call_of s (Slice reads) = called_again s.call
+call_of s (Run function args) = call_of_run s (function_named s function) (map (value_sense s) args)
+call_of s Propagate = call_again s.call
+call_of s (Slice reads) = call_again s.call
 call_of s _ = Err C1
 
 -- how many stale reads a line re-executes at most, where it says so
@@ -185,24 +186,24 @@ reads_of (Slice reads) = Some reads
 reads_of _ = None
 
 -- what a command is answered; `more` says whether a repair is in progress after it, which a part of a repair uses
-abbrev pub answered : State → Bool → Command → Step
-answered s more Blank = stays s reply.Nothing
-answered s more (Mod name kind value) = made_of s name (mod_shape s kind) (value_sense s value ∷ [])
-answered s more (New name shape values) =
-    made_of s name (struct_shape (struct_named s shape)) (map (value_sense s) values)
-answered s more (Set place value) = set s (place_sense s place) (value_sense s value)
-answered s more (Run function args) =
-    runs s None more (called s (function_named s function) (map (value_sense s) args))
-answered s more Propagate = runs s None more (called_again s.call)
-answered s more (Slice reads) = runs s (Some reads) more (called_again s.call)
-answered s more (Get place) = stays s (got s (place_sense s place))
-answered s more (Show name) = stays s (shown s (input_named s name))
-answered s more Blocks = stays s (asked s BlocksOf)
-answered s more Steps = stays s (asked s StepsOf)
-answered s more Work = stays s (asked s WorkOf)
-answered s more Bound = stays s (asked s BoundOf)
+abbrev pub step_of_command : State → Bool → Command → Step
+step_of_command s more Blank = stays s reply.Nothing
+step_of_command s more (Mod name kind value) = step_of_shape s name (mod_shape s kind) (value_sense s value ∷ [])
+step_of_command s more (New name shape values) =
+    step_of_shape s name (struct_shape (struct_named s shape)) (map (value_sense s) values)
+step_of_command s more (Set place value) = step_of_set s (place_sense s place) (value_sense s value)
+step_of_command s more (Run function args) =
+    runs s None more (call_of_run s (function_named s function) (map (value_sense s) args))
+step_of_command s more Propagate = runs s None more (call_again s.call)
+step_of_command s more (Slice reads) = runs s (Some reads) more (call_again s.call)
+step_of_command s more (Get place) = stays s (reply_to_get s (place_sense s place))
+step_of_command s more (Show name) = stays s (reply_to_show s (input_named s name))
+step_of_command s more Blocks = stays s (reply_to_query s BlocksOf)
+step_of_command s more Steps = stays s (reply_to_query s StepsOf)
+step_of_command s more Work = stays s (reply_to_query s WorkOf)
+step_of_command s more Bound = stays s (reply_to_query s BoundOf)
 
 -- what a line is answered that is this command's, or none's
-abbrev pub answered_line : State → Bool → Option Command → Step
-answered_line s more None = refuses s C1
-answered_line s more (Some command) = answered s more command
+abbrev pub step_of_line : State → Bool → Option Command → Step
+step_of_line s more None = refuses s C1
+step_of_line s more (Some command) = step_of_command s more command

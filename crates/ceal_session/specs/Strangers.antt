@@ -12,8 +12,8 @@ use Rattle.ceal_snap.specs.SaveText.{Save}
 use Rattle.ceal_theory.specs.Computed.{Repaired, first_of}
 use Rattle.ceal_theory.specs.Pasts.{first_past, goes}
 use Rattle.ceal_session.specs.Replies.{Reads, Replies, Leads}
-use Rattle.ceal_session.specs.Saving.{Holding, saved_state, resumed}
-use Rattle.ceal_session.specs.Standing.{Stands}
+use Rattle.ceal_session.specs.SessionSave.{SaveHolds, saved_state, situation_of_save}
+use Rattle.ceal_session.specs.Consistency.{IsConsistent}
 use Rattle.ceal_session.specs.State.{Situation, numbers_in}
 use Rattle.ceal_session.specs.Works.{call_in}
 
@@ -63,12 +63,13 @@ AreAlike m n (line ∷ lines) =
 pub record AnswersAsFirst (program : Program) (s : Save) (trace : Trace) (lines : List (List ℕ)) : Type 0 where
   pub first : Repaired
   pub is : first_of program.code s.kept.inputs s.fuel s.kept.function s.kept.args ≡ Some first
-  pub stands : Stands (with_first program.typed program.code s)
-  pub alike : AreAlike (resumed program.typed program.code s trace) (with_first program.typed program.code s) lines
+  pub stands : IsConsistent (with_first program.typed program.code s)
+  pub alike : AreAlike (situation_of_save program.typed program.code s trace)
+      (with_first program.typed program.code s) lines
 
 -- Of a save that holds nothing but its work and its bound is believed, and these until the next completed run
 -- or repair: all other replies are those of a session that has the first trace of the call, and from then on
 -- all are.
 abbrev pub StrangerLaw : Type 0
-StrangerLaw = (program : Program) (s : Save) (trace : Trace) → IsCompiled program → Holding program.code s
+StrangerLaw = (program : Program) (s : Save) (trace : Trace) → IsCompiled program → SaveHolds program.code s
     → s.kept.forest ≡ flat trace → (lines : List (List ℕ)) → AnswersAsFirst program s trace lines

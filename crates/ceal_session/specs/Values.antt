@@ -12,7 +12,7 @@ use Rattle.ceal_script.specs.declared.command.Command.TheVariants.{Get}
 use Rattle.ceal_session.specs.Runs.{memory_of, present_run}
 use Rattle.ceal_session.specs.Senses.{place_sense, is_unknown}
 use Rattle.ceal_session.specs.State.{State}
-use Rattle.ceal_session.specs.Steps.{got}
+use Rattle.ceal_session.specs.Steps.{reply_to_get}
 use Rattle.ceal_session.specs.declared.handle.Handle.{Handle}
 use Rattle.ceal_session.specs.declared.refusal.Refusal.{Refusal}
 use Rattle.ceal_session.specs.declared.refusal.Refusal.TheVariants.{C1, C2, C4, C7}
@@ -43,7 +43,7 @@ number_of_reply s (Refused r) = Err r
 number_of_reply s _ = Err C4
 
 abbrev pub number_of_sense : State → Sense → Result ℤ Refusal
-number_of_sense s sense = number_of_reply s (got s sense)
+number_of_sense s sense = number_of_reply s (reply_to_get s sense)
 
 -- the number that a line `get` asks for; no other line asks for one
 abbrev pub number_of_command : State → Option Command → Result ℤ Refusal

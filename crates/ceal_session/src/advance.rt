@@ -4,7 +4,8 @@ ghost use Rattle.std.specs.Prelude.{◌≡◌, ◌≢◌, false, Some, None, Ok 
 ghost use Rattle.ceal_code.specs.Fitting.{Fits};
 ghost use Rattle.ceal_engine.specs.declared.phase.Came.TheVariants.{Anew};
 ghost use Rattle.ceal_engine.specs.declared.phase.Phase.TheVariants.{New, Finished};
-ghost use Rattle.ceal_session.specs.Advancing.{Brings, Brought, is_more, journal_behind, reply_after, with_came};
+ghost use Rattle.ceal_session.specs.Outcomes.{EngineAfterCall, EngineAfterAcceptedCall, is_more};
+ghost use Rattle.ceal_session.specs.Outcomes.{journal_after_outcome, reply_after, with_came};
 ghost use Rattle.ceal_session.specs.Steps.{run_reply};
 
 use crate::journal::Journal;
@@ -27,7 +28,7 @@ fn came_anew(outcome: Result<(), RunError>) -> Result<Came, RunError>
 pub fn first_advanced(engine: &mut Engine, call: &Call) -> Result<Came, RunError>
     requires new { engine.old.phase ≡ New }
     requires fits { Fits engine.old.code engine.old.inputs call.now.function call.now.args }
-    ensures brings { Brings engine.old call.now None result engine.new }
+    ensures brings { EngineAfterCall engine.old call.now None result engine.new }
 {
     // for the proof: it is an engine, by the clause `whole`
     let _phase = engine.phase();
@@ -40,7 +41,7 @@ pub fn first_advanced(engine: &mut Engine, call: &Call) -> Result<Came, RunError
 pub fn advanced(engine: &mut Engine, reads: Option<u32>) -> Result<Came, RunError>
     requires called { engine.old.phase ≡ New → ⊥ }
     requires some { reads ≢ Some 0 }
-    ensures brings { Brought engine.old reads result engine.new }
+    ensures brings { EngineAfterAcceptedCall engine.old reads result engine.new }
 {
     match engine.phase() {
         Phase::New => unreachable!(),
@@ -69,7 +70,7 @@ pub fn goes_on(came: &Result<Came, RunError>) -> bool
 /// The bound of a run that is a first one is its steps.
 pub fn settle(journal: &mut Journal, engine: &Engine, came: &Result<Came, RunError>)
     requires { came.now ≡ OkOf Anew → engine.now.phase ≡ Finished }
-    ensures { journal.new ≡ journal_behind engine.now.steps journal.old came.now }
+    ensures { journal.new ≡ journal_after_outcome engine.now.steps journal.old came.now }
 {
     match came {
         Ok(Came::More) => {}

@@ -5,7 +5,7 @@ ghost use Rattle.ceal_base.specs.Trace.{steps_in};
 ghost use Rattle.ceal_code.specs.Fitting.{Fits};
 ghost use Rattle.ceal_session.specs.Costs.{HasItems, IsCost};
 ghost use Rattle.ceal_session.specs.Journal.{Between, measure_of};
-ghost use Rattle.ceal_session.specs.Keeping.{IsMeasured, bound_from};
+ghost use Rattle.ceal_session.specs.SessionState.{IsMeasured, bound_from};
 ghost use Rattle.ceal_theory.specs.Computed.{first_of};
 
 use crate::journal::{Bounding, Edit, undo};

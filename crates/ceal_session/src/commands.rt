@@ -2,14 +2,14 @@
 
 ghost use Rattle.std.specs.Prelude.{◌≡◌, ◌≢◌, [], ◌∷◌, Some, None, IfOk, OnOk, OnErr, map};
 ghost use Rattle.ceal_script.specs.Spelling.{IsName};
-ghost use Rattle.ceal_session.specs.Asking.{HasReads};
-ghost use Rattle.ceal_session.specs.Following.{Keeps, Goes, IsLeftBy};
-ghost use Rattle.ceal_session.specs.Keeping.{situation};
-ghost use Rattle.ceal_session.specs.Naming.{IsNamed};
+ghost use Rattle.ceal_session.specs.Questions.{HasReads};
+ghost use Rattle.ceal_session.specs.AfterLine.{KeepsRuns, RunsOrKeeps, IsAfterNoMemoryOf};
+ghost use Rattle.ceal_session.specs.SessionState.{situation};
+ghost use Rattle.ceal_session.specs.InputNames.{IsNamed};
 ghost use Rattle.ceal_session.specs.Senses.{mod_shape as shape_of_mod, struct_shape as shape_of_struct, struct_named};
 ghost use Rattle.ceal_session.specs.Senses.{function_named, value_sense as sense_of_value};
-ghost use Rattle.ceal_session.specs.Steps.{IsQuiet, IsFirst, runs, called, called_again, call_of, reads_of};
-ghost use Rattle.ceal_session.specs.Steps.{made_of, answered};
+ghost use Rattle.ceal_session.specs.Steps.{IsQuiet, IsFirst, runs, call_of_run, call_again, call_of, reads_of};
+ghost use Rattle.ceal_session.specs.Steps.{step_of_shape, step_of_command};
 ghost use Rattle.ceal_theory.specs.Pasts.{goes};
 
 use crate::refusal::Refusal;
@@ -35,10 +35,10 @@ fn make_modifiable(
     requires named { IsName name.now }
     ensures ok { IfOk result
         (λ reply. record { reply = reply; state = state.new.state }
-        ≡ made_of state.old.state name.now (shape_of_mod state.old.state kind.now)
+        ≡ step_of_shape state.old.state name.now (shape_of_mod state.old.state kind.now)
         (sense_of_value state.old.state value.now ∷ [])) }
     ensures quiet { IfOk result (λ reply. IsQuiet reply → state.new ≡ state.old) }
-    ensures trace { OnOk result (Keeps (situation state.old) (situation state.new)) }
+    ensures trace { OnOk result (KeepsRuns (situation state.old) (situation state.new)) }
     ensures err { OnErr result (state.new ≡ state.old) }
 {
     let shape = mod_shape(state, kind);
@@ -57,11 +57,11 @@ fn make_block(
     requires named { IsName name.now }
     ensures ok { IfOk result
         (λ reply. record { reply = reply; state = state.new.state }
-        ≡ made_of state.old.state name.now
+        ≡ step_of_shape state.old.state name.now
         (shape_of_struct (struct_named state.old.state shape.now))
         (map (sense_of_value state.old.state) values.now)) }
     ensures quiet { IfOk result (λ reply. IsQuiet reply → state.new ≡ state.old) }
-    ensures trace { OnOk result (Keeps (situation state.old) (situation state.new)) }
+    ensures trace { OnOk result (KeepsRuns (situation state.old) (situation state.new)) }
     ensures err { OnErr result (state.new ≡ state.old) }
 {
     let shape = struct_shape(state, shape);
@@ -90,8 +90,9 @@ fn start(state: &mut State, call: Result<Call, Refusal>) -> Result<Reply, NoMemo
         ≡ runs state.old.state None (goes (situation state.new).past) call) }
     ensures quiet { IfOk result (λ reply. IsQuiet reply → state.new ≡ state.old) }
     ensures trace { OnOk result
-        (Goes (situation state.old) call None (situation state.new)) }
-    ensures err { OnErr result (IsLeftBy (situation state.old) call (situation state.new)) }
+        (RunsOrKeeps (situation state.old) call None (situation state.new)) }
+    ensures err { OnErr result
+        (IsAfterNoMemoryOf (situation state.old) call (situation state.new)) }
 {
     match call {
         Ok(call) => state.run(&call),
@@ -109,16 +110,16 @@ fn start_first(
     ensures ok { IfOk result
         (λ reply. record { reply = reply; state = state.new.state }
         ≡ runs state.old.state None (goes (situation state.new).past)
-        (called state.old.state (function_named state.old.state function.now)
+        (call_of_run state.old.state (function_named state.old.state function.now)
         (map (sense_of_value state.old.state) args.now))) }
     ensures quiet { IfOk result (λ reply. IsQuiet reply → state.new ≡ state.old) }
     ensures trace { OnOk result
-        (Goes (situation state.old)
-        (called state.old.state (function_named state.old.state function.now)
+        (RunsOrKeeps (situation state.old)
+        (call_of_run state.old.state (function_named state.old.state function.now)
         (map (sense_of_value state.old.state) args.now)) None (situation state.new)) }
     ensures err { OnErr result
-        (IsLeftBy (situation state.old)
-        (called state.old.state (function_named state.old.state function.now)
+        (IsAfterNoMemoryOf (situation state.old)
+        (call_of_run state.old.state (function_named state.old.state function.now)
         (map (sense_of_value state.old.state) args.now)) (situation state.new)) }
 {
     let senses = value_senses(alloc, state, args)?;
@@ -132,13 +133,14 @@ fn start_again(state: &mut State, reads: Option<u32>) -> Result<Reply, NoMemory>
     ensures ok { IfOk result
         (λ reply. record { reply = reply; state = state.new.state }
         ≡ runs state.old.state reads (goes (situation state.new).past)
-        (called_again state.old.state.call)) }
+        (call_again state.old.state.call)) }
     ensures quiet { IfOk result (λ reply. IsQuiet reply → state.new ≡ state.old) }
     ensures trace { OnOk result
-        (Goes (situation state.old) (called_again state.old.state.call) reads
+        (RunsOrKeeps (situation state.old) (call_again state.old.state.call) reads
         (situation state.new)) }
     ensures err { OnErr result
-        (IsLeftBy (situation state.old) (called_again state.old.state.call) (situation state.new)) }
+        (IsAfterNoMemoryOf (situation state.old) (call_again state.old.state.call)
+            (situation state.new)) }
 {
     if !state.has_call() {
         return Ok(Reply::Refused(Refusal::C7));
@@ -152,13 +154,14 @@ pub fn reply_to(alloc: Global, state: &mut State, command: &Command) -> Result<R
     requires named { IsNamed command.now }
     ensures ok { IfOk result
         (λ reply. record { reply = reply; state = state.new.state }
-        ≡ answered state.old.state (goes (situation state.new).past) command.now) }
+        ≡ step_of_command state.old.state (goes (situation state.new).past) command.now) }
     ensures quiet { IfOk result (λ reply. IsQuiet reply → state.new ≡ state.old) }
     ensures trace { OnOk result
-        (Goes (situation state.old) (call_of state.old.state command.now) (reads_of command.now)
+        (RunsOrKeeps (situation state.old) (call_of state.old.state command.now)
+            (reads_of command.now)
         (situation state.new)) }
     ensures err { OnErr result
-        (IsLeftBy (situation state.old) (call_of state.old.state command.now)
+        (IsAfterNoMemoryOf (situation state.old) (call_of state.old.state command.now)
         (situation state.new)) }
 {
     match command {

@@ -2,8 +2,9 @@
 
 ghost use Rattle.std.specs.Prelude.{◌≡◌, OnOk, OnErr, length, take};
 ghost use Rattle.ceal_engine.specs.Engine.{with_base};
-ghost use Rattle.ceal_session.specs.Journal.{opened, with_edit, with_bound, completed, settled_at, measure_of};
-ghost use Rattle.ceal_session.specs.Undoing.{undone, base_at};
+ghost use Rattle.ceal_session.specs.Journal.{journal_at_start, with_edit, with_bound, journal_after_completion};
+ghost use Rattle.ceal_session.specs.Journal.{journal_of_bound, measure_of};
+ghost use Rattle.ceal_session.specs.UndoneEdits.{undone, base_at};
 
 use ceal_base::memory::Inputs;
 use ceal_base::no_memory::NoMemory;
@@ -83,7 +84,7 @@ pub fn undo(inputs: &mut Inputs, edits: &[Edit])
 impl Journal {
     /// Nothing was run, and nothing edited.
     pub fn new(alloc: Global) -> Journal
-        ensures { result ≡ opened }
+        ensures { result ≡ journal_at_start }
     {
         Journal {
             since: Vec::new(alloc),
@@ -93,7 +94,7 @@ impl Journal {
 
     /// Nothing was edited, and the bound is this number.
     pub fn told(alloc: Global, bound: u32) -> Journal
-        ensures { result ≡ settled_at bound }
+        ensures { result ≡ journal_of_bound bound }
     {
         Journal {
             since: Vec::new(alloc),
@@ -126,7 +127,7 @@ impl Journal {
 
     /// A repair is completed: its bound is made of the edits since the completion before it.
     pub fn complete(&mut self)
-        ensures { self.new ≡ completed self.old }
+        ensures { self.new ≡ journal_after_completion self.old }
     {
         let alloc = *self.since.allocator();
         let edits = mem::replace(&mut self.since, Vec::new(alloc));
@@ -135,7 +136,7 @@ impl Journal {
 
     /// The bound is this number.
     pub fn settle(&mut self, bound: u32)
-        ensures { self.new ≡ settled_at bound }
+        ensures { self.new ≡ journal_of_bound bound }
     {
         self.since.clear();
         drop(mem::replace(&mut self.bounding, Bounding::Number(bound)));

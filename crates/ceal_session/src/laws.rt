@@ -5,7 +5,7 @@ ghost use Rattle.ceal_session.specs.Laws.{OneCommandLaw, OneAnswerLaw, OneReplyL
 ghost use Rattle.ceal_session.specs.Laws.{JoinedLaw, BegunLaw, SomeReplyLaw, SomeScriptLaw, DroppedLaw, KeptLaw};
 ghost use Rattle.ceal_session.specs.Laws.{KeptHandleLaw};
 ghost use Rattle.ceal_session.specs.Entries.{EntriesLaw, OneTextLaw};
-ghost use Rattle.ceal_session.specs.Saves.{AlikeLaw, HeldLaw, OneSavedLaw, ResavedLaw, ResumedLaw, SavedLaw};
+ghost use Rattle.ceal_session.specs.SaveLaws.{AlikeLaw, HeldLaw, OneSavedLaw, ResavedLaw, ResumedLaw, SavedLaw};
 ghost use Rattle.ceal_session.specs.Strangers.{StrangerLaw};
 
 /// A law: a line is one command's at most, and has one reply by a state and its numbers; so it has one in a situation,

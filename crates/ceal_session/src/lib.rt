@@ -2,8 +2,8 @@
 //!
 //! `specs/` says what each command is answered and what it leaves (`Steps`), what the names and values of a line stand
 //! for (`Senses`), and the texts of replies (`Texts`). Every answer about a run is that of the run from scratch on the
-//! inputs of that moment (`Runs`); `Replies` puts lines together. `Saving` says what is saved of a session, and which
-//! session continues from a save.
+//! inputs of that moment (`Runs`); `Replies` puts lines together. `SessionSave` says what is saved of a session, and
+//! which session continues from a save.
 #![tactic(auto)]
 
 mod advance;

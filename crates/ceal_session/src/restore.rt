@@ -9,10 +9,10 @@ ghost use Rattle.ceal_compile.specs.Compiled.{IsCompiled};
 ghost use Rattle.ceal_engine.specs.Engine.{trace};
 ghost use Rattle.ceal_engine.specs.Repaired.{IsRestored};
 ghost use Rattle.ceal_engine.specs.declared.phase.Phase.TheVariants.{Finished};
-ghost use Rattle.ceal_session.specs.Following.{IsAllowed};
-ghost use Rattle.ceal_session.specs.Keeping.{situation};
-ghost use Rattle.ceal_session.specs.Naming.{AreDistinct};
-ghost use Rattle.ceal_session.specs.Saving.{Holding, IsResumed};
+ghost use Rattle.ceal_session.specs.AfterLine.{IsAllowed};
+ghost use Rattle.ceal_session.specs.SessionState.{situation};
+ghost use Rattle.ceal_session.specs.InputNames.{AreDistinct};
+ghost use Rattle.ceal_session.specs.SessionSave.{SaveHolds, IsResumed};
 ghost use Rattle.ceal_traceck.specs.Verdicts.{Means};
 ghost use Rattle.ceal_traceck.specs.declared.verdict.Verdict.TheVariants.{Yes};
 
@@ -113,8 +113,8 @@ fn names_held(
 ) -> Result<Option<Names>, NoMemory>
     requires valid { valid code.now ≡ true }
     ensures { IfOk result
-        (λ found. MatchOption found (¬ Holding code.now saved.now)
-        (λ names. (names ≡ saved.now.names) × Holding code.now saved.now)) }
+        (λ found. MatchOption found (¬ SaveHolds code.now saved.now)
+        (λ names. (names ≡ saved.now.names) × SaveHolds code.now saved.now)) }
 {
     if !is_allowed(saved.fuel) {
         return Ok(None);
@@ -140,7 +140,7 @@ fn names_held(
 /// The engine that has run the call of a save that holds. No engine has 2^32 inputs.
 fn engine_of(alloc: Global, code: Code, saved: &Saved, seed: MemoSeed) -> Result<Engine, NoMemory>
     requires valid { valid code ≡ true }
-    requires holds { Holding code saved.now }
+    requires holds { SaveHolds code saved.now }
     ensures code { IfOk result (λ e. e.code ≡ code) }
     ensures fuel { IfOk result (λ e. e.fuel ≡ saved.now.fuel) }
     ensures inputs { IfOk result (λ e. e.inputs ≡ saved.now.kept.inputs) }
@@ -178,7 +178,7 @@ fn resume(
 ) -> Result<State, NoMemory>
     requires compiled { IsCompiled program }
     requires names { names ≡ saved.now.names }
-    requires holds { Holding program.code saved.now }
+    requires holds { SaveHolds program.code saved.now }
     ensures { IfOk result (λ state. IsResumed program saved.now (situation state)) }
 {
     let Program { typed, code } = program;
@@ -205,8 +205,8 @@ pub fn restored(
 ) -> Result<State, RestoreError>
     requires compiled { IsCompiled program }
     ensures restored { IfOk result (λ state. IsResumed program saved.now (situation state)) }
-    ensures holds { OnOk result (Holding program.code saved.now) }
-    ensures unsound { IsErrOf result RestoreError.Unsound → ¬ Holding program.code saved.now }
+    ensures holds { OnOk result (SaveHolds program.code saved.now) }
+    ensures unsound { IsErrOf result RestoreError.Unsound → ¬ SaveHolds program.code saved.now }
 {
     let held = names_held(alloc, &program.code, saved, seed);
     match held {

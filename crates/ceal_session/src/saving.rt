@@ -1,10 +1,10 @@
 // What a session is resumed from.
 
 ghost use Rattle.std.specs.Prelude.{◌≡◌, IfOk, IfSome, MatchOption};
-ghost use Rattle.ceal_session.specs.Asking.{IsReady};
-ghost use Rattle.ceal_session.specs.Keeping.{situation};
-ghost use Rattle.ceal_session.specs.Naming.{AreSpelled};
-ghost use Rattle.ceal_session.specs.Saving.{IsSaved};
+ghost use Rattle.ceal_session.specs.Questions.{IsReady};
+ghost use Rattle.ceal_session.specs.SessionState.{situation};
+ghost use Rattle.ceal_session.specs.InputNames.{AreSpelled};
+ghost use Rattle.ceal_session.specs.SessionSave.{IsSaved};
 
 use crate::state::State;
 use ceal_base::no_memory::NoMemory;

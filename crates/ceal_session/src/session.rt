@@ -1,20 +1,22 @@
 // A session.
 
 ghost use Rattle.std.specs.Fmt.{signed_decimal};
-ghost use Rattle.std.specs.Prelude.{◌≡◌, ◌<◌, ◌++◌, ◌↔◌, Bool, Option, length, codes, IfOk, OnOk, OnErr, IfSome, IsErrOf};
+ghost use Rattle.std.specs.Prelude.{◌≡◌, ◌<◌, ◌++◌, ◌↔◌, Bool, Option, length, codes, IfOk, OnOk, OnErr, IfSome};
+ghost use Rattle.std.specs.Prelude.{IsErrOf};
 ghost use Rattle.std.specs.Prelude.{IsTrue, MatchOption};
 ghost use Rattle.ceal_base.specs.declared.word.Word.TheVariants.{Num};
 ghost use Rattle.ceal_compile.specs.Compiled.{IsCompiled};
 ghost use Rattle.ceal_script.specs.declared.command.Command.{Command as CommandOf};
-ghost use Rattle.ceal_session.specs.Answering.{HasReply};
-ghost use Rattle.ceal_session.specs.Asking.{CanTell, IsReady};
-ghost use Rattle.ceal_session.specs.Following.{IsAllowed, opened, Keeps, Repairs, Bounds, IsLeft};
-ghost use Rattle.ceal_session.specs.Keeping.{IsTied, situation};
-ghost use Rattle.ceal_session.specs.Naming.{AreSpelled};
-ghost use Rattle.ceal_session.specs.Recording.{IsRecorded};
+ghost use Rattle.ceal_session.specs.LineReply.{HasReply};
+ghost use Rattle.ceal_session.specs.Questions.{CanTell, IsReady};
+ghost use Rattle.ceal_session.specs.AfterLine.{IsAllowed, situation_at_start, KeepsRuns, IsAfterLine, Bounds};
+ghost use Rattle.ceal_session.specs.AfterLine.{IsAfterNoMemory};
+ghost use Rattle.ceal_session.specs.SessionState.{IsTied, situation};
+ghost use Rattle.ceal_session.specs.InputNames.{AreSpelled};
+ghost use Rattle.ceal_session.specs.RunRecord.{IsRecorded};
 ghost use Rattle.ceal_session.specs.Replies.{Answers, Reads};
-ghost use Rattle.ceal_session.specs.Saving.{Holding, IsResumed, IsSaved};
-ghost use Rattle.ceal_session.specs.Steps.{IsQuiet, refuses, set};
+ghost use Rattle.ceal_session.specs.SessionSave.{SaveHolds, IsResumed, IsSaved};
+ghost use Rattle.ceal_session.specs.Steps.{IsQuiet, refuses, step_of_set};
 ghost use Rattle.ceal_session.specs.Texts.{IsText};
 ghost use Rattle.ceal_session.specs.State.{numbers_in};
 ghost use Rattle.ceal_session.specs.Values.{handle_of_command, sense_of_handle, Gives, IfRefused};
@@ -64,7 +66,7 @@ pub struct Session {
 }
 
 impl Model for Session {
-    ghost use Rattle.ceal_session.specs.Keeping.{Held};
+    ghost use Rattle.ceal_session.specs.SessionState.{Held};
     ghost use Rattle.ceal_base.specs.contracts.typed.TypedStmt as statement;
     ghost use Rattle.ceal_code.specs.contracts.expr.CodeExpr as expr;
     ghost use Rattle.ceal_code.specs.contracts.function.InitStmt as initialising;
@@ -72,7 +74,8 @@ impl Model for Session {
 
     ghost Value = { Held };
 
-    ghost coded = { Prim.hlevel (codes, statement.the_row.coded, expr.the_row.coded, initialising.the_row.coded) };
+    ghost coded = { Prim.hlevel
+        (codes, statement.the_row.coded, expr.the_row.coded, initialising.the_row.coded) };
 
     ghost view = { λ s. s.state };
 }
@@ -132,10 +135,11 @@ fn reply_of(alloc: Global, state: &mut State, line: &[u8]) -> Result<Reply, NoMe
     ensures quiet { IfOk result (λ reply. IsQuiet reply → state.new ≡ state.old) }
     ensures tells { IfOk result (λ reply. CanTell state.new.state reply) }
     ensures trace { OnOk result
-        (Repairs (situation state.old) line.now (situation state.new)) }
+        (IsAfterLine (situation state.old) line.now (situation state.new)) }
     ensures bounded { OnOk result
         (Bounds (situation state.old) line.now (situation state.new)) }
-    ensures left { OnErr result (IsLeft (situation state.old) line.now (situation state.new)) }
+    ensures left { OnErr result
+        (IsAfterNoMemory (situation state.old) line.now (situation state.new)) }
 {
     // for the proof: each input has a name, by the clause `counted`, and of the state's trace the work is bounded
     let _names = state.names();
@@ -159,10 +163,11 @@ fn answer_line(alloc: Global, state: &mut State, line: &[u8]) -> Result<Answer, 
         line.now answer state.new.state) }
     ensures long { IfOk result (λ answer. 12 < length answer → state.new ≡ state.old) }
     ensures trace { OnOk result
-        (Repairs (situation state.old) line.now (situation state.new)) }
+        (IsAfterLine (situation state.old) line.now (situation state.new)) }
     ensures bounded { OnOk result
         (Bounds (situation state.old) line.now (situation state.new)) }
-    ensures left { OnErr result (IsLeft (situation state.old) line.now (situation state.new)) }
+    ensures left { OnErr result
+        (IsAfterNoMemory (situation state.old) line.now (situation state.new)) }
 {
     let reply = reply_of(alloc, state, line)?;
     answer_of(alloc, state, reply)
@@ -174,7 +179,8 @@ impl Session {
     pub fn new(alloc: Global, program: Program, fuel: u32) -> Result<Session, NoMemory>
         requires compiled { IsCompiled program }
         requires fuel { IsAllowed fuel }
-        ensures state { IfOk result (λ session. situation session ≡ opened program fuel) }
+        ensures state { IfOk result
+            (λ session. situation session ≡ situation_at_start program fuel) }
     {
         Session::seeded(alloc, program, fuel, Seed::of_text(b""))
     }
@@ -189,7 +195,8 @@ impl Session {
     ) -> Result<Session, NoMemory>
         requires compiled { IsCompiled program }
         requires fuel { IsAllowed fuel }
-        ensures state { IfOk result (λ session. situation session ≡ opened program fuel) }
+        ensures state { IfOk result
+            (λ session. situation session ≡ situation_at_start program fuel) }
     {
         let state = State::new(alloc, program, fuel, seed)?;
         Ok(Session { state, alloc })
@@ -205,10 +212,11 @@ impl Session {
             line.now answer self.new.state) }
         ensures long { IfOk result (λ answer. 12 < length answer → self.new ≡ self.old) }
         ensures trace { OnOk result
-            (Repairs (situation self.old) line.now (situation self.new)) }
+            (IsAfterLine (situation self.old) line.now (situation self.new)) }
         ensures bounded { OnOk result
             (Bounds (situation self.old) line.now (situation self.new)) }
-        ensures left { OnErr result (IsLeft (situation self.old) line.now (situation self.new)) }
+        ensures left { OnErr result
+            (IsAfterNoMemory (situation self.old) line.now (situation self.new)) }
     {
         answer_line(self.alloc, &mut self.state, line)
     }
@@ -220,10 +228,11 @@ impl Session {
             (numbers_in (situation self.old)) (goes (situation self.new).past)
             line.now text self.new.state) }
         ensures trace { OnOk result
-            (Repairs (situation self.old) line.now (situation self.new)) }
+            (IsAfterLine (situation self.old) line.now (situation self.new)) }
         ensures bounded { OnOk result
             (Bounds (situation self.old) line.now (situation self.new)) }
-        ensures left { OnErr result (IsLeft (situation self.old) line.now (situation self.new)) }
+        ensures left { OnErr result
+            (IsAfterNoMemory (situation self.old) line.now (situation self.new)) }
     {
         let ready = prepare(self.alloc)?;
         let answer = self.answer(line)?;
@@ -266,11 +275,13 @@ impl Session {
     pub fn set_number(&mut self, handle: Handle, number: i64) -> Result<(), ValueError>
         ensures set { OnOk result
             (record { reply = Reply.Ok; state = self.new.state }
-            ≡ set self.old.state (sense_of_handle self.old.state handle) (IsWord (Num number))) }
+            ≡ step_of_set self.old.state (sense_of_handle self.old.state handle)
+                (IsWord (Num number))) }
         ensures refused { IfRefused result
             (λ r. refuses self.old.state r
-            ≡ set self.old.state (sense_of_handle self.old.state handle) (IsWord (Num number))) }
-        ensures trace { OnOk result (Keeps (situation self.old) (situation self.new)) }
+            ≡ step_of_set self.old.state (sense_of_handle self.old.state handle)
+                (IsWord (Num number))) }
+        ensures trace { OnOk result (KeepsRuns (situation self.old) (situation self.new)) }
         ensures err { OnErr result (self.new ≡ self.old) }
     {
         set_number(&mut self.state, handle, number)
@@ -315,8 +326,8 @@ impl Session {
         requires compiled { IsCompiled program }
         ensures restored { IfOk result
             (λ session. IsResumed program saved (situation session)) }
-        ensures holds { OnOk result (Holding program.code saved) }
-        ensures unsound { IsErrOf result RestoreError.Unsound → ¬ Holding program.code saved }
+        ensures holds { OnOk result (SaveHolds program.code saved) }
+        ensures unsound { IsErrOf result RestoreError.Unsound → ¬ SaveHolds program.code saved }
     {
         Session::restore_seeded(alloc, program, saved, Seed::of_text(b""))
     }
@@ -332,8 +343,8 @@ impl Session {
         requires compiled { IsCompiled program }
         ensures restored { IfOk result
             (λ session. IsResumed program saved (situation session)) }
-        ensures holds { OnOk result (Holding program.code saved) }
-        ensures unsound { IsErrOf result RestoreError.Unsound → ¬ Holding program.code saved }
+        ensures holds { OnOk result (SaveHolds program.code saved) }
+        ensures unsound { IsErrOf result RestoreError.Unsound → ¬ SaveHolds program.code saved }
     {
         let state = restored(alloc, program, &saved, seed)?;
         Ok(Session { state, alloc })

@@ -6,17 +6,18 @@ ghost use Rattle.std.specs.List.{list_any};
 ghost use Rattle.ceal_base.specs.Fitting.{block_fits, kind_at};
 ghost use Rattle.ceal_compile.specs.Compiled.{IsCompiled};
 ghost use Rattle.ceal_script.specs.Spelling.{IsName};
-ghost use Rattle.ceal_session.specs.Asking.{IsCellOf};
+ghost use Rattle.ceal_session.specs.Questions.{IsCellOf};
 ghost use Rattle.ceal_base.specs.declared.call.Call.{Call as CallOf};
-ghost use Rattle.ceal_session.specs.Advancing.{IsAdvanced};
-ghost use Rattle.ceal_session.specs.Following.{IsAllowed, opened, Keeps, Goes, IsLeftBy};
-ghost use Rattle.ceal_session.specs.Keeping.{situation, held_of, Holds};
-ghost use Rattle.ceal_session.specs.Naming.{AreSpelled};
+ghost use Rattle.ceal_session.specs.Outcomes.{SituationAfterOutcome};
+ghost use Rattle.ceal_session.specs.AfterLine.{IsAllowed, situation_at_start, KeepsRuns, RunsOrKeeps};
+ghost use Rattle.ceal_session.specs.AfterLine.{IsAfterNoMemoryOf};
+ghost use Rattle.ceal_session.specs.SessionState.{situation, held_of, SessionInvariant};
+ghost use Rattle.ceal_session.specs.InputNames.{AreSpelled};
 ghost use Rattle.ceal_session.specs.Runs.{memory_of};
 ghost use Rattle.ceal_session.specs.Senses.{input_named, struct_named, function_named};
 ghost use Rattle.ceal_session.specs.Steps.{IsFirst, with_input, with_base, block_of, fits_cell, has_no_run, runs};
-ghost use Rattle.ceal_session.specs.Steps.{called_again};
-ghost use Rattle.ceal_session.specs.Standing.{HasTrace};
+ghost use Rattle.ceal_session.specs.Steps.{call_again};
+ghost use Rattle.ceal_session.specs.Consistency.{HasTrace};
 ghost use Rattle.ceal_theory.specs.Pasts.{goes};
 
 use crate::advance::{advanced, first_advanced, goes_on, reply_to, settle};
@@ -59,16 +60,17 @@ impl Model for State {
     ghost use Rattle.ceal_base.specs.contracts.typed.TypedStmt as statement;
     ghost use Rattle.ceal_code.specs.contracts.expr.CodeExpr as expr;
     ghost use Rattle.ceal_code.specs.contracts.function.InitStmt as initialising;
-    ghost use Rattle.ceal_session.specs.Keeping.{Held, held_of, Holds};
+    ghost use Rattle.ceal_session.specs.SessionState.{Held, held_of, SessionInvariant};
     ghost use Rattle.std.specs.Coded.{codes};
 
     ghost Value = { Held };
 
-    ghost coded = { Prim.hlevel (codes, statement.the_row.coded, expr.the_row.coded, initialising.the_row.coded) };
+    ghost coded = { Prim.hlevel
+        (codes, statement.the_row.coded, expr.the_row.coded, initialising.the_row.coded) };
 
     ghost view = { λ s. held_of s.program s.names s.engine s.journal s.pending };
 
-    ghost invariant = { λ s. Holds s.program s.names s.engine s.journal s.pending };
+    ghost invariant = { λ s. SessionInvariant s.program s.names s.engine s.journal s.pending };
 }
 
 /// What the memo tables of an engine begin with, beside names that begin with a seed.
@@ -81,7 +83,7 @@ impl State {
     pub fn new(alloc: Global, program: Program, fuel: u32, seed: Seed) -> Result<State, NoMemory>
         requires compiled { IsCompiled program }
         requires fuel { IsAllowed fuel }
-        ensures { IfOk result (λ state. situation state ≡ opened program fuel) }
+        ensures { IfOk result (λ state. situation state ≡ situation_at_start program fuel) }
     {
         let Program { typed, code } = program;
         let program = match Numbered::new(alloc, typed) {
@@ -105,7 +107,7 @@ impl State {
 
     /// A state with a finished run, which has this journal.
     pub fn finished(program: Numbered, names: Names, engine: Engine, journal: Journal) -> State
-        requires holds { Holds program names engine journal false }
+        requires holds { SessionInvariant program names engine journal false }
         ensures { result ≡ held_of program names engine journal false }
     {
         State {
@@ -221,7 +223,7 @@ impl State {
             (block_of shape words.now) ≡ true }
         ensures ok { OnOk result
             (self.new.state ≡ with_input self.old.state name.now (block_of shape words.now)) }
-        ensures trace { OnOk result (Keeps (situation self.old) (situation self.new)) }
+        ensures trace { OnOk result (KeepsRuns (situation self.old) (situation self.new)) }
         ensures err { OnErr result (self.new ≡ self.old) }
     {
         let count = self.names.len();
@@ -244,7 +246,7 @@ impl State {
         requires fits { fits_cell self.old.state
             (kind_at self.old.state.program.structs (memory_of self.old.state) place) word ≡ true }
         ensures ok { OnOk result (self.new.state ≡ with_base self.old.state place word) }
-        ensures trace { OnOk result (Keeps (situation self.old) (situation self.new)) }
+        ensures trace { OnOk result (KeepsRuns (situation self.old) (situation self.new)) }
         ensures err { OnErr result (self.new ≡ self.old) }
     {
         let count = self.journal.len();
@@ -265,7 +267,8 @@ impl State {
     /// The first run, and its outcome.
     fn start(&mut self, call: &Call) -> Result<Came, RunError>
         requires { IsFirst self.old.state call.now }
-        ensures { IsAdvanced (situation self.old) call.now None result (situation self.new) }
+        ensures { SituationAfterOutcome (situation self.old) call.now None result
+            (situation self.new) }
     {
         // for the proof: it is an engine before and after, by the clause `whole`
         let _before = self.engine.phase();
@@ -282,7 +285,7 @@ impl State {
         requires called { is_some self.old.state.call ≡ true }
         requires some { reads ≢ Some 0 }
         ensures { (call : CallOf) → self.old.state.call ≡ Some call
-            → IsAdvanced (situation self.old) call reads result (situation self.new) }
+            → SituationAfterOutcome (situation self.old) call reads result (situation self.new) }
     {
         // for the proof: it is an engine before and after, by the clause `whole`
         let _before = self.engine.phase();
@@ -300,9 +303,9 @@ impl State {
             (λ reply. record { reply = reply; state = self.new.state }
             ≡ runs self.old.state None (goes (situation self.new).past) (OkOf call.now)) }
         ensures trace { OnOk result
-            (Goes (situation self.old) (OkOf call.now) None (situation self.new)) }
+            (RunsOrKeeps (situation self.old) (OkOf call.now) None (situation self.new)) }
         ensures err { OnErr result
-            (IsLeftBy (situation self.old) (OkOf call.now) (situation self.new)) }
+            (IsAfterNoMemoryOf (situation self.old) (OkOf call.now) (situation self.new)) }
     {
         let outcome = self.start(call);
         reply_to(None, outcome)
@@ -316,12 +319,12 @@ impl State {
         ensures ok { IfOk result
             (λ reply. record { reply = reply; state = self.new.state }
             ≡ runs self.old.state reads (goes (situation self.new).past)
-            (called_again self.old.state.call)) }
+            (call_again self.old.state.call)) }
         ensures trace { OnOk result
-            (Goes (situation self.old) (called_again self.old.state.call) reads
+            (RunsOrKeeps (situation self.old) (call_again self.old.state.call) reads
             (situation self.new)) }
         ensures err { OnErr result
-            (IsLeftBy (situation self.old) (called_again self.old.state.call)
+            (IsAfterNoMemoryOf (situation self.old) (call_again self.old.state.call)
             (situation self.new)) }
     {
         let outcome = self.advance(reads);

@@ -4,14 +4,16 @@ ghost use Rattle.std.specs.Prelude.{◌≡◌, Some, false, slice_get, IfOk, OnO
 ghost use Rattle.std.specs.List.{list_any};
 ghost use Rattle.ceal_base.specs.Fitting.{kind_at};
 ghost use Rattle.ceal_script.specs.Spelling.{IsName};
-ghost use Rattle.ceal_session.specs.Asking.{IsCellOf, IsCellSense};
-ghost use Rattle.ceal_session.specs.Following.{Keeps};
-ghost use Rattle.ceal_session.specs.Keeping.{situation};
+ghost use Rattle.ceal_session.specs.Questions.{IsCellOf, IsCellSense};
+ghost use Rattle.ceal_session.specs.AfterLine.{KeepsRuns};
+ghost use Rattle.ceal_session.specs.SessionState.{situation};
 ghost use Rattle.ceal_session.specs.Runs.{memory_of};
 ghost use Rattle.ceal_session.specs.Senses.{function_named};
-ghost use Rattle.ceal_session.specs.Steps.{IsQuiet, made, made_of, made_with, set as set_of, set_base as based};
-ghost use Rattle.ceal_session.specs.Steps.{fits_function, called_with, called_function, called as called_of, asked};
-ghost use Rattle.ceal_session.specs.Steps.{has_no_run, got, shown as shown_of, fits_cell};
+ghost use Rattle.ceal_session.specs.Steps.{IsQuiet, step_of_input, step_of_shape, step_of_words};
+ghost use Rattle.ceal_session.specs.Steps.{step_of_set as set_of, step_of_base as based};
+ghost use Rattle.ceal_session.specs.Steps.{fits_function, call_of_words, call_of_function, call_of_run as called_of};
+ghost use Rattle.ceal_session.specs.Steps.{reply_to_query};
+ghost use Rattle.ceal_session.specs.Steps.{has_no_run, reply_to_get, reply_to_show as shown_of, fits_cell};
 
 use crate::refusal::Refusal;
 use crate::reply::{Query, Reply};
@@ -34,9 +36,9 @@ fn make_if(state: &mut State, name: &Text, shape: Shape, words: &[Word]) -> Resu
     requires new { list_any (bytes_eq name.now) state.old.state.names ≡ false }
     ensures ok { IfOk result
         (λ reply. record { reply = reply; state = state.new.state }
-        ≡ made_with state.old.state name.now shape (Some words.now)) }
+        ≡ step_of_words state.old.state name.now shape (Some words.now)) }
     ensures quiet { IfOk result (λ reply. IsQuiet reply → state.new ≡ state.old) }
-    ensures trace { OnOk result (Keeps (situation state.old) (situation state.new)) }
+    ensures trace { OnOk result (KeepsRuns (situation state.old) (situation state.new)) }
     ensures err { OnErr result (state.new ≡ state.old) }
 {
     if !new_block_fits(state.structs(), state.inputs(), shape, words) {
@@ -56,9 +58,9 @@ fn make_with(
     requires named { IsName name.now }
     ensures ok { IfOk result
         (λ reply. record { reply = reply; state = state.new.state }
-        ≡ made state.old.state name.now shape senses.now) }
+        ≡ step_of_input state.old.state name.now shape senses.now) }
     ensures quiet { IfOk result (λ reply. IsQuiet reply → state.new ≡ state.old) }
-    ensures trace { OnOk result (Keeps (situation state.old) (situation state.new)) }
+    ensures trace { OnOk result (KeepsRuns (situation state.old) (situation state.new)) }
     ensures err { OnErr result (state.new ≡ state.old) }
 {
     let unknown = has_unknown(senses);
@@ -85,9 +87,9 @@ pub fn make(
     requires named { IsName name.now }
     ensures ok { IfOk result
         (λ reply. record { reply = reply; state = state.new.state }
-        ≡ made_of state.old.state name.now shape senses.now) }
+        ≡ step_of_shape state.old.state name.now shape senses.now) }
     ensures quiet { IfOk result (λ reply. IsQuiet reply → state.new ≡ state.old) }
-    ensures trace { OnOk result (Keeps (situation state.old) (situation state.new)) }
+    ensures trace { OnOk result (KeepsRuns (situation state.old) (situation state.new)) }
     ensures err { OnErr result (state.new ≡ state.old) }
 {
     match shape {
@@ -125,7 +127,7 @@ fn set_base(state: &mut State, place: Place, word: Word) -> Result<Reply, NoMemo
         (λ reply. record { reply = reply; state = state.new.state }
         ≡ based state.old.state place word) }
     ensures quiet { IfOk result (λ reply. IsQuiet reply → state.new ≡ state.old) }
-    ensures trace { OnOk result (Keeps (situation state.old) (situation state.new)) }
+    ensures trace { OnOk result (KeepsRuns (situation state.old) (situation state.new)) }
     ensures err { OnErr result (state.new ≡ state.old) }
 {
     if !fits_place(state, place, word) {
@@ -142,7 +144,7 @@ pub fn set(state: &mut State, place: Sense, value: Sense) -> Result<Reply, NoMem
         (λ reply. record { reply = reply; state = state.new.state }
         ≡ set_of state.old.state place value) }
     ensures quiet { IfOk result (λ reply. IsQuiet reply → state.new ≡ state.old) }
-    ensures trace { OnOk result (Keeps (situation state.old) (situation state.new)) }
+    ensures trace { OnOk result (KeepsRuns (situation state.old) (situation state.new)) }
     ensures err { OnErr result (state.new ≡ state.old) }
 {
     if is_unknown(place) || is_unknown(value) {
@@ -172,7 +174,7 @@ fn call_with(
     function: &TypedFunction,
     words: Option<Words>,
 ) -> Result<Call, Refusal>
-    ensures { result ≡ called_with state.now.state number function.now words }
+    ensures { result ≡ call_of_words state.now.state number function.now words }
 {
     let Some(args) = words else {
         return Err(Refusal::C5);
@@ -197,7 +199,7 @@ fn call_function(
 ) -> Result<Result<Call, Refusal>, NoMemory>
     ensures { IfOk result
         (λ call. call
-        ≡ called_function state.now.state number
+        ≡ call_of_function state.now.state number
         (slice_get state.now.state.program.functions number) senses.now) }
 {
     let Some(function) = state.functions().get(number as usize) else {
@@ -229,7 +231,7 @@ pub fn call(
 
 /// A question, where there is a run that was not out of fuel and no edit came after it.
 pub fn ask(state: &State, query: Query) -> Reply
-    ensures { result ≡ asked state.now.state query }
+    ensures { result ≡ reply_to_query state.now.state query }
 {
     if state.has_no_run() {
         return Reply::Refused(Refusal::C7);
@@ -242,7 +244,7 @@ pub fn ask(state: &State, query: Query) -> Reply
 
 /// `get`
 pub fn get(state: &State, place: Sense) -> Reply
-    ensures { result ≡ got state.now.state place }
+    ensures { result ≡ reply_to_get state.now.state place }
 {
     match place {
         Sense::Word(Word::At(place)) => ask(state, Query::Get(place)),

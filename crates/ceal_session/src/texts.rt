@@ -2,8 +2,8 @@
 
 ghost use Rattle.std.specs.Prelude.{◌≡◌, ◌≤◌, ◌<◌, ◌++◌, length, IfOk, codes};
 ghost use Rattle.std.specs.Fmt.{decimal};
-ghost use Rattle.ceal_session.specs.Asking.{IsReady, IsFor};
-ghost use Rattle.ceal_session.specs.Keeping.{situation};
+ghost use Rattle.ceal_session.specs.Questions.{IsReady, IsFor};
+ghost use Rattle.ceal_session.specs.SessionState.{situation};
 ghost use Rattle.ceal_session.specs.Runs.{present_run};
 ghost use Rattle.ceal_session.specs.Texts.{block_text, value_text, TellsOf};
 ghost use Rattle.ceal_session.specs.State.{numbers_in};

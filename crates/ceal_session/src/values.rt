@@ -6,12 +6,12 @@ ghost use Rattle.ceal_base.specs.Fitting.{kind_at};
 ghost use Rattle.ceal_base.specs.declared.word.Word.TheVariants.{Num};
 ghost use Rattle.ceal_code.specs.Value.{is_cell};
 ghost use Rattle.ceal_script.specs.declared.command.Command.{Command as CommandOf};
-ghost use Rattle.ceal_session.specs.Following.{Keeps};
-ghost use Rattle.ceal_session.specs.Keeping.{situation};
+ghost use Rattle.ceal_session.specs.AfterLine.{KeepsRuns};
+ghost use Rattle.ceal_session.specs.SessionState.{situation};
 ghost use Rattle.ceal_session.specs.Replies.{Answers, Reads};
 ghost use Rattle.ceal_session.specs.Runs.{memory_of};
 ghost use Rattle.ceal_session.specs.State.{numbers_in};
-ghost use Rattle.ceal_session.specs.Steps.{refuses, set};
+ghost use Rattle.ceal_session.specs.Steps.{refuses, step_of_set};
 ghost use Rattle.ceal_session.specs.Values.{handle_of_sense, handle_of_command, sense_of_handle, Gives, IfRefused};
 ghost use Rattle.ceal_session.specs.Values.{number_of_sense, number_of_command};
 ghost use Rattle.ceal_session.specs.declared.sense.Sense.TheVariants.{Word as IsWord};
@@ -169,11 +169,13 @@ pub fn number_of_name(alloc: Global, state: &State, name: &[u8]) -> Result<i64, 
 pub fn set_number(state: &mut State, handle: Handle, number: i64) -> Result<(), ValueError>
     ensures set { OnOk result
         (record { reply = Reply.Ok; state = state.new.state }
-        ≡ set state.old.state (sense_of_handle state.old.state handle) (IsWord (Num number))) }
+        ≡ step_of_set state.old.state (sense_of_handle state.old.state handle)
+            (IsWord (Num number))) }
     ensures refused { IfRefused result
         (λ r. refuses state.old.state r
-        ≡ set state.old.state (sense_of_handle state.old.state handle) (IsWord (Num number))) }
-    ensures trace { OnOk result (Keeps (situation state.old) (situation state.new)) }
+        ≡ step_of_set state.old.state (sense_of_handle state.old.state handle)
+            (IsWord (Num number))) }
+    ensures trace { OnOk result (KeepsRuns (situation state.old) (situation state.new)) }
     ensures err { OnErr result (state.new ≡ state.old) }
 {
     if !has_modifiable(state, handle.place) {

@@ -4,7 +4,7 @@ ghost use Rattle.std.specs.Prelude.{◌≡◌, Some, IsSome, IfOk, slice_get};
 ghost use Rattle.ceal_base.specs.Shapes.{kinds_of_shape};
 ghost use Rattle.ceal_base.specs.declared.word.BlockId.TheVariants.{Input};
 ghost use Rattle.ceal_engine.specs.Engine.{is_plain as plain};
-ghost use Rattle.ceal_session.specs.Shown.{seen, label};
+ghost use Rattle.ceal_session.specs.Shown.{shown_blocks, label};
 ghost use Rattle.ceal_show.specs.Graph.{IsGraphText};
 ghost use Rattle.ceal_show.specs.Shown.{IsWhole, shape_at, word_at};
 
@@ -32,8 +32,8 @@ struct Scene<'a> {
 
 /// The shape of a block of the run.
 fn block_shape(engine: &Engine, block: BlockId) -> Shape
-    requires { IsSome (seen engine.now block) }
-    ensures { shape_at (seen engine.now) block ≡ Some result }
+    requires { IsSome (shown_blocks engine.now block) }
+    ensures { shape_at (shown_blocks engine.now) block ≡ Some result }
 {
     // for the proof: the memory of a run fits its types
     progress_law();
@@ -61,8 +61,8 @@ fn is_plain(kind: Option<FieldKind>) -> bool
 
 /// The word of a field of the run: a plain field never changes, and a modifiable has a content.
 fn field_word(engine: &Engine, block: BlockId, field: u32) -> Word
-    requires { IsSome (word_at (seen engine.now) block field) }
-    ensures { word_at (seen engine.now) block field ≡ Some result }
+    requires { IsSome (word_at (shown_blocks engine.now) block field) }
+    ensures { word_at (shown_blocks engine.now) block field ≡ Some result }
 {
     // for the proof: the memory of a run fits its types, so each of its blocks is whole
     progress_law();
@@ -79,9 +79,9 @@ fn field_word(engine: &Engine, block: BlockId, field: u32) -> Word
 
 impl<'a> View for Scene<'a> {
     ghost use Rattle.std.specs.Prelude.{slice_get, unwrap_or};
-    ghost use Rattle.ceal_session.specs.Shown.{seen};
+    ghost use Rattle.ceal_session.specs.Shown.{shown_blocks};
 
-    ghost memory = { λ v. seen v.engine.now };
+    ghost memory = { λ v. shown_blocks v.engine.now };
 
     ghost name = { λ v n. unwrap_or (slice_get v.names.now n) v.none.now };
 
@@ -109,10 +109,10 @@ impl<'a> View for Scene<'a> {
 
 /// The graph from an input, of an engine that has a finished run.
 pub fn graph(alloc: Global, engine: &Engine, names: &Names, input: u32) -> Result<Text, NoMemory>
-    requires whole { IsWhole engine.now.code.structs (seen engine.now) }
-    requires there { IsSome (seen engine.now (Input input)) }
+    requires whole { IsWhole engine.now.code.structs (shown_blocks engine.now) }
+    requires there { IsSome (shown_blocks engine.now (Input input)) }
     ensures { IfOk result
-        (λ text. IsGraphText engine.now.code.structs (seen engine.now) (label names.now)
+        (λ text. IsGraphText engine.now.code.structs (shown_blocks engine.now) (label names.now)
         (Input input) text) }
 {
     let scene = Scene {

@@ -8,7 +8,7 @@ use Rattle.ceal_lex.specs.Parts.{source_of}
 use Rattle.ceal_lex.specs.declared.parts.Split.{Split}
 use Rattle.ceal_session.specs.Laws.{OneScriptLaw}
 use Rattle.ceal_session.specs.Replies.{Leads}
-use Rattle.ceal_session.specs.Saving.{Holding, resumed}
+use Rattle.ceal_session.specs.SessionSave.{SaveHolds, situation_of_save}
 use Rattle.ceal_snap.specs.Answers.{OneSaveLaw}
 use Rattle.ceal_snap.specs.SaveText.{Save, IsSave}
 use Rattle.ceal_cli.specs.Lines.{script_of, script_lines}
@@ -32,7 +32,7 @@ module _ (split : SplitLaw) (save : OneSaveLaw) where
   -- a save that is resumed is not refused
   pub resumed-or-not : (code : Code) (bytes out : List ℕ) → IsResumable code bytes → IsNotResumed code bytes out → ⊥
   resumed-or-not code bytes out (r, holds) (inl (none, e)) = none r
-  resumed-or-not code bytes out (r, holds) (inr (s, none, e)) = none (subst (λ v. Holding code v) (one-saved bytes r s) holds)
+  resumed-or-not code bytes out (r, holds) (inr (s, none, e)) = none (subst (λ v. SaveHolds code v) (one-saved bytes r s) holds)
 
   -- one line says why it is
   pub one-refused : (code : Code) (bytes a b : List ℕ) → IsNotResumed code bytes a → IsNotResumed code bytes b → a ≡ b
@@ -48,7 +48,7 @@ module _ (split : SplitLaw) (save : OneSaveLaw) where
       let saves = one-saved bytes h.from k.from in
       let items : flat h.trace ≡ flat k.trace = sym h.items ∙ (ap (λ (v : Save). v.kept.forest) saves ∙ k.items) in
       let traces = one-trace h.trace k.trace items in
-      let here = subst (λ (part : Split). Leads (resumed program code h.from.saved h.trace) (script_lines (script_of bytes part)) a h.end) parts h.leads in
-      let there = subst (λ (v : Save). Leads (resumed program code v h.trace) (script_lines (script_of bytes k.from.part)) a h.end) saves here in
-      let same = subst (λ (l : Trace). Leads (resumed program code k.from.saved l) (script_lines (script_of bytes k.from.part)) a h.end) traces there in
-      (script (resumed program code k.from.saved k.trace) (script_lines (script_of bytes k.from.part)) a b h.end k.end same k.leads).0
+      let here = subst (λ (part : Split). Leads (situation_of_save program code h.from.saved h.trace) (script_lines (script_of bytes part)) a h.end) parts h.leads in
+      let there = subst (λ (v : Save). Leads (situation_of_save program code v h.trace) (script_lines (script_of bytes k.from.part)) a h.end) saves here in
+      let same = subst (λ (l : Trace). Leads (situation_of_save program code k.from.saved l) (script_lines (script_of bytes k.from.part)) a h.end) traces there in
+      (script (situation_of_save program code k.from.saved k.trace) (script_lines (script_of bytes k.from.part)) a b h.end k.end same k.leads).0

@@ -8,7 +8,7 @@ use Rattle.ceal_cli.specs.Limits.{KeepsLimits}
 use Rattle.ceal_cli.specs.Modes.{Asks, AskToGenerate, AskToRead, NamesFuel, ReadsInput}
 use Rattle.ceal_cli.specs.declared.words.Mode.{Mode}
 use Rattle.ceal_gen.specs.declared.kind.Workload.{Workload}
-use Rattle.ceal_session.specs.Following.{IsAllowed}
+use Rattle.ceal_session.specs.AfterLine.{IsAllowed}
 use Rattle.ceal_cli.specs.declared.words.Mode.TheVariants.{Check, List as Listing, Run, Gen, Dump, Verify, Many, Save, Resume}
 use Rattle.ceal_gen.specs.declared.kind.Workload.TheVariants.{List as OfList, Tree as OfTree}
 use Rattle.ceal_cli.proofs.Options.ParserTakes.{taken}

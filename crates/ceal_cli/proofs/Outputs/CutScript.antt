@@ -3,19 +3,19 @@ use Rattle.std.proofs.Common.{◌≡◌, ◌<◌, ◌^◌, ◌⊎◌, inl, inr, 
 use Rattle.ceal_base.specs.Trace.{flat}
 use Rattle.ceal_compile.specs.declared.program.Program.{Program}
 use Rattle.ceal_lex.specs.Parts.{source_of}
-use Rattle.ceal_session.specs.Following.{opened}
+use Rattle.ceal_session.specs.AfterLine.{situation_at_start}
 use Rattle.ceal_session.specs.Laws.{JoinedLaw, OneCommandLaw}
-use Rattle.ceal_session.specs.Replies.{opening, Leads}
-use Rattle.ceal_session.specs.Runs.{begun}
-use Rattle.ceal_session.specs.Saves.{GoesOn}
-use Rattle.ceal_session.specs.Saving.{resumed}
+use Rattle.ceal_session.specs.Replies.{situation_without_run, Leads}
+use Rattle.ceal_session.specs.Runs.{state_at_start}
+use Rattle.ceal_session.specs.SaveLaws.{ResumesAs}
+use Rattle.ceal_session.specs.SessionSave.{situation_of_save}
 use Rattle.ceal_session.specs.State.{Situation}
 use Rattle.ceal_snap.specs.Answers.{OneSaveLaw}
 use Rattle.ceal_snap.specs.Marks.{NoMarkLaw}
 use Rattle.ceal_snap.specs.SaveText.{Save, save_text, IsSave}
-use Rattle.ceal_cli.specs.Continuing.{Continued, Resumes, ResumableLaw, ResumedOutputLaw}
+use Rattle.ceal_cli.specs.CutScripts.{Continued, Resumes, ResumableLaw, ResumedOutputLaw}
 use Rattle.ceal_cli.specs.Lines.{script_of, script_lines}
-use Rattle.ceal_cli.specs.Output.{IsAnswer, IsTaken, Programmed, lines_behind}
+use Rattle.ceal_cli.specs.Output.{IsAnswer, IsTaken, Programmed, lines_after_mark}
 use Rattle.ceal_cli.specs.ReadBack.{IsSaveAfter}
 use Rattle.ceal_cli.specs.Resumed.{Resumption, IsResumable, IsRepliedAfter, lines_after}
 use Rattle.ceal_cli.specs.Saves.{mark_line, save_of}
@@ -43,14 +43,14 @@ module _ (cut : Cut) (fuel : ℕ) (input written more again long : List ℕ) (h 
   program = (compiled known input h.first).0
 
   abbrev lines : List (List ℕ)
-  lines = lines_behind h.first
+  lines = lines_after_mark h.first
 
   abbrev source : List ℕ
   source = source_of input h.first.part
 
   -- what was saved
-  first : IsSaveAfter program.code (begun program.typed fuel) source lines written
-  first = as-compiled known input h.first (λ part p k. IsSaveAfter k (begun p fuel) (source_of input part) (script_lines (script_of input part)) written) h.saved
+  first : IsSaveAfter program.code (state_at_start program.typed fuel) source lines written
+  first = as-compiled known input h.first (λ part p k. IsSaveAfter k (state_at_start p fuel) (source_of input part) (script_lines (script_of input part)) written) h.saved
 
   abbrev m : Situation
   m = first.end
@@ -58,7 +58,7 @@ module _ (cut : Cut) (fuel : ℕ) (input written more again long : List ℕ) (h 
   abbrev save : Save
   save = save_of m first.kept
 
-  goes-on : GoesOn m program save
+  goes-on : ResumesAs m program save
   goes-on = goes-on-after known input h.first fuel m first.kept first.run h.allowed
 
   -- the parts of the input that is resumed
@@ -107,23 +107,24 @@ module _ (cut : Cut) (fuel : ℕ) (input written more again long : List ℕ) (h 
     after = subst (λ b. IsRepliedAfter program.typed program.code b out) bytes-is
         (read-again (λ part p k. IsRepliedAfter p k (script_of again part) out) again answer.0 there (one-reading known.split known.answer known.code again answer.0 there) answer.1)
 
-    from-save : Leads (resumed program.typed program.code save goes-on.trace) (script_lines more) out after.end
+    from-save : Leads (situation_of_save program.typed program.code save goes-on.trace) (script_lines more) out after.end
     unfolding second
     from-save =
         let part = one-part known.split cut.saves rest after.from second in
         let same = one-saved known.split cut.saves rest after.from second in
         let items : flat after.trace ≡ flat goes-on.trace = sym after.items ∙ (ap (λ (v : Save). v.kept.forest) same ∙ goes-on.items) in
         let lines-are : lines_after after.from ≡ script_lines more = ap (λ t. script_lines (script_of rest t)) part ∙ ap script_lines (put-script (save_text save) more) in
-        subst (λ l. Leads (resumed program.typed program.code save goes-on.trace) l out after.end) lines-are
-        (subst (λ t. Leads (resumed program.typed program.code save t) (lines_after after.from) out after.end) (one-trace after.trace goes-on.trace items)
-        (subst (λ v. Leads (resumed program.typed program.code v after.trace) (lines_after after.from) out after.end) same after.leads))
+        subst (λ l. Leads (situation_of_save program.typed program.code save goes-on.trace) l out after.end) lines-are
+        (subst (λ t. Leads (situation_of_save program.typed program.code save t) (lines_after after.from) out after.end) (one-trace after.trace goes-on.trace items)
+        (subst (λ v. Leads (situation_of_save program.typed program.code v after.trace) (lines_after after.from) out after.end) same after.leads))
 
-    before-save : Leads (opened program fuel) h.front first.run.replies m
+    before-save : Leads (situation_at_start program fuel) h.front first.run.replies m
     before-save = by-lines h.lines
       where
-        by-lines : (lines ≡ h.front) ⊎ (lines ≡ h.front ++ ([] ∷ [])) → Leads (opened program fuel) h.front first.run.replies m
-        by-lines (inl e) = subst (λ l. Leads (opened program fuel) l first.run.replies m) e first.run.leads
-        by-lines (inr e) = without-empty cut.command h.front (opened program fuel) first.run.replies m (subst (λ l. Leads (opened program fuel) l first.run.replies m) e first.run.leads)
+        by-lines : (lines ≡ h.front) ⊎ (lines ≡ h.front ++ ([] ∷ [])) → Leads (situation_at_start program fuel) h.front first.run.replies m
+        by-lines (inl e) = subst (λ l. Leads (situation_at_start program fuel) l first.run.replies m) e first.run.leads
+        by-lines (inr e) =
+            without-empty cut.command h.front (situation_at_start program fuel) first.run.replies m (subst (λ l. Leads (situation_at_start program fuel) l first.run.replies m) e first.run.leads)
 
     -- and so the lines of both scripts
     abbrev whole : Programmed long
@@ -133,17 +134,17 @@ module _ (cut : Cut) (fuel : ℕ) (input written more again long : List ℕ) (h 
     is-continued =
         let led = known.scripts m (script_lines more) (stands-after known input h.first fuel m first.kept first.run) in
         let other = goes-on.answers (script_lines more) led.out led.end led.leads in
-        let same : led.out ≡ out = (known.once (resumed program.typed program.code save goes-on.trace) (script_lines more) led.out out other.0 after.end other.1 from-save).0 in
+        let same : led.out ≡ out = (known.once (situation_of_save program.typed program.code save goes-on.trace) (script_lines more) led.out out other.0 after.end other.1 from-save).0 in
         let next : Leads m (script_lines more) out led.end = subst (λ t. Leads m (script_lines more) t led.end) same led.leads in
-        let both : Leads (opened program fuel) (h.front ++ script_lines more) (first.run.replies ++ out) led.end =
-        cut.joined (opened program fuel) m led.end h.front (script_lines more) first.run.replies out before-save next in
-        let leads : Leads (opened program fuel) (lines_behind h.whole) (first.run.replies ++ out) led.end =
-        subst (λ l. Leads (opened program fuel) l (first.run.replies ++ out) led.end) (sym h.both) both in
+        let both : Leads (situation_at_start program fuel) (h.front ++ script_lines more) (first.run.replies ++ out) led.end =
+        cut.joined (situation_at_start program fuel) m led.end h.front (script_lines more) first.run.replies out before-save next in
+        let leads : Leads (situation_at_start program fuel) (lines_after_mark h.whole) (first.run.replies ++ out) led.end =
+        subst (λ l. Leads (situation_at_start program fuel) l (first.run.replies ++ out) led.end) (sym h.both) both in
         record {
           replies = first.run.replies;
           middle = m;
           end = led.end;
-          before = read-again (λ part p k. Leads (opening k (begun p fuel)) h.front first.run.replies m) long whole h.whole
+          before = read-again (λ part p k. Leads (situation_without_run k (state_at_start p fuel)) h.front first.run.replies m) long whole h.whole
               (one-reading known.split known.answer known.code long whole h.whole) before-save;
           after = next;
           whole = (whole, record { end = led.end; leads = leads });

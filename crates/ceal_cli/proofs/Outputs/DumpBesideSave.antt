@@ -5,10 +5,10 @@ use Rattle.ceal_base.specs.declared.recorded.Record.{Record}
 use Rattle.ceal_compile.specs.declared.program.Program.{Program}
 use Rattle.ceal_dump.specs.DumpText.{dump_text}
 use Rattle.ceal_lex.specs.Parts.{source_of}
-use Rattle.ceal_session.specs.Runs.{begun}
-use Rattle.ceal_session.specs.Saves.{GoesOn}
+use Rattle.ceal_session.specs.Runs.{state_at_start}
+use Rattle.ceal_session.specs.SaveLaws.{ResumesAs}
 use Rattle.ceal_session.specs.State.{Situation}
-use Rattle.ceal_session.specs.Steps.{asked}
+use Rattle.ceal_session.specs.Steps.{reply_to_query}
 use Rattle.ceal_session.specs.declared.reply.Query.TheVariants.{Steps}
 use Rattle.ceal_session.specs.declared.reply.Reply.{Reply}
 use Rattle.ceal_session.specs.declared.reply.Reply.TheVariants.{Told}
@@ -16,7 +16,7 @@ use Rattle.ceal_traceck.specs.declared.verdict.Verdict.TheVariants.{Yes}
 use Rattle.ceal_cli.specs.DumpLaws.{DumpsAgain, DumpVerifiedLaw, EndsWithDump, TailLaw}
 use Rattle.ceal_cli.specs.Dumps.{IsWrittenBy, no_run_text}
 use Rattle.ceal_cli.specs.Lines.{script_of, script_lines}
-use Rattle.ceal_cli.specs.Output.{IsAnswer, Programmed, lines_behind}
+use Rattle.ceal_cli.specs.Output.{IsAnswer, Programmed, lines_after_mark}
 use Rattle.ceal_cli.specs.ReadBack.{IsDumpAfter}
 use Rattle.ceal_cli.specs.Saves.{save_of, with_source}
 use Rattle.ceal_cli.specs.Verdicts.{IsVerdictLine, verdict_text}
@@ -36,9 +36,9 @@ beside _ m write other out e = inl (e, refl)
 
 pub tail-law : TailLaw
 unfolding Beside
-tail-law fuel input out (p, h) = by-record (beside (asked h.end.state Steps) h.end (λ kept. with_source (source_of input p.part) (save_of h.end kept)) dump_text out h.save)
+tail-law fuel input out (p, h) = by-record (beside (reply_to_query h.end.state Steps) h.end (λ kept. with_source (source_of input p.part) (save_of h.end kept)) dump_text out h.save)
   where
-    by-record : Beside (asked h.end.state Steps) h.end (λ kept. with_source (source_of input p.part) (save_of h.end kept)) dump_text out → EndsWithDump fuel input out
+    by-record : Beside (reply_to_query h.end.state Steps) h.end (λ kept. with_source (source_of input p.part) (save_of h.end kept)) dump_text out → EndsWithDump fuel input out
     by-record (inl (e, is)) = inl (e, (p, record { replies = h.replies; end = h.end; leads = h.leads; dump = is }))
     by-record (inr (r, e, is)) = inr (p, save_of h.end r, e, (p, record { replies = h.replies; end = h.end; leads = h.leads; dump = is }))
 
@@ -46,10 +46,10 @@ module _ (known : Known) (fuel : ℕ) (input written again : List ℕ) (h : Dump
   abbrev program : Program
   program = (compiled known input h.first).0
 
-  first : IsDumpAfter program.code (begun program.typed fuel) (lines_behind h.first) written
-  first = as-compiled known input h.first (λ part p k. IsDumpAfter k (begun p fuel) (script_lines (script_of input part)) written) h.dumped
+  first : IsDumpAfter program.code (state_at_start program.typed fuel) (lines_after_mark h.first) written
+  first = as-compiled known input h.first (λ part p k. IsDumpAfter k (state_at_start p fuel) (script_lines (script_of input part)) written) h.dumped
 
-  goes-on : GoesOn first.end program (save_of first.end first.kept)
+  goes-on : ResumesAs first.end program (save_of first.end first.kept)
   goes-on = goes-on-after known input h.first fuel first.end first.kept first.run h.allowed
 
   abbrev there : Programmed again

@@ -11,7 +11,7 @@ use Rattle.ceal_code.specs.Value.{Plain}
 use Rattle.ceal_dump.proofs.Steps.{closed-step, closed-alloc, closed-write, closed-read, closed-end}
 use Rattle.ceal_dump.specs.DumpText.{closed, all_core}
 use Rattle.ceal_record.proofs.Left.{replays-in-order}
-use Rattle.ceal_session.specs.Recording.{IsRecorded}
+use Rattle.ceal_session.specs.RunRecord.{IsRecorded}
 use Rattle.ceal_session.specs.State.{Situation}
 use Rattle.ceal_theory.specs.Named.{RenamingLaw}
 

@@ -12,22 +12,22 @@ use Rattle.ceal_compile.specs.Source.{IsProgram}
 use Rattle.ceal_compile.specs.declared.program.Program.{Program}
 use Rattle.ceal_lex.specs.declared.parts.Split.{Split}
 use Rattle.ceal_session.proofs.Engine.ProgramAndCode.{call-fits, same-structs}
-use Rattle.ceal_session.specs.Asking.{IsReady}
-use Rattle.ceal_session.specs.Following.{IsAllowed, opened}
+use Rattle.ceal_session.specs.Questions.{IsReady}
+use Rattle.ceal_session.specs.AfterLine.{IsAllowed, situation_at_start}
 use Rattle.ceal_session.specs.Laws.{BegunLaw, OneScriptLaw, SomeScriptLaw}
-use Rattle.ceal_session.specs.Recording.{IsRecorded}
-use Rattle.ceal_session.specs.Runs.{begun}
-use Rattle.ceal_session.specs.Saves.{GoesOn, ResumedLaw}
-use Rattle.ceal_session.specs.Saving.{IsSaved}
-use Rattle.ceal_session.specs.Standing.{IsPastIn, Stands}
-use Rattle.ceal_session.specs.State.{State, Situation, completed}
-use Rattle.ceal_session.specs.Steps.{IsCall, asked, has_no_run}
+use Rattle.ceal_session.specs.RunRecord.{IsRecorded}
+use Rattle.ceal_session.specs.Runs.{state_at_start}
+use Rattle.ceal_session.specs.SaveLaws.{ResumesAs, ResumedLaw}
+use Rattle.ceal_session.specs.SessionSave.{IsSaved}
+use Rattle.ceal_session.specs.Consistency.{IsPastIn, IsConsistent}
+use Rattle.ceal_session.specs.State.{State, Situation, trace_in_past}
+use Rattle.ceal_session.specs.Steps.{IsCall, reply_to_query, has_no_run}
 use Rattle.ceal_session.specs.declared.refusal.Refusal.TheVariants.{C7, C8}
 use Rattle.ceal_session.specs.declared.reply.Query.TheVariants.{Steps}
 use Rattle.ceal_session.specs.declared.reply.Reply.TheVariants.{Refused, Told}
 use Rattle.ceal_theory.specs.Pasts.{Past, NoTrace, Traced, Going}
 use Rattle.ceal_cli.specs.Dumps.{IsRecordIn}
-use Rattle.ceal_cli.specs.Output.{Programmed, lines_behind}
+use Rattle.ceal_cli.specs.Output.{Programmed, lines_after_mark}
 use Rattle.ceal_cli.specs.ReadBack.{IsRunAfter}
 use Rattle.ceal_cli.specs.Saves.{save_of}
 use Rattle.ceal_cli.proofs.Sessions.LinesKeepProgram.{leads-kept}
@@ -45,7 +45,7 @@ pub record Known : Type 0 where
   pub resumes : ResumedLaw
 
 -- a line `steps` is answered exactly when there is a finished run
-ready-of : (s : State) → asked s Steps ≡ Told Steps → IsReady s
+ready-of : (s : State) → reply_to_query s Steps ≡ Told Steps → IsReady s
 ready-of s told = go (has_no_run s) refl s.pending refl told
   where
     go : (a : Bool) → has_no_run s ≡ a → (b : Bool) → s.pending ≡ b → (if a then Refused C7 else if b then Refused C8 else Told Steps) ≡ Told Steps → IsReady s
@@ -54,8 +54,8 @@ ready-of s told = go (has_no_run s) refl s.pending refl told
     go false i false j e = record { run = i; edited = j }
 
 -- and then the record of the trace is that of the run
-module _ (m : Situation) (st : Stands m) where
-  in-record : (r : Record) → IsReady m.state → (c : Option Call) → m.state.call ≡ c → (p : Past) → m.past ≡ p → IsRecordIn m c (completed p) r → IsRecorded m r
+module _ (m : Situation) (st : IsConsistent m) where
+  in-record : (r : Record) → IsReady m.state → (c : Option Call) → m.state.call ≡ c → (p : Past) → m.past ≡ p → IsRecordIn m c (trace_in_past p) r → IsRecorded m r
   in-record r ready None e p f is = absurd is
   in-record r ready (Some call) e NoTrace f is = absurd is
   in-record r ready (Some call) e (Going x) f is = absurd is
@@ -67,7 +67,7 @@ module _ (m : Situation) (st : Stands m) where
       let fits : Fits m.code m.state.inputs call.function call.args =
       call-fits m.state.program m.code st.compiled.code st.compiled.valid m.state call.function call.args refl
       (subst (λ k. inputs_fit k m.state.inputs ≡ true) (sym structs) st.fits) called in
-      record { ready = ready; call = call; called = e; run = l; traced = ap completed f; of = record { fits = fits; replays = there.replays }; is = is }
+      record { ready = ready; call = call; called = e; run = l; traced = ap trace_in_past f; of = record { fits = fits; replays = there.replays }; is = is }
 
 module _ (known : Known) (input : List ℕ) (p : Programmed input) where
   -- the program, compiled
@@ -81,11 +81,11 @@ module _ (known : Known) (input : List ℕ) (p : Programmed input) where
   pub as-compiled : (P : Split → Typed → Code → Type 0) → P p.part p.program p.code → P p.part compiled.0.typed compiled.0.code
   as-compiled P h = read-again P input p here (one-reading known.split known.answer known.code input p here) h
 
-  module _ (fuel : ℕ) (m : Situation) (kept : Record) (run : IsRunAfter compiled.0.code (begun compiled.0.typed fuel) (lines_behind p) m kept) where
-    pub stands-after : Stands m
+  module _ (fuel : ℕ) (m : Situation) (kept : Record) (run : IsRunAfter compiled.0.code (state_at_start compiled.0.typed fuel) (lines_after_mark p) m kept) where
+    pub stands-after : IsConsistent m
     stands-after =
-        let led = known.scripts (opened compiled.0 fuel) (lines_behind p) (known.begins compiled.0 fuel compiled.2).sound in
-        subst Stands (known.once (opened compiled.0 fuel) (lines_behind p) led.out run.replies led.end m led.leads run.leads).1 led.stands
+        let led = known.scripts (situation_at_start compiled.0 fuel) (lines_after_mark p) (known.begins compiled.0 fuel compiled.2).sound in
+        subst IsConsistent (known.once (situation_at_start compiled.0 fuel) (lines_after_mark p) led.out run.replies led.end m led.leads run.leads).1 led.stands
 
     saved-after : IsSaved m (save_of m kept)
     saved-after = record {
@@ -96,7 +96,7 @@ module _ (known : Known) (input : List ℕ) (p : Programmed input) where
       kept = in-record m stands-after kept (ready-of m.state run.told) m.state.call refl m.past refl run.recorded;
     }
 
-    pub goes-on-after : IsAllowed fuel → GoesOn m compiled.0 (save_of m kept)
+    pub goes-on-after : IsAllowed fuel → ResumesAs m compiled.0 (save_of m kept)
     goes-on-after allowed =
-        let same = leads-kept (opened compiled.0 fuel) (lines_behind p) run.replies m run.leads in
+        let same = leads-kept (situation_at_start compiled.0 fuel) (lines_after_mark p) run.replies m run.leads in
         known.resumes compiled.0 m (save_of m kept) stands-after same.code same.program (subst IsAllowed (sym same.fuel) allowed) saved-after

@@ -9,8 +9,8 @@ use Rattle.ceal_code.specs.Program.{Code}
 use Rattle.ceal_dump.proofs.Decided.{Decided, both, moved, is-or-not}
 use Rattle.ceal_engine.specs.Engine.{LARGEST_FUEL}
 use Rattle.ceal_script.specs.Spelling.{is_name}
-use Rattle.ceal_session.specs.Naming.{AreDistinct, AreSpelled}
-use Rattle.ceal_session.specs.Saving.{Holding}
+use Rattle.ceal_session.specs.InputNames.{AreDistinct, AreSpelled}
+use Rattle.ceal_session.specs.SessionSave.{SaveHolds}
 use Rattle.ceal_snap.specs.SaveText.{Save}
 use Rattle.ceal_traceck.specs.Laws.{OneVerdictLaw, SomeVerdictLaw}
 use Rattle.ceal_traceck.specs.Verdicts.{Means}
@@ -54,7 +54,7 @@ module _ (some : SomeVerdictLaw) (one : OneVerdictLaw) where
       by-verdict NotHonest h = other NotHonest (λ e. absurd (cc e)) h
       by-verdict MemoryDiffers h = other MemoryDiffers (λ e. absurd (cc e)) h
 
-  pub holds-or-not : (code : Code) (s : Save) → Decided (Holding code s)
+  pub holds-or-not : (code : Code) (s : Save) → Decided (SaveHolds code s)
   holds-or-not code s =
       moved (λ h. record { fuel = h.0.0; spelled = h.0.1.0; once = h.0.1.1; count = h.1.0; yes = h.1.1.0; few = h.1.1.1 })
       (λ h. ((h.fuel, (h.spelled, h.once)), (h.count, (h.yes, h.few))))

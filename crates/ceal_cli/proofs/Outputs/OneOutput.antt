@@ -8,14 +8,14 @@ use Rattle.ceal_compile.specs.Laws.{OneCodeLaw}
 use Rattle.ceal_lex.specs.Parts.{source_of}
 use Rattle.ceal_lex.specs.declared.parts.Split.{Split}
 use Rattle.ceal_session.specs.Laws.{OneReplyLaw, OneScriptLaw}
-use Rattle.ceal_session.specs.Replies.{opening, IsReplied}
-use Rattle.ceal_session.specs.Runs.{begun}
+use Rattle.ceal_session.specs.Replies.{situation_without_run, IsReplied}
+use Rattle.ceal_session.specs.Runs.{state_at_start}
 use Rattle.ceal_session.specs.State.{State, Situation}
 use Rattle.ceal_cli.specs.Fuel.{DEFAULT_FUEL}
 use Rattle.ceal_cli.specs.Laws.{OneOutputLaw}
 use Rattle.ceal_cli.specs.Lines.{script_of, script_lines}
 use Rattle.ceal_code.specs.Program.{Code}
-use Rattle.ceal_cli.specs.Output.{LeadsFromRun, IsRepliedFromRun, Programmed, first_state, lines_behind, bytes_behind, IsListing, IsAnswer, IsRefusal, IsUnresumed}
+use Rattle.ceal_cli.specs.Output.{LeadsFromRun, IsRepliedFromRun, Programmed, first_state, lines_after_mark, bytes_after_mark, IsListing, IsAnswer, IsRefusal, IsUnresumed}
 use Rattle.ceal_cli.specs.ManySessions.{AreManyReplies}
 use Rattle.ceal_cli.specs.Dumps.{IsDumped}
 use Rattle.ceal_cli.specs.Verdicts.{IsVerdictLine}
@@ -23,7 +23,7 @@ use Rattle.ceal_cli.specs.declared.words.Mode.{Mode}
 use Rattle.ceal_cli.specs.declared.words.Mode.TheVariants.{Check, List as Listing, Run, Gen, Dump, Verify, Many, Save, Resume}
 use Rattle.ceal_gen.specs.Text.{workload_text}
 use Rattle.ceal_cli.specs.Resumed.{IsNotResumed, IsRepliedAfter}
-use Rattle.ceal_cli.specs.Saves.{IsSavedBehind}
+use Rattle.ceal_cli.specs.Saves.{IsSavedAfterLines}
 use Rattle.ceal_cli.proofs.Outputs.OneRecord.{Once, one-dumped, one-saved, one-verdict, one-many}
 use Rattle.ceal_cli.proofs.Inputs.OneResumed.{one-after, one-refused}
 use Rattle.ceal_cli.proofs.Inputs.OneReading.{SplitLaw, AnswerLaw, one-program, one-fault, no-fault, one-reading, read-again}
@@ -42,11 +42,11 @@ from-run reply script m (line ∷ lines) a b n o (inr h) (inr k) =
     from-run reply script k.2 lines a b n o (subst (λ x. LeadsFromRun x lines a n) next h.4) k.4
 
 one-replied : OneScriptLaw → (code : Code) (s : State) (lines : List (List ℕ)) (a b : List ℕ) → IsReplied code s lines a → IsReplied code s lines b → a ≡ b
-one-replied script code s lines a b h k = (script (opening code s) lines a b h.end k.end h.leads k.leads).0
+one-replied script code s lines a b h k = (script (situation_without_run code s) lines a b h.end k.end h.leads k.leads).0
 
 one-from-run : OneReplyLaw → OneScriptLaw → (code : Code) (s : State) (lines : List (List ℕ)) (a b : List ℕ)
     → IsRepliedFromRun code s lines a → IsRepliedFromRun code s lines b → a ≡ b
-one-from-run reply script code s lines a b h k = from-run reply script (opening code s) lines a b h.end k.end h.leads k.leads
+one-from-run reply script code s lines a b h k = from-run reply script (situation_without_run code s) lines a b h.end k.end h.leads k.leads
 
 module _ (split : SplitLaw) (answer : AnswerLaw) (code : OneCodeLaw) (reply : OneReplyLaw) (script : OneScriptLaw) (known : Once) where
   one-listing : (input a b : List ℕ) → IsListing input a → IsListing input b → a ≡ b
@@ -61,23 +61,23 @@ module _ (split : SplitLaw) (answer : AnswerLaw) (code : OneCodeLaw) (reply : On
 
   -- two readings of a program and its script are one
   module _ (P : Code → State → List (List ℕ) → List ℕ → Type 0) (once : (c : Code) (s : State) (lines : List (List ℕ)) (a b : List ℕ) → P c s lines a → P c s lines b → a ≡ b) where
-    one-run : (input : List ℕ) (fuel : ℕ) (a b : List ℕ) (p q : Programmed input) → P p.code (first_state p fuel) (lines_behind p) a → P q.code (first_state q fuel) (lines_behind q) b → a ≡ b
+    one-run : (input : List ℕ) (fuel : ℕ) (a b : List ℕ) (p q : Programmed input) → P p.code (first_state p fuel) (lines_after_mark p) a → P q.code (first_state q fuel) (lines_after_mark q) b → a ≡ b
     one-run input fuel a b p q h k =
-        once q.code (first_state q fuel) (lines_behind q) a b
-        (again (λ part program c. P c (begun program fuel) (script_lines (script_of input part)) a) input p q h) k
+        once q.code (first_state q fuel) (lines_after_mark q) a b
+        (again (λ part program c. P c (state_at_start program fuel) (script_lines (script_of input part)) a) input p q h) k
 
-  one-checked : (input a b : List ℕ) (p q : Programmed input) → IsVerdictLine p.code (bytes_behind p) a → IsVerdictLine q.code (bytes_behind q) b → a ≡ b
+  one-checked : (input a b : List ℕ) (p q : Programmed input) → IsVerdictLine p.code (bytes_after_mark p) a → IsVerdictLine q.code (bytes_after_mark q) b → a ≡ b
   one-checked input a b p q h k =
-      one-verdict known.dumps known.verdicts q.code (bytes_behind q) a b (again (λ part program c. IsVerdictLine c (script_of input part) a) input p q h) k
+      one-verdict known.dumps known.verdicts q.code (bytes_after_mark q) a b (again (λ part program c. IsVerdictLine c (script_of input part) a) input p q h) k
 
   one-save : (input : List ℕ) (fuel : ℕ) (a b : List ℕ) → IsAnswer (Save fuel) input a → IsAnswer (Save fuel) input b → a ≡ b
   one-save input fuel a b (p, h) (q, k) =
-      one-saved known.records script (source_of input q.part) q.code (first_state q fuel) (lines_behind q) a b
-      (again (λ part program c. IsSavedBehind c (begun program fuel) (source_of input part) (script_lines (script_of input part)) a) input p q h) k
+      one-saved known.records script (source_of input q.part) q.code (first_state q fuel) (lines_after_mark q) a b
+      (again (λ part program c. IsSavedAfterLines c (state_at_start program fuel) (source_of input part) (script_lines (script_of input part)) a) input p q h) k
 
   one-resumed : (input a b : List ℕ) → IsAnswer Resume input a → IsAnswer Resume input b → a ≡ b
   one-resumed input a b (p, h) (q, k) =
-      one-after split known.saves script q.program q.code (bytes_behind q) a b (again (λ part program c. IsRepliedAfter program c (script_of input part) a) input p q h) k
+      one-after split known.saves script q.program q.code (bytes_after_mark q) a b (again (λ part program c. IsRepliedAfter program c (script_of input part) a) input p q h) k
 
   one-answer : (mode : Mode) (input a b : List ℕ) → IsAnswer mode input a → IsAnswer mode input b → a ≡ b
   one-answer Check input a b h k = h.1 ∙ sym k.1
@@ -104,7 +104,7 @@ module _ (split : SplitLaw) (answer : AnswerLaw) (code : OneCodeLaw) (reply : On
   one-unresumed (Many fuel) input a b h k = absurd h
   one-unresumed (Save fuel) input a b h k = absurd h
   one-unresumed Resume input a b (p, h) (q, k) =
-      one-refused split known.saves q.code (bytes_behind q) a b (again (λ part program c. IsNotResumed c (script_of input part) a) input p q h) k
+      one-refused split known.saves q.code (bytes_after_mark q) a b (again (λ part program c. IsNotResumed c (script_of input part) a) input p q h) k
   one-unresumed (Gen kind seed size) input a b h k = absurd h
 
   one-refusal : (mode : Mode) (input a b : List ℕ) → IsRefusal mode input a → IsRefusal mode input b → a ≡ b

@@ -10,9 +10,9 @@ use Rattle.ceal_many.specs.Replies.{AreReplies}
 use Rattle.ceal_many.specs.Sessions.{Named}
 use Rattle.ceal_record.specs.Laws.{OneRecordLaw}
 use Rattle.ceal_session.specs.Laws.{OneReplyLaw, OneScriptLaw}
-use Rattle.ceal_session.specs.Replies.{opening, Replies}
+use Rattle.ceal_session.specs.Replies.{situation_without_run, Replies}
 use Rattle.ceal_session.specs.State.{State, Situation, last}
-use Rattle.ceal_session.specs.Steps.{asked}
+use Rattle.ceal_session.specs.Steps.{reply_to_query}
 use Rattle.ceal_session.specs.declared.reply.Query.TheVariants.{Steps}
 use Rattle.ceal_session.specs.declared.reply.Reply.{Reply}
 use Rattle.ceal_session.specs.declared.reply.Reply.TheVariants.{Nothing, Ok, OutOfFuel, More, Done, Refused, Told}
@@ -20,9 +20,9 @@ use Rattle.ceal_snap.specs.Answers.{OneSaveLaw}
 use Rattle.ceal_theory.specs.Computed.{Repaired}
 use Rattle.ceal_traceck.specs.Laws.{OneVerdictLaw}
 use Rattle.ceal_traceck.specs.Verdicts.{Means}
-use Rattle.ceal_cli.specs.ManySessions.{joined, AreManyReplies}
+use Rattle.ceal_cli.specs.ManySessions.{joined_texts, AreManyReplies}
 use Rattle.ceal_cli.specs.Dumps.{IsRecordIn, IsWrittenBy, IsDumpOf, IsDumped}
-use Rattle.ceal_cli.specs.Saves.{save_of, with_source, IsSaveOf, IsSavedBehind}
+use Rattle.ceal_cli.specs.Saves.{save_of, with_source, IsSaveOf, IsSavedAfterLines}
 use Rattle.ceal_cli.specs.Verdicts.{verdict_text, IsVerdictLine}
 
 -- what is known of one record, dump, verdict and save, and of many sessions
@@ -52,14 +52,14 @@ module _ (records : OneRecordLaw) (write : Record → List ℕ) where
 module _ (records : OneRecordLaw) (script : OneScriptLaw) where
   pub one-dumped : (code : Code) (s : State) (lines : List (List ℕ)) (a b : List ℕ) → IsDumped code s lines a → IsDumped code s lines b → a ≡ b
   one-dumped code s lines a b h k =
-      let same : h.end ≡ k.end = (script (opening code s) lines h.replies k.replies h.end k.end h.leads k.leads).1 in
-      text-by records dump_text (asked k.end.state Steps) k.end a b (subst (λ m. IsDumpOf m a) same h.dump) k.dump
+      let same : h.end ≡ k.end = (script (situation_without_run code s) lines h.replies k.replies h.end k.end h.leads k.leads).1 in
+      text-by records dump_text (reply_to_query k.end.state Steps) k.end a b (subst (λ m. IsDumpOf m a) same h.dump) k.dump
 
   pub one-saved : (source : List ℕ) (code : Code) (s : State) (lines : List (List ℕ)) (a b : List ℕ)
-      → IsSavedBehind code s source lines a → IsSavedBehind code s source lines b → a ≡ b
+      → IsSavedAfterLines code s source lines a → IsSavedAfterLines code s source lines b → a ≡ b
   one-saved source code s lines a b h k =
-      let same : h.end ≡ k.end = (script (opening code s) lines h.replies k.replies h.end k.end h.leads k.leads).1 in
-      text-by records (λ kept. with_source source (save_of k.end kept)) (asked k.end.state Steps) k.end a b (subst (λ m. IsSaveOf m source a) same h.save) k.save
+      let same : h.end ≡ k.end = (script (situation_without_run code s) lines h.replies k.replies h.end k.end h.leads k.leads).1 in
+      text-by records (λ kept. with_source source (save_of k.end kept)) (reply_to_query k.end.state Steps) k.end a b (subst (λ m. IsSaveOf m source a) same h.save) k.save
 
 -- a session has one reply, and leaves one situation
 pub determined : OneReplyLaw → IsDetermined Replies
@@ -81,7 +81,7 @@ module _ (replies : OneReplyLaw) (sessions : One_many_law Replies) where
       h.5 ∙ (ap₂ ◌∷◌ text rest ∙ sym r.5)
 
   pub one-many : (code : Code) (s : State) (lines : List (List ℕ)) (a b : List ℕ) → AreManyReplies code s lines a → AreManyReplies code s lines b → a ≡ b
-  one-many code s lines a b h k = h.whole ∙ (ap joined (texts-one (opening code s) [] lines h.texts k.texts h.next k.next h.replies k.replies) ∙ sym k.whole)
+  one-many code s lines a b h k = h.whole ∙ (ap joined_texts (texts-one (situation_without_run code s) [] lines h.texts k.texts h.next k.next h.replies k.replies) ∙ sym k.whole)
 
 -- bytes have one line
 pub one-verdict : One_dump_law → OneVerdictLaw → (code : Code) (bytes a b : List ℕ) → IsVerdictLine code bytes a → IsVerdictLine code bytes b → a ≡ b

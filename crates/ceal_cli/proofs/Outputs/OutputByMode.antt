@@ -12,19 +12,19 @@ use Rattle.ceal_io.specs.declared.streams.Stopped.{Stopped}
 use Rattle.ceal_lex.specs.Parts.{IsSplit, source_of}
 use Rattle.ceal_lex.specs.declared.parts.Split.{Split}
 use Rattle.ceal_record.specs.Laws.{RenamedLaw}
-use Rattle.ceal_session.specs.Following.{opened}
+use Rattle.ceal_session.specs.AfterLine.{situation_at_start}
 use Rattle.ceal_session.specs.Laws.{BegunLaw, KeptLaw, SomeReplyLaw, SomeScriptLaw}
 use Rattle.ceal_session.specs.Replies.{Leads}
-use Rattle.ceal_session.specs.Saves.{SavedLaw}
-use Rattle.ceal_session.specs.Standing.{IsIn}
+use Rattle.ceal_session.specs.SaveLaws.{SavedLaw}
+use Rattle.ceal_session.specs.Consistency.{IsIn}
 use Rattle.ceal_session.specs.State.{Situation}
 use Rattle.ceal_snap.specs.SaveText.{save_text, IsSave}
 use Rattle.ceal_cli.specs.ManySessions.{AreTold}
 use Rattle.ceal_cli.specs.Fuel.{DEFAULT_FUEL}
-use Rattle.ceal_cli.specs.Growth.{Puts, Writes}
+use Rattle.ceal_cli.specs.SinkGrowth.{Puts, Writes}
 use Rattle.ceal_cli.specs.Members.{Opens}
 use Rattle.ceal_cli.specs.Saves.{save_of, with_source}
-use Rattle.ceal_cli.specs.Serving.{AreServed, BeginServed, AreServedFromRun, BeginServedFromRun, IsDumpBehind, IsDumpFrom, IsSaveBehind, IsSaveFrom}
+use Rattle.ceal_cli.specs.ServedLines.{AreServed, BeginServed, AreServedFromRun, BeginServedFromRun, IsDumpAfterLines, IsDumpFrom, IsSaveAfterLines, IsSaveFrom}
 use Rattle.ceal_cli.specs.Lines.{script_of, script_lines}
 use Rattle.ceal_cli.specs.Modes.{ReadsInput}
 use Rattle.ceal_cli.specs.Output.{IsOutput, Programmed, accepted_text, Begins, IsOutputFromRun}
@@ -66,42 +66,42 @@ module _ (input : List ℕ) where
 
     module _ (fuel : ℕ) (opens : Opens input p fuel) where
       -- the replies of many sessions
-      pub many_told : (text : List ℕ) → AreTold (opened p fuel) [] lines text → IsOutput (Many fuel) input text
+      pub many_told : (text : List ℕ) → AreTold (situation_at_start p fuel) [] lines text → IsOutput (Many fuel) input text
       unfolding programmed
       many_told text told = inl (programmed opens.reads opens.compiled, told)
 
       module _ (begins : BegunLaw) (kept : KeptLaw) where
         -- the replies
         pub replied : (r : Result (Unit {0}) Stopped) (a b : Option (List ℕ)) (m n : ℕ) → SomeScriptLaw
-            → Puts r a b m n (AreServed (opened p fuel) lines) (BeginServed (opened p fuel) lines) → Writes r a b m n (IsOutput (Run fuel) input)
+            → Puts r a b m n (AreServed (situation_at_start p fuel) lines) (BeginServed (situation_at_start p fuel) lines) → Writes r a b m n (IsOutput (Run fuel) input)
         unfolding programmed
         replied r a b m n script h =
             puts_as r a b m n _ _ (IsOutput (Run fuel) input) (Begins (IsOutput (Run fuel) input))
             (λ out serves.
-            let w = served kept (opened p fuel) (opened p fuel) lines out (begins p fuel opens.compiled) serves in
+            let w = served kept (situation_at_start p fuel) (situation_at_start p fuel) lines out (begins p fuel opens.compiled) serves in
             inl (programmed opens.reads opens.compiled, record { end = w.0; leads = w.1 }))
             (λ out part.
-            let w = begun kept script (opened p fuel) (opened p fuel) lines out (begins p fuel opens.compiled) part in
+            let w = begun kept script (situation_at_start p fuel) (situation_at_start p fuel) lines out (begins p fuel opens.compiled) part in
             inr (w.text, inl (programmed opens.reads opens.compiled, record { end = w.end; leads = w.leads }), w.prefix)) h
 
         -- the dump after the script
-        pub dumped : RenamedLaw → (text : List ℕ) → IsDumpBehind (opened p fuel) lines text → IsOutput (Dump fuel) input text
+        pub dumped : RenamedLaw → (text : List ℕ) → IsDumpAfterLines (situation_at_start p fuel) lines text → IsOutput (Dump fuel) input text
         unfolding programmed
         dumped renamed text behind =
-            let there = carried kept (opened p fuel) behind.end (opened p fuel) lines (begins p fuel opens.compiled) behind.carries in
+            let there = carried kept (situation_at_start p fuel) behind.end (situation_at_start p fuel) lines (begins p fuel opens.compiled) behind.carries in
             inl (
               programmed opens.reads opens.compiled,
               record { replies = there.0; end = there.1; leads = there.2; dump = dump-in renamed behind.end there.1 there.3 text behind.is },
             )
 
         -- which is read as the record of the run
-        readable-dump : RenamedLaw → (text : List ℕ) → IsDumpBehind (opened p fuel) lines text → IsReadableDump fuel input text
+        readable-dump : RenamedLaw → (text : List ℕ) → IsDumpAfterLines (situation_at_start p fuel) lines text → IsReadableDump fuel input text
         unfolding programmed
         readable-dump renamed text behind =
-            let there = carried kept (opened p fuel) behind.end (opened p fuel) lines (begins p fuel opens.compiled) behind.carries in
+            let there = carried kept (situation_at_start p fuel) behind.end (situation_at_start p fuel) lines (begins p fuel opens.compiled) behind.carries in
             by-form there.0 there.1 there.2 there.3 behind.is
           where
-            by-form : (replies : List ℕ) (end : Situation) → Leads (opened p fuel) lines replies end → IsIn behind.end end → IsDumpFrom behind.end text → IsReadableDump fuel input text
+            by-form : (replies : List ℕ) (end : Situation) → Leads (situation_at_start p fuel) lines replies end → IsIn behind.end end → IsDumpFrom behind.end text → IsReadableDump fuel input text
             by-form replies end leads in-end (inl none) = inl none.1
             by-form replies end leads in-end (inr (r, recorded, dump)) =
                 let run = record-in renamed behind.end end in-end r recorded in
@@ -110,28 +110,28 @@ module _ (input : List ℕ) where
                   record { end = end; kept = r; run = record { replies = replies; leads = leads; told = run.0; recorded = run.1 }; dump = dump },
                 )
 
-        pub dumped-readable : RenamedLaw → (r : Result (Unit {0}) Stopped) (a b : Option (List ℕ)) (m n : ℕ) → Writes r a b m n (IsDumpBehind (opened p fuel) lines)
+        pub dumped-readable : RenamedLaw → (r : Result (Unit {0}) Stopped) (a b : Option (List ℕ)) (m n : ℕ) → Writes r a b m n (IsDumpAfterLines (situation_at_start p fuel) lines)
             → OnOk r (WritesDump a b fuel input)
-        dumped-readable renamed r a b m n h = all_as r a b (IsDumpBehind (opened p fuel) lines) (IsReadableDump fuel input) (readable-dump renamed) h.all
+        dumped-readable renamed r a b m n h = all_as r a b (IsDumpAfterLines (situation_at_start p fuel) lines) (IsReadableDump fuel input) (readable-dump renamed) h.all
 
         -- the save after the script
-        pub saved : RenamedLaw → SavedLaw → (text : List ℕ) → IsSaveBehind (source_of input part) (opened p fuel) lines text → IsOutput (Save fuel) input text
+        pub saved : RenamedLaw → SavedLaw → (text : List ℕ) → IsSaveAfterLines (source_of input part) (situation_at_start p fuel) lines text → IsOutput (Save fuel) input text
         unfolding programmed
         saved renamed saves text behind =
-            let there = carried kept (opened p fuel) behind.end (opened p fuel) lines (begins p fuel opens.compiled) behind.carries in
+            let there = carried kept (situation_at_start p fuel) behind.end (situation_at_start p fuel) lines (begins p fuel opens.compiled) behind.carries in
             inl (
               programmed opens.reads opens.compiled,
               record { replies = there.0; end = there.1; leads = there.2; save = save-in renamed saves (source_of input part) behind.end there.1 there.3 text behind.is },
             )
 
         -- which is read as the save of the session
-        readable-save : RenamedLaw → SavedLaw → (text : List ℕ) → IsSaveBehind (source_of input part) (opened p fuel) lines text → IsReadableSave fuel input text
+        readable-save : RenamedLaw → SavedLaw → (text : List ℕ) → IsSaveAfterLines (source_of input part) (situation_at_start p fuel) lines text → IsReadableSave fuel input text
         unfolding programmed
         readable-save renamed saves text behind =
-            let there = carried kept (opened p fuel) behind.end (opened p fuel) lines (begins p fuel opens.compiled) behind.carries in
+            let there = carried kept (situation_at_start p fuel) behind.end (situation_at_start p fuel) lines (begins p fuel opens.compiled) behind.carries in
             by-form there.0 there.1 there.2 there.3 behind.is
           where
-            by-form : (replies : List ℕ) (end : Situation) → Leads (opened p fuel) lines replies end → IsIn behind.end end → IsSaveFrom (source_of input part) behind.end text
+            by-form : (replies : List ℕ) (end : Situation) → Leads (situation_at_start p fuel) lines replies end → IsIn behind.end end → IsSaveFrom (source_of input part) behind.end text
                 → IsReadableSave fuel input text
             by-form replies end leads in-end (inl none) = inl none.1
             by-form replies end leads in-end (inr (s, saved, save, whole)) =
@@ -149,23 +149,24 @@ module _ (input : List ℕ) where
                 )
 
         pub saved-readable : RenamedLaw → SavedLaw → (r : Result (Unit {0}) Stopped) (a b : Option (List ℕ)) (m n : ℕ)
-            → Writes r a b m n (IsSaveBehind (source_of input part) (opened p fuel) lines)
+            → Writes r a b m n (IsSaveAfterLines (source_of input part) (situation_at_start p fuel) lines)
             → OnOk r (WritesSave a b fuel input)
-        saved-readable renamed saves r a b m n h = all_as r a b (IsSaveBehind (source_of input part) (opened p fuel) lines) (IsReadableSave fuel input) (readable-save renamed saves) h.all
+        saved-readable renamed saves r a b m n h =
+            all_as r a b (IsSaveAfterLines (source_of input part) (situation_at_start p fuel) lines) (IsReadableSave fuel input) (readable-save renamed saves) h.all
 
     -- the replies from that of the first run on
     module _ (reads : IsProgram input p.typed) (compiled : IsCompiled p) (begins : BegunLaw) (kept : KeptLaw) where
       pub from_run : (r : Result (Unit {0}) Stopped) (a b : Option (List ℕ)) (m n : ℕ) → SomeReplyLaw → SomeScriptLaw
-          → Puts r a b m n (AreServedFromRun (opened p DEFAULT_FUEL) lines) (BeginServedFromRun (opened p DEFAULT_FUEL) lines)
+          → Puts r a b m n (AreServedFromRun (situation_at_start p DEFAULT_FUEL) lines) (BeginServedFromRun (situation_at_start p DEFAULT_FUEL) lines)
           → Writes r a b m n (IsOutputFromRun input)
       unfolding programmed
       from_run r a b m n reply script h =
           puts_as r a b m n _ _ (IsOutputFromRun input) (Begins (IsOutputFromRun input))
           (λ out serves.
-          let w = served-from-run kept (opened p DEFAULT_FUEL) (opened p DEFAULT_FUEL) lines out (begins p DEFAULT_FUEL compiled) serves in
+          let w = served-from-run kept (situation_at_start p DEFAULT_FUEL) (situation_at_start p DEFAULT_FUEL) lines out (begins p DEFAULT_FUEL compiled) serves in
           (programmed reads compiled, record { end = w.0; leads = w.1 }))
           (λ out part.
-          let w = begun-from-run kept script reply (opened p DEFAULT_FUEL) (opened p DEFAULT_FUEL) lines out (begins p DEFAULT_FUEL compiled) part in
+          let w = begun-from-run kept script reply (situation_at_start p DEFAULT_FUEL) (situation_at_start p DEFAULT_FUEL) lines out (begins p DEFAULT_FUEL compiled) part in
           inr (w.text, (programmed reads compiled, record { end = w.end; leads = w.leads }), w.prefix)) h
 
 -- a refused input is not accepted

@@ -15,13 +15,13 @@ use Rattle.ceal_gen.specs.Text.{workload_text}
 use Rattle.ceal_lex.specs.Parts.{source_of}
 use Rattle.ceal_many.specs.Laws.{KeptLaw, SomeReplyLaw as Many_law}
 use Rattle.ceal_record.specs.Laws.{SomeRecordLaw}
-use Rattle.ceal_session.specs.Following.{opened}
+use Rattle.ceal_session.specs.AfterLine.{situation_at_start}
 use Rattle.ceal_session.specs.Laws.{BegunLaw, OneReplyLaw, SomeReplyLaw, SomeScriptLaw}
 use Rattle.ceal_session.specs.Replies.{Replies}
-use Rattle.ceal_session.specs.Saves.{HeldLaw}
-use Rattle.ceal_session.specs.Saving.{resumed}
-use Rattle.ceal_session.specs.Standing.{IsPastIn, Stands}
-use Rattle.ceal_session.specs.State.{Situation, completed}
+use Rattle.ceal_session.specs.SaveLaws.{HeldLaw}
+use Rattle.ceal_session.specs.SessionSave.{situation_of_save}
+use Rattle.ceal_session.specs.Consistency.{IsPastIn, IsConsistent}
+use Rattle.ceal_session.specs.State.{Situation, trace_in_past}
 use Rattle.ceal_session.specs.Steps.{has_no_run}
 use Rattle.ceal_session.specs.declared.refusal.Refusal.TheVariants.{C7, C8}
 use Rattle.ceal_session.specs.declared.reply.Query.TheVariants.{Steps}
@@ -77,7 +77,7 @@ replied compiled begins scripts input fuel accepted =
     let c = compiled input accepted in
     let p = c.0 in
     let reads = c.1 in
-    let w = scripts (opened p fuel) (script_lines (script_of input reads.part)) (begins p fuel c.2).sound in (
+    let w = scripts (situation_at_start p fuel) (script_lines (script_of input reads.part)) (begins p fuel c.2).sound in (
       w.out,
       inl (
         record { part = reads.part; split = reads.split; program = p.typed; reads = reads; code = p.code; is_code = c.2.code },
@@ -86,11 +86,11 @@ replied compiled begins scripts input fuel accepted =
     )
 
 -- what is written of a situation
-some-written : SomeRecordLaw → (write : Record → List ℕ) (m : Situation) → Stands m → (out : List ℕ) × IsWrittenOf m write out
+some-written : SomeRecordLaw → (write : Record → List ℕ) (m : Situation) → IsConsistent m → (out : List ℕ) × IsWrittenOf m write out
 some-written law write m h = by-tests (has_no_run m.state) refl m.state.pending refl
   where
     in-run : (c : Option Call) (p : Past) → IsPastIn m.code m.state c p → is_none c ≡ false → m.state.out_of_fuel ≡ false → m.state.pending ≡ false
-        → (r : Record) × IsRecordIn m c (completed p) r
+        → (r : Record) × IsRecordIn m c (trace_in_past p) r
     in-run None p t none fuel still = absurd (cc none)
     in-run (Some call) NoTrace t none fuel still = absurd (cc (sym t ∙ fuel))
     in-run (Some call) (Traced l) t none fuel still = law m.code m.state.inputs call l.items
@@ -110,7 +110,7 @@ dumped compiled begins scripts records input fuel accepted =
     let c = compiled input accepted in
     let p = c.0 in
     let reads = c.1 in
-    let w = scripts (opened p fuel) (script_lines (script_of input reads.part)) (begins p fuel c.2).sound in
+    let w = scripts (situation_at_start p fuel) (script_lines (script_of input reads.part)) (begins p fuel c.2).sound in
     let text = some-written records dump_text w.end w.stands in (
       text.0,
       inl (
@@ -125,7 +125,7 @@ saved compiled begins scripts records input fuel accepted =
     let p = c.0 in
     let reads = c.1 in
     let source = source_of input reads.part in
-    let w = scripts (opened p fuel) (script_lines (script_of input reads.part)) (begins p fuel c.2).sound in
+    let w = scripts (situation_at_start p fuel) (script_lines (script_of input reads.part)) (begins p fuel c.2).sound in
     let text = some-written records (λ kept. with_source source (save_of w.end kept)) w.end w.stands in (
       text.0,
       inl (
@@ -142,15 +142,15 @@ taken split answer code compiled scripts held input (p, here) =
     let same = one-reading split answer code input p q in
     let found = read-again (λ part program k. IsResumable k (script_of input part)) input p q same here in
     let there = held c.0 found.0.saved c.2 found.1 in
-    let w = scripts (resumed c.0.typed c.0.code found.0.saved there.0) (lines_after found.0) there.2 in
+    let w = scripts (situation_of_save c.0.typed c.0.code found.0.saved there.0) (lines_after found.0) there.2 in
     (w.out, (q, record { from = found.0; holds = found.1; trace = there.0; items = there.1; end = w.end; leads = w.leads }))
 
-pub told : SomeCompiledLaw → BegunLaw → SomeReplyLaw → OneReplyLaw → KeptLaw Stands Replies → Many_law Stands Replies → ToldLaw
+pub told : SomeCompiledLaw → BegunLaw → SomeReplyLaw → OneReplyLaw → KeptLaw IsConsistent Replies → Many_law IsConsistent Replies → ToldLaw
 told compiled begins reply once kept some input fuel accepted =
     let c = compiled input accepted in
     let p = c.0 in
     let reads = c.1 in
-    let t = told-for reply once kept some (opened p fuel) (begins p fuel c.2).sound [] (script_lines (script_of input reads.part)) tt in
+    let t = told-for reply once kept some (situation_at_start p fuel) (begins p fuel c.2).sound [] (script_lines (script_of input reads.part)) tt in
     (t.0, inl (record { part = reads.part; split = reads.split; program = p.typed; reads = reads; code = p.code; is_code = c.2.code }, t.1))
 
 -- bytes have one of the lines
@@ -175,7 +175,7 @@ generated accepted compiled begins reply scripts kind seed size short =
     let c = compiled input (accepted kind seed size short) in
     let p = c.0 in
     let reads = c.1 in
-    let w = some-from-run reply scripts (opened p DEFAULT_FUEL) (script_lines (script_of input reads.part)) (begins p DEFAULT_FUEL c.2).sound in (
+    let w = some-from-run reply scripts (situation_at_start p DEFAULT_FUEL) (script_lines (script_of input reads.part)) (begins p DEFAULT_FUEL c.2).sound in (
       w.0,
       (
         record { part = reads.part; split = reads.split; program = p.typed; reads = reads; code = p.code; is_code = c.2.code },

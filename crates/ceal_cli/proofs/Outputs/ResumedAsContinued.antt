@@ -6,9 +6,9 @@ use Rattle.ceal_script.specs.Lines.{IsLineOf}
 use Rattle.ceal_script.specs.Words.{HasWords}
 use Rattle.ceal_script.specs.declared.command.Command.TheVariants.{Blank}
 use Rattle.ceal_session.specs.Laws.{OneCommandLaw}
-use Rattle.ceal_session.specs.Replies.{Replies, Leads, behind}
+use Rattle.ceal_session.specs.Replies.{Replies, Leads, situation_after}
 use Rattle.ceal_session.specs.State.{Situation, numbers_in}
-use Rattle.ceal_session.specs.Steps.{answered_line}
+use Rattle.ceal_session.specs.Steps.{step_of_line}
 use Rattle.ceal_session.specs.Texts.{IsText}
 use Rattle.ceal_session.specs.Works.{past_in}
 use Rattle.ceal_snap.specs.SaveText.{Save, head_text, save_text}
@@ -22,8 +22,8 @@ empty-is-blank = record { words = []; has_words = tt; says = tt }
 empty-line : OneCommandLaw → (m : Situation) (text : List ℕ) (n : Situation) → Replies m [] text n → (text ≡ []) × (n ≡ m)
 empty-line one m text n h =
     let is : h.command ≡ Some Blank = one [] h.command (Some Blank) h.reads empty-is-blank in (
-      subst (λ c. IsText m.state (numbers_in m) (answered_line m.state (goes (past_in m c)) c).reply text) is h.reply,
-      h.next ∙ ap (behind m) is,
+      subst (λ c. IsText m.state (numbers_in m) (step_of_line m.state (goes (past_in m c)) c).reply text) is h.reply,
+      h.next ∙ ap (situation_after m) is,
     )
 
 -- so it may be left out after others

@@ -8,21 +8,21 @@ use Rattle.ceal_io.specs.declared.streams.Stopped.{Stopped}
 use Rattle.ceal_lex.specs.Parts.{IsSplit}
 use Rattle.ceal_lex.specs.declared.parts.Split.{Split}
 use Rattle.ceal_session.specs.Laws.{KeptLaw, SomeScriptLaw}
-use Rattle.ceal_session.specs.Saving.{Holding, resumed}
+use Rattle.ceal_session.specs.SessionSave.{SaveHolds, situation_of_save}
 use Rattle.ceal_session.specs.State.{Situation}
 use Rattle.ceal_snap.specs.SaveText.{Save}
-use Rattle.ceal_cli.specs.Going.{IsSaveRead, GoesOn, IsUnsound}
-use Rattle.ceal_cli.specs.Growth.{Puts, Writes}
+use Rattle.ceal_cli.specs.ResumedInput.{IsSaveRead, ContinuesFromSave, IsUnsound}
+use Rattle.ceal_cli.specs.SinkGrowth.{Puts, Writes}
 use Rattle.ceal_cli.specs.Lines.{script_of, script_lines}
 use Rattle.ceal_cli.specs.Output.{Begins, IsOutput, IsRefusal, IsTaken, Programmed}
 use Rattle.ceal_cli.specs.Resumed.{Resumption, IsResumable, IsNotResumed, IsRepliedAfter, unreadable_save, not_holding}
-use Rattle.ceal_cli.specs.Serving.{AreServed, BeginServed}
+use Rattle.ceal_cli.specs.ServedLines.{AreServed, BeginServed}
 use Rattle.ceal_cli.specs.declared.words.Mode.TheVariants.{Resume}
 use Rattle.ceal_cli.proofs.Sessions.GrowingReplies.{puts_as}
 use Rattle.ceal_cli.proofs.Sessions.SessionLeads.{served}
 use Rattle.ceal_cli.proofs.Sessions.ReplyPrefixes.{begun}
 
-pub unsound : (code : Code) (bytes : List ℕ) (part : Split) → IsSplit bytes part → (s : Save) → IsSaveRead bytes part (Ok s) → (Holding code s → ⊥) → IsUnsound code bytes
+pub unsound : (code : Code) (bytes : List ℕ) (part : Split) → IsSplit bytes part → (s : Save) → IsSaveRead bytes part (Ok s) → (SaveHolds code s → ⊥) → IsUnsound code bytes
 unsound code bytes part is s h none = (record { part = part; split = is; marked = h.0; saved = s; is = h.1 }, none)
 
 module _ (input : List ℕ) (part : Split) (is : IsSplit input part) (p : Program) (reads : IsProgram input p.typed) (compiled : IsCompiled p)
@@ -31,7 +31,7 @@ module _ (input : List ℕ) (part : Split) (is : IsSplit input part) (p : Progra
   programmed = record { part = part; split = is; program = p.typed; reads = reads; code = p.code; is_code = compiled.code }
 
   -- of the replies to the second script
-  module _ (second : Split) (split : IsSplit bytes second) (session : Situation) (g : GoesOn p bytes second session) where
+  module _ (second : Split) (split : IsSplit bytes second) (session : Situation) (g : ContinuesFromSave p bytes second session) where
     from : Resumption bytes
     from = record { part = second; split = split; marked = g.marked; saved = g.saved; is = g.is }
 
@@ -39,7 +39,7 @@ module _ (input : List ℕ) (part : Split) (is : IsSplit input part) (p : Progra
     lines = script_lines (script_of bytes second)
 
     abbrev start : Situation
-    start = resumed p.typed p.code g.saved g.resumed.trace
+    start = situation_of_save p.typed p.code g.saved g.resumed.trace
 
     pub taken : IsTaken Resume input
     unfolding programmed from

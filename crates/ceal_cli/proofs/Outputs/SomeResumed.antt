@@ -9,14 +9,14 @@ use Rattle.ceal_compile.specs.Source.{Comes, IsAccepted}
 use Rattle.ceal_dump.proofs.Decided.{Decided}
 use Rattle.ceal_lex.specs.Parts.{IsSplit, source_of}
 use Rattle.ceal_lex.specs.declared.parts.Split.{Split}
-use Rattle.ceal_session.specs.Saving.{Holding}
+use Rattle.ceal_session.specs.SessionSave.{SaveHolds}
 use Rattle.ceal_snap.specs.Answers.{OneSaveLaw, SaveOrNoneLaw}
 use Rattle.ceal_snap.specs.SaveText.{Save, IsSave}
 use Rattle.ceal_traceck.specs.Laws.{OneVerdictLaw, SomeVerdictLaw}
 use Rattle.ceal_cli.specs.Laws.{CheckedLaw, DumpedLaw, JudgedLaw, ListedLaw, RefusedLaw, RepliedLaw, SavedLaw, SomeOutputLaw, TakenLaw, ToldLaw, UnresumedLaw}
 use Rattle.ceal_cli.specs.Lines.{script_of}
 use Rattle.ceal_cli.specs.Modes.{ReadsInput}
-use Rattle.ceal_cli.specs.Output.{IsOutput, Programmed, bytes_behind}
+use Rattle.ceal_cli.specs.Output.{IsOutput, Programmed, bytes_after_mark}
 use Rattle.ceal_cli.specs.Resumed.{Resumption, IsNotResumed, IsResumable, not_holding, unreadable_save}
 use Rattle.ceal_cli.specs.declared.words.Mode.{Mode}
 use Rattle.ceal_cli.specs.declared.words.Mode.TheVariants.{Check, List as Listing, Run, Gen, Dump, Verify, Many, Save as SaveMode, Resume}
@@ -57,18 +57,18 @@ module _ (split : SplitLaw) (some : SomeSplitLaw) (saves : SaveOrNoneLaw) (bytes
       by-save (inl r) = (not_holding, inr (r, (λ h. none (r, h)), refl))
       by-save (inr absent) = (unreadable_save, inl (absent, refl))
 
-  resumed-or-not : OneSaveLaw → (code : Code) → ((s : Save) → Decided (Holding code s)) → Decided (IsResumable code bytes)
+  resumed-or-not : OneSaveLaw → (code : Code) → ((s : Save) → Decided (SaveHolds code s)) → Decided (IsResumable code bytes)
   resumed-or-not one code holds = by-save found
     where
-      by-holding : (r : Resumption bytes) → Decided (Holding code r.saved) → Decided (IsResumable code bytes)
+      by-holding : (r : Resumption bytes) → Decided (SaveHolds code r.saved) → Decided (IsResumable code bytes)
       by-holding r (inl h) = inl (r, h)
-      by-holding r (inr none) = inr (λ k. none (subst (λ v. Holding code v) (one-saved split one bytes k.0 r) k.1))
+      by-holding r (inr none) = inr (λ k. none (subst (λ v. SaveHolds code v) (one-saved split one bytes k.0 r) k.1))
 
       by-save : Decided (Resumption bytes) → Decided (IsResumable code bytes)
       by-save (inl r) = by-holding r (holds r.saved)
       by-save (inr absent) = inr (λ k. absent k.0)
 
-behind-small : (input : List ℕ) (p : Programmed input) → length (bytes_behind p) < 2 ^ 32
+behind-small : (input : List ℕ) (p : Programmed input) → length (bytes_after_mark p) < 2 ^ 32
 behind-small input p =
     let size = length-drop p.part.script.from input in
     let whole = p.split.small in
@@ -83,7 +83,7 @@ with-code compiled input accepted =
 pub unresumed : SplitLaw → SomeSplitLaw → SaveOrNoneLaw → SomeCompiledLaw → UnresumedLaw
 unresumed split some saves compiled input accepted none =
     let p = with-code compiled input accepted in
-    let line = not-resumed split some saves (bytes_behind p) (behind-small input p) p.code (λ h. none (p, h)) in
+    let line = not-resumed split some saves (bytes_after_mark p) (behind-small input p) p.code (λ h. none (p, h)) in
     (line.0, (tt, inr (p, line.1)))
 
 -- what is known of saves and of the checker
@@ -103,15 +103,15 @@ module _ (known : Judged) (input : List ℕ) (accepted : IsAccepted input) where
   abbrev p : Programmed input
   p = with-code known.compiled input accepted
 
-  there : (q : Programmed input) → IsResumable q.code (bytes_behind q) → IsResumable p.code (bytes_behind p)
+  there : (q : Programmed input) → IsResumable q.code (bytes_after_mark q) → IsResumable p.code (bytes_after_mark p)
   there q h = read-again (λ part program k. IsResumable k (script_of input part)) input q p (one-reading known.split known.answer known.code input q p) h
 
-  by-test : Decided (IsResumable p.code (bytes_behind p)) → (out : List ℕ) × IsOutput Resume input out
+  by-test : Decided (IsResumable p.code (bytes_after_mark p)) → (out : List ℕ) × IsOutput Resume input out
   by-test (inl h) = let w = known.taken input (p, h) in (w.0, inl w.1)
   by-test (inr none) = let w = unresumed known.split known.some known.saves known.compiled input accepted (λ h. none (there h.0 h.1)) in (w.0, inr w.1)
 
   pub resumed : (out : List ℕ) × IsOutput Resume input out
-  resumed = by-test (resumed-or-not known.split known.some known.saves (bytes_behind p) (behind-small input p) known.one p.code (holds-or-not known.verdicts known.verdict p.code))
+  resumed = by-test (resumed-or-not known.split known.some known.saves (bytes_after_mark p) (behind-small input p) known.one p.code (holds-or-not known.verdicts known.verdict p.code))
 
 -- an input is accepted, or it is not
 accepted-or-not : ComingLaw → AnswerLaw → (input : List ℕ) → length input < 2 ^ 32 → Decided (IsAccepted input)

@@ -8,11 +8,11 @@ use Rattle.ceal_compile.specs.Laws.{OneCodeLaw, SomeCompiledLaw}
 use Rattle.ceal_compile.specs.declared.program.Program.{Program}
 use Rattle.ceal_session.specs.Laws.{SomeReplyLaw}
 use Rattle.ceal_session.specs.Replies.{Leads}
-use Rattle.ceal_session.specs.Saving.{resumed}
-use Rattle.ceal_session.specs.Standing.{Stands}
+use Rattle.ceal_session.specs.SessionSave.{situation_of_save}
+use Rattle.ceal_session.specs.Consistency.{IsConsistent}
 use Rattle.ceal_session.specs.State.{Situation}
 use Rattle.ceal_session.specs.Strangers.{AreAlike, StrangerLaw, with_first}
-use Rattle.ceal_cli.specs.ManySessions.{joined}
+use Rattle.ceal_cli.specs.ManySessions.{joined_texts}
 use Rattle.ceal_cli.specs.Output.{Programmed}
 use Rattle.ceal_cli.specs.Resumed.{lines_after}
 use Rattle.ceal_cli.specs.StrangerOutput.{AreBeside, StrangerOutputLaw}
@@ -22,10 +22,10 @@ use Rattle.ceal_cli.proofs.Inputs.OneReading.{SameReading, SplitLaw, AnswerLaw, 
 record Beside (m n : Situation) (lines : List (List ℕ)) (out : List ℕ) : Type 0 where
   texts : List (List ℕ)
   others : List (List ℕ)
-  whole : out ≡ joined texts
+  whole : out ≡ joined_texts texts
   beside : AreBeside m n lines texts others
 
-line-by-line : SomeReplyLaw → (lines : List (List ℕ)) (m n : Situation) (out : List ℕ) (end : Situation) → AreAlike m n lines → Stands n → Leads m lines out end → Beside m n lines out
+line-by-line : SomeReplyLaw → (lines : List (List ℕ)) (m n : Situation) (out : List ℕ) (end : Situation) → AreAlike m n lines → IsConsistent n → Leads m lines out end → Beside m n lines out
 unfolding AreAlike Leads
 line-by-line some [] m n out end alike stands (e, same) = record { texts = []; others = []; whole = e; beside = AreBeside.none }
 line-by-line some (line ∷ lines) m n out end alike stands (text, mid, rest, replies, more, e) =
@@ -52,5 +52,6 @@ pub stranger-output : SplitLaw → AnswerLaw → OneCodeLaw → SomeCompiledLaw 
 stranger-output split answer code compiled some stranger input out (p, h) =
     let program : Program = record { typed = p.program; code = p.code } in
     let as-first = stranger program h.from.saved h.trace (compiled-as split answer code compiled input p) h.holds h.items (lines_after h.from) in
-    let r = line-by-line some (lines_after h.from) (resumed p.program p.code h.from.saved h.trace) (with_first p.program p.code h.from.saved) out h.end as-first.alike as-first.stands h.leads in
+    let r = line-by-line some (lines_after h.from) (situation_of_save p.program p.code h.from.saved h.trace)
+        (with_first p.program p.code h.from.saved) out h.end as-first.alike as-first.stands h.leads in
     (r.texts, r.others, r.whole, r.beside)

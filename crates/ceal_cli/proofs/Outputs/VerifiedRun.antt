@@ -1,5 +1,6 @@
 -- What a yes of the checker says of the source.
 use Rattle.std.proofs.Common.{◌≡◌, inl, inr, ℕ, Ok, List, length, refl, sym, ◌∙◌, subst, arith}
+use Rattle.ceal_base.specs.Block.{alone}
 use Rattle.ceal_base.specs.Trace.{steps_in}
 use Rattle.ceal_base.specs.declared.recorded.Record.{Record}
 use Rattle.ceal_compile.specs.Compiled.{IsCodeOf, IsCompiled}
@@ -7,13 +8,12 @@ use Rattle.ceal_compile.specs.Laws.{OneCodeLaw}
 use Rattle.ceal_compile.specs.declared.program.Program.{Program}
 use Rattle.ceal_dump.specs.DumpText.{IsDump}
 use Rattle.ceal_session.proofs.Engine.ProgramAndCode.{core-of}
-use Rattle.ceal_session.specs.Runs.{inputs_alone}
 use Rattle.ceal_traceck.specs.Laws.{Sound, SoundLaw}
 use Rattle.ceal_traceck.specs.Verdicts.{Means}
 use Rattle.ceal_traceck.specs.declared.verdict.Verdict.{Verdict}
 use Rattle.ceal_traceck.specs.declared.verdict.Verdict.TheVariants.{Yes, NoFit, NotReplay, NotHonest, MemoryDiffers}
 use Rattle.ceal_cli.specs.Laws.{Verified, VerifiedLaw}
-use Rattle.ceal_cli.specs.Output.{bytes_behind}
+use Rattle.ceal_cli.specs.Output.{bytes_after_mark}
 use Rattle.ceal_cli.specs.Verdicts.{verdict_text, unreadable_text}
 use Rattle.ceal_cli.proofs.Inputs.OneReading.{AnswerLaw}
 
@@ -32,7 +32,7 @@ readable e = cc e
 of-source : (sound : SoundLaw) (p : Program) → IsCompiled p → (bytes : List ℕ) (r : Record) → IsDump bytes r → Means p.code r Yes → Verified p.typed bytes
 of-source sound p compiled bytes r is means =
     let s : Sound p.code r = sound p.code r means in
-    let core = core-of p.typed p.code compiled.code p.code.structs (inputs_alone r.inputs) r.args r.function means.0.call.words in
+    let core = core-of p.typed p.code compiled.code p.code.structs (alone r.inputs) r.args r.function means.0.call.words in
     record {
       kept = r;
       dump = is;
@@ -53,4 +53,4 @@ verified-law answer code sound input p reads compiled (q, inr (r, v, is, means, 
     let programs : q.program ≡ p.typed = cc same in
     let codes : q.code ≡ p.code = code p.typed q.code p.code (subst (λ t. IsCodeOf t q.code) programs q.is_code) compiled.code in
     let yes : Means q.code r Yes = subst (λ w. Means q.code r w) (is-yes v e) means in
-    of-source sound p compiled (bytes_behind q) r is (subst (λ c. Means c r Yes) codes yes)
+    of-source sound p compiled (bytes_after_mark q) r is (subst (λ c. Means c r Yes) codes yes)

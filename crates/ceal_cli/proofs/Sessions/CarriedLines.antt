@@ -1,7 +1,7 @@
 -- Lines that are carried out, one after another.
 use Rattle.std.proofs.Common.{ℕ, List, [], ◌∷◌, refl}
 use Rattle.ceal_session.specs.State.{Situation}
-use Rattle.ceal_cli.specs.Serving.{Serves, Carries}
+use Rattle.ceal_cli.specs.ServedLines.{Serves, Carries}
 
 -- what carries out the lines that are left carries out all
 abbrev pub CarriedSoFar : Situation → Situation → List (List ℕ) → List (List ℕ) → Type 0

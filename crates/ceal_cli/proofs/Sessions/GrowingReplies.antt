@@ -7,8 +7,8 @@ use Rattle.ceal_io.specs.Streams.{GrowsByPrefix, Rose}
 use Rattle.ceal_io.specs.declared.streams.Stopped.{Stopped}
 use Rattle.ceal_io.specs.declared.streams.Stopped.TheVariants.{Failed}
 use Rattle.ceal_session.specs.State.{Situation}
-use Rattle.ceal_cli.specs.Growth.{Grows, Puts, Writes}
-use Rattle.ceal_cli.specs.Serving.{Serves, AreServed, BeginServed, IsReply, WritesReply, WritesPart, BeginsReply, WritesReplies, BeginsToReply}
+use Rattle.ceal_cli.specs.SinkGrowth.{Grows, Puts, Writes}
+use Rattle.ceal_cli.specs.ServedLines.{Serves, AreServed, BeginServed, IsReply, WritesReply, WritesPart, BeginsReply, WritesReplies, BeginsToReply}
 use Rattle.ceal_cli.specs.Output.{IsPrefix, Begins}
 
 -- what was written of a piece begins it

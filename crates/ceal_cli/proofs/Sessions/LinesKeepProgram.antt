@@ -13,7 +13,7 @@ use Rattle.ceal_session.specs.Replies.{Replies, Leads}
 use Rattle.ceal_session.specs.Runs.{memory_of}
 use Rattle.ceal_session.specs.Senses.{place_sense, value_sense, is_unknown, words_of, mod_shape, struct_shape, struct_named, function_named}
 use Rattle.ceal_session.specs.State.{State, Situation}
-use Rattle.ceal_session.specs.Steps.{Step, answered_line, block_of, called, called_again, fits_cell, made_of, made, made_with, runs, set, set_word}
+use Rattle.ceal_session.specs.Steps.{Step, step_of_line, block_of, call_of_run, call_again, fits_cell, step_of_shape, step_of_input, step_of_words, runs, step_of_set, step_of_word}
 use Rattle.ceal_session.specs.Works.{past_in}
 use Rattle.ceal_session.specs.declared.refusal.Refusal.{Refusal}
 use Rattle.ceal_session.specs.declared.sense.Sense.{Sense}
@@ -28,21 +28,21 @@ by-test : (s : State) (b : Bool) (x y : Step) → Keeps s x.state → Keeps s y.
 by-test s true x y h k = h
 by-test s false x y h k = k
 
-made-keeps : (s : State) (name : List ℕ) (shape : Shape) (senses : List Sense) → Keeps s (made s name shape senses).state
+made-keeps : (s : State) (name : List ℕ) (shape : Shape) (senses : List Sense) → Keeps s (step_of_input s name shape senses).state
 unfolding Keeps
 made-keeps s name shape senses =
     by-test s (list_any is_unknown senses) _ _ (refl, refl) (by-test s (list_any (bytes_eq name) s.names) _ _ (refl, refl) (by-words (words_of senses)))
   where
-    by-words : (o : Option (List Word)) → Keeps s (made_with s name shape o).state
+    by-words : (o : Option (List Word)) → Keeps s (step_of_words s name shape o).state
     by-words None = (refl, refl)
     by-words (Some words) = by-test s (block_fits s.program.structs (memory_of s) (block_of shape words)) _ _ (refl, refl) (refl, refl)
 
-made-of-keeps : (s : State) (name : List ℕ) (o : Option Shape) (senses : List Sense) → Keeps s (made_of s name o senses).state
+made-of-keeps : (s : State) (name : List ℕ) (o : Option Shape) (senses : List Sense) → Keeps s (step_of_shape s name o senses).state
 unfolding Keeps
 made-of-keeps s name None senses = (refl, refl)
 made-of-keeps s name (Some shape) senses = made-keeps s name shape senses
 
-set-word-keeps : (s : State) (place value : Sense) → Keeps s (set_word s place value).state
+set-word-keeps : (s : State) (place value : Sense) → Keeps s (step_of_word s place value).state
 unfolding Keeps
 set-word-keeps s (IsWord (At p)) (IsWord word) = by-test s (fits_cell s (kind_at s.program.structs (memory_of s) p) word) _ _ (refl, refl) (refl, refl)
 set-word-keeps s (IsWord (At p)) Unknown = (refl, refl)
@@ -53,7 +53,7 @@ set-word-keeps s (IsWord (BlockWord b)) value = (refl, refl)
 set-word-keeps s Unknown value = (refl, refl)
 set-word-keeps s Plain value = (refl, refl)
 
-set-keeps : (s : State) (place value : Sense) → Keeps s (set s place value).state
+set-keeps : (s : State) (place value : Sense) → Keeps s (step_of_set s place value).state
 unfolding Keeps
 set-keeps s place value = by-test s (is_unknown place || is_unknown value) _ _ (refl, refl) (set-word-keeps s place value)
 
@@ -64,16 +64,16 @@ runs-keeps s None more (Ok call) = (refl, refl)
 runs-keeps s (Some n) true (Ok call) = (refl, refl)
 runs-keeps s (Some n) false (Ok call) = (refl, refl)
 
-answer-keeps : (s : State) (more : Bool) (c : Option Command) → Keeps s (answered_line s more c).state
+answer-keeps : (s : State) (more : Bool) (c : Option Command) → Keeps s (step_of_line s more c).state
 unfolding Keeps
 answer-keeps s more None = (refl, refl)
 answer-keeps s more (Some Blank) = (refl, refl)
 answer-keeps s more (Some (Mod name kind value)) = made-of-keeps s name (mod_shape s kind) (value_sense s value ∷ [])
 answer-keeps s more (Some (New name shape values)) = made-of-keeps s name (struct_shape (struct_named s shape)) (map (value_sense s) values)
 answer-keeps s more (Some (Set place value)) = set-keeps s (place_sense s place) (value_sense s value)
-answer-keeps s more (Some (Run function args)) = runs-keeps s None more (called s (function_named s function) (map (value_sense s) args))
-answer-keeps s more (Some Propagate) = runs-keeps s None more (called_again s.call)
-answer-keeps s more (Some (Slice reads)) = runs-keeps s (Some reads) more (called_again s.call)
+answer-keeps s more (Some (Run function args)) = runs-keeps s None more (call_of_run s (function_named s function) (map (value_sense s) args))
+answer-keeps s more (Some Propagate) = runs-keeps s None more (call_again s.call)
+answer-keeps s more (Some (Slice reads)) = runs-keeps s (Some reads) more (call_again s.call)
 answer-keeps s more (Some (Get place)) = (refl, refl)
 answer-keeps s more (Some (Show name)) = (refl, refl)
 answer-keeps s more (Some Blocks) = (refl, refl)

@@ -9,11 +9,11 @@ use Rattle.ceal_many.specs.Sessions.{Named}
 use Rattle.ceal_many.specs.declared.entry.Entry.{Entry}
 use Rattle.ceal_session.specs.Laws.{OneReplyLaw, SomeReplyLaw as Session_law}
 use Rattle.ceal_session.specs.Replies.{Replies}
-use Rattle.ceal_session.specs.Standing.{Stands}
+use Rattle.ceal_session.specs.Consistency.{IsConsistent}
 use Rattle.ceal_session.specs.State.{Situation}
-use Rattle.ceal_cli.specs.ManySessions.{joined, AreTold}
+use Rattle.ceal_cli.specs.ManySessions.{joined_texts, AreTold}
 use Rattle.ceal_cli.specs.Members.{AreIn, Answered}
-use Rattle.ceal_cli.specs.Growth.{Grows}
+use Rattle.ceal_cli.specs.SinkGrowth.{Grows}
 use Rattle.ceal_cli.specs.Output.{Begins}
 use Rattle.ceal_cli.specs.declared.members.Member.{Member}
 use Rattle.ceal_cli.proofs.Sessions.GrowingReplies.{weaker}
@@ -26,7 +26,7 @@ pub record ToldSoFar (old now : Option (List ℕ)) (first : Situation) (all left
   pub appends : Appends old now part
   pub situations : List (Named Situation)
   pub are_in : AreIn sessions situations
-  pub sound : AllMeet Stands situations
+  pub sound : AllMeet IsConsistent situations
   pub whole : (out : List ℕ) → AreTold first situations left out → AreTold first [] all (part ++ out)
 
 pub none-told : (a : Option (List ℕ)) (first : Situation) (lines : List (List ℕ)) (sessions : List (Entry Member)) → sessions ≡ [] → ToldSoFar a a first lines lines sessions
@@ -44,14 +44,14 @@ no-lines : (first : Situation) (ss : List (Named Situation)) → AreTold first s
 unfolding AreReplies
 no-lines first ss = record { texts = []; next = ss; replies = (refl, refl); whole = refl }
 
-module _ (session : Session_law) (once : OneReplyLaw) (kept : KeptLaw Stands Replies) (some : SomeReplyLaw Stands Replies) (first : Situation) (begins : Stands first) where
+module _ (session : Session_law) (once : OneReplyLaw) (kept : KeptLaw IsConsistent Replies) (some : SomeReplyLaw IsConsistent Replies) (first : Situation) (begins : IsConsistent first) where
   -- there is a text of replies
-  pub told-for : (ss : List (Named Situation)) (lines : List (List ℕ)) → AllMeet Stands ss → (out : List ℕ) × AreTold first ss lines out
+  pub told-for : (ss : List (Named Situation)) (lines : List (List ℕ)) → AllMeet IsConsistent ss → (out : List ℕ) × AreTold first ss lines out
   told-for ss lines h =
       let t = some first ss lines (goes-on session) begins h in
-      (joined t.0, record { texts = t.0; next = t.1; replies = t.2; whole = refl })
+      (joined_texts t.0, record { texts = t.0; next = t.1; replies = t.2; whole = refl })
 
-  sound-next : (ss next : List (Named Situation)) (line text : List ℕ) → AllMeet Stands ss → Answers Replies first ss line text next → AllMeet Stands next
+  sound-next : (ss next : List (Named Situation)) (line text : List ℕ) → AllMeet IsConsistent ss → Answers Replies first ss line text next → AllMeet IsConsistent next
   sound-next ss next line text h answers = kept first ss next line text (keeps session once) begins h answers
 
   module _ (a b c : Option (List ℕ)) (all lines : List (List ℕ)) (line : List ℕ) (old new : List (Entry Member)) (so_far : ToldSoFar a b first all (line ∷ lines) old) where

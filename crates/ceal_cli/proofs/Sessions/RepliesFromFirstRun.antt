@@ -4,7 +4,7 @@ use Rattle.std.specs.List.{starts_with}
 use Rattle.std.proofs.lemmas.Bool.Decides.{Decides-eqb}
 use Rattle.std.proofs.lemmas.Slice.Eq.{starts_is}
 use Rattle.ceal_session.specs.State.{Situation}
-use Rattle.ceal_cli.specs.Serving.{Serves, AreServedFromRun, BeginServedFromRun, WritesReplies, BeginsToReply, WritesFromRun, BeginsFromRun}
+use Rattle.ceal_cli.specs.ServedLines.{Serves, AreServedFromRun, BeginServedFromRun, WritesReplies, BeginsToReply, WritesFromRun, BeginsFromRun}
 use Rattle.ceal_cli.specs.Output.{IsRunLine}
 use Rattle.ceal_cli.proofs.Sessions.GrowingReplies.{nothing, weaker}
 

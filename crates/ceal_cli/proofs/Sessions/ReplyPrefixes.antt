@@ -4,10 +4,10 @@ use Rattle.std.specs.List.{starts_with}
 use Rattle.std.proofs.lemmas.Bool.{false≢true}
 use Rattle.ceal_session.specs.Laws.{AnswersIn, KeptLaw, SomeReplyLaw, SomeScriptLaw}
 use Rattle.ceal_session.specs.Replies.{Leads}
-use Rattle.ceal_session.specs.Standing.{IsIn, Stands}
+use Rattle.ceal_session.specs.Consistency.{IsIn, IsConsistent}
 use Rattle.ceal_session.specs.State.{Situation}
 use Rattle.ceal_cli.specs.Output.{IsPrefix, IsRunLine, LeadsFromRun}
-use Rattle.ceal_cli.specs.Serving.{BeginServed, BeginServedFromRun}
+use Rattle.ceal_cli.specs.ServedLines.{BeginServed, BeginServedFromRun}
 use Rattle.ceal_cli.proofs.Sessions.RepliesFromFirstRun.{run_line}
 
 pub nothing-first : (out whole : List ℕ) → out ≡ [] → IsPrefix out whole
@@ -39,7 +39,7 @@ run-or-not line false e P here later = later (λ h. false≢true ((run_line line
 
 module _ (reply : SomeReplyLaw) (script : SomeScriptLaw) where
   -- there is a text from the first run on
-  pub some-from-run : (s : Situation) (lines : List (List ℕ)) → Stands s → (text : List ℕ) × (end : Situation) × LeadsFromRun s lines text end
+  pub some-from-run : (s : Situation) (lines : List (List ℕ)) → IsConsistent s → (text : List ℕ) × (end : Situation) × LeadsFromRun s lines text end
   unfolding LeadsFromRun
   some-from-run s [] st = ([], s, (refl, refl))
   some-from-run s (line ∷ lines) st =

@@ -11,17 +11,17 @@ use Rattle.ceal_compile.specs.declared.program.Program.{Program}
 use Rattle.ceal_dump.specs.DumpText.{dump_text}
 use Rattle.ceal_record.specs.Laws.{RenamedLaw}
 use Rattle.ceal_record.specs.Recorded.{IsRecordOf}
-use Rattle.ceal_session.specs.Asking.{IsReady}
-use Rattle.ceal_session.specs.Following.{Repairs, IsLeft, dropped, opened}
+use Rattle.ceal_session.specs.Questions.{IsReady}
+use Rattle.ceal_session.specs.AfterLine.{IsAfterLine, IsAfterNoMemory, situation_out_of_fuel, situation_at_start}
 use Rattle.ceal_session.specs.Laws.{AnswersIn, BegunLaw, DroppedLaw, KeptLaw, SomeReplyLaw, OneReplyLaw}
-use Rattle.ceal_session.specs.Recording.{IsRecorded}
-use Rattle.ceal_session.specs.Replies.{opening, Answers, Replies}
-use Rattle.ceal_session.specs.Runs.{begun}
-use Rattle.ceal_session.specs.Saves.{SavedLaw}
-use Rattle.ceal_session.specs.Saving.{IsSaved}
-use Rattle.ceal_session.specs.Standing.{IsIn, IsSamePast, Stands}
-use Rattle.ceal_session.specs.State.{State, Situation, completed, last, numbers_in}
-use Rattle.ceal_session.specs.Steps.{asked, call_of, has_no_run}
+use Rattle.ceal_session.specs.RunRecord.{IsRecorded}
+use Rattle.ceal_session.specs.Replies.{situation_without_run, Answers, Replies}
+use Rattle.ceal_session.specs.Runs.{state_at_start}
+use Rattle.ceal_session.specs.SaveLaws.{SavedLaw}
+use Rattle.ceal_session.specs.SessionSave.{IsSaved}
+use Rattle.ceal_session.specs.Consistency.{IsIn, IsSamePast, IsConsistent}
+use Rattle.ceal_session.specs.State.{State, Situation, trace_in_past, last, numbers_in}
+use Rattle.ceal_session.specs.Steps.{reply_to_query, call_of, has_no_run}
 use Rattle.ceal_session.specs.declared.refusal.Refusal.TheVariants.{C7, C8}
 use Rattle.ceal_session.specs.declared.reply.Query.TheVariants.{Steps}
 use Rattle.ceal_session.specs.declared.reply.Reply.TheVariants.{Refused, Told}
@@ -31,27 +31,27 @@ use Rattle.ceal_theory.specs.Laws.{RenamedRepair}
 use Rattle.ceal_theory.specs.Pasts.{Past, SamePast, goes}
 use Rattle.ceal_cli.specs.Dumps.{IsRecordIn, IsWrittenBy, IsWrittenOf, IsDumpOf, no_run_text}
 use Rattle.ceal_cli.specs.Saves.{save_of, with_source, IsSaveOf}
-use Rattle.ceal_cli.specs.Serving.{IsDumpFrom, IsSaveFrom}
+use Rattle.ceal_cli.specs.ServedLines.{IsDumpFrom, IsSaveFrom}
 
 -- each line has a reply, and the situation after it is one that a session comes to
-pub goes-on : SomeReplyLaw → (s : Situation) (line : List ℕ) → Stands s → (text : List ℕ) × (n : Situation) × Replies s line text n × Stands n
+pub goes-on : SomeReplyLaw → (s : Situation) (line : List ℕ) → IsConsistent s → (text : List ℕ) × (n : Situation) × Replies s line text n × IsConsistent n
 goes-on law s line h = let a = law s line h in (a.text, a.next, a.replies, a.stands)
 
-pub keeps : SomeReplyLaw → OneReplyLaw → (s : Situation) (line text : List ℕ) (n : Situation) → Stands s → Replies s line text n → Stands n
-keeps law once s line text n h r = let a = law s line h in subst Stands (once s line a.text text a.next n a.replies r).1 a.stands
+pub keeps : SomeReplyLaw → OneReplyLaw → (s : Situation) (line text : List ℕ) (n : Situation) → IsConsistent s → Replies s line text n → IsConsistent n
+keeps law once s line text n h r = let a = law s line h in subst IsConsistent (once s line a.text text a.next n a.replies r).1 a.stands
 
 -- a session that begins with the same program
-pub in-again : BegunLaw → (p q : Program) (fuel : ℕ) → IsCompiled p → q.typed ≡ p.typed → q.code ≡ p.code → IsIn (opened q fuel) (opened p fuel)
+pub in-again : BegunLaw → (p q : Program) (fuel : ℕ) → IsCompiled p → q.typed ≡ p.typed → q.code ≡ p.code → IsIn (situation_at_start q fuel) (situation_at_start p fuel)
 in-again begins p q fuel compiled e f =
-    subst (λ m. IsIn m (opened p fuel)) (ap₂ (λ (c : Code) (t : Typed). opening c (begun t fuel)) (sym f) (sym e)) (begins p fuel compiled)
+    subst (λ m. IsIn m (situation_at_start p fuel)) (ap₂ (λ (c : Code) (t : Typed). situation_without_run c (state_at_start t fuel)) (sym f) (sym e)) (begins p fuel compiled)
 
 -- where there was no memory for the answer, what is left of a session is in what is left of the situation
-pub left-in : DroppedLaw → (m n s : Situation) (line : List ℕ) → IsIn m s → IsLeft m line n → (t : Situation) × IsIn n t × IsLeft s line t
+pub left-in : DroppedLaw → (m n s : Situation) (line : List ℕ) → IsIn m s → IsAfterNoMemory m line n → (t : Situation) × IsIn n t × IsAfterNoMemory s line t
 left-in law m n s line h (inl e) = (s, subst (λ x. IsIn x s) (sym e) h, inl refl)
 left-in law m n s line h (inr d) =
     let runs : call_of s.state d.command ≡ Ok d.call = subst (λ st. call_of st d.command ≡ Ok d.call) h.state d.runs in (
-      dropped s d.call,
-      subst (λ x. IsIn x (dropped s d.call)) (sym d.left) (law m s d.command d.call h runs),
+      situation_out_of_fuel s d.call,
+      subst (λ x. IsIn x (situation_out_of_fuel s d.call)) (sym d.left) (law m s d.command d.call h runs),
       inr (record { command = d.command; reads = d.reads; call = d.call; runs = runs; left = refl }),
     )
 
@@ -65,19 +65,19 @@ module _ (renamed : RenamedLaw) (m s : Situation) (h : IsIn m s) where
         let here : IsRecordOf s.code s.state.inputs call b.items r = subst (λ (x : Repaired). IsRecordOf s.code s.state.inputs call x.items r) same is in
         renamed s.code s.state.inputs call ps a.items b.items r one alike here
 
-    by-past : (f : ℕ) (args : List Word) (p q : Past) → SamePast s.code s.state.inputs f args p q → completed q ≡ Some run → IsRecordIn s (Some call) (completed p) r
+    by-past : (f : ℕ) (args : List Word) (p q : Past) → SamePast s.code s.state.inputs f args p q → trace_in_past q ≡ Some run → IsRecordIn s (Some call) (trace_in_past p) r
     by-past f args _ _ SamePast.none there = absurd (cc there)
     by-past f args _ _ (SamePast.traced {a = a} {b = b} alike) there = by-trace (Some a) (Some b) alike there
     by-past f args _ _ (SamePast.going sound carried) there = absurd (cc there)
 
   by-call : (r : Record) (call : Call) (run : Repaired) → IsRecordOf s.code s.state.inputs call run.items r
-      → (c : Option Call) → c ≡ Some call → (p q : Past) → IsSamePast s.code s.state.inputs c p q → completed q ≡ Some run → IsRecordIn s c (completed p) r
+      → (c : Option Call) → c ≡ Some call → (p q : Past) → IsSamePast s.code s.state.inputs c p q → trace_in_past q ≡ Some run → IsRecordIn s c (trace_in_past p) r
   by-call r call run is None called p q same there = absurd (cc called)
   by-call r call run is (Some c) called p q same there =
       let known : call ≡ c = cc called in
       by-past r c run (subst (λ (x : Call). IsRecordOf s.code s.state.inputs x run.items r) known is) c.function c.args p q same there
 
-  pub record-in : (r : Record) → IsRecorded m r → (asked s.state Steps ≡ Told Steps) × IsRecordIn s s.state.call (last s) r
+  pub record-in : (r : Record) → IsRecorded m r → (reply_to_query s.state Steps ≡ Told Steps) × IsRecordIn s s.state.call (last s) r
   record-in r k =
       let ready : IsReady s.state = subst IsReady h.state k.ready in
       let is : IsRecordOf s.code s.state.inputs k.call k.run.items r =
@@ -122,18 +122,18 @@ save-in renamed saved source m s h out (inr (v, k, is, e)) =
 
 -- what a session answers, and what is left of it, for each situation that it is in
 module _ {E : Type 0} (r : Result (List ℕ) E) (old new : Situation) (line : List ℕ) where
-  pub answered-in : KeptLaw → IfOk r (λ text. Answers old.state (numbers_in old) (goes new.past) line text new.state) → OnOk r (Repairs old line new)
+  pub answered-in : KeptLaw → IfOk r (λ text. Answers old.state (numbers_in old) (goes new.past) line text new.state) → OnOk r (IsAfterLine old line new)
       → IfOk r (λ text. (s : Situation) → IsIn old s → (n : Situation) × IsIn new n × Replies s line text n)
   answered-in kept = by-result r
     where
-      by-result : (q : Result (List ℕ) E) → IfOk q (λ text. Answers old.state (numbers_in old) (goes new.past) line text new.state) → OnOk q (Repairs old line new)
+      by-result : (q : Result (List ℕ) E) → IfOk q (λ text. Answers old.state (numbers_in old) (goes new.past) line text new.state) → OnOk q (IsAfterLine old line new)
           → IfOk q (λ text. (s : Situation) → IsIn old s → (n : Situation) × IsIn new n × Replies s line text n)
       by-result (Ok text) a t = λ s h. (let k : AnswersIn s line text new = kept old new s line text h a t in (k.next, k.is_in, k.replies))
       by-result (Err e) a t = tt
 
-  pub lost-in : DroppedLaw → OnErr r (IsLeft old line new) → OnErr r ((s : Situation) → IsIn old s → (t : Situation) × IsIn new t × IsLeft s line t)
+  pub lost-in : DroppedLaw → OnErr r (IsAfterNoMemory old line new) → OnErr r ((s : Situation) → IsIn old s → (t : Situation) × IsIn new t × IsAfterNoMemory s line t)
   lost-in law = by-result r
     where
-      by-result : (q : Result (List ℕ) E) → OnErr q (IsLeft old line new) → OnErr q ((s : Situation) → IsIn old s → (t : Situation) × IsIn new t × IsLeft s line t)
+      by-result : (q : Result (List ℕ) E) → OnErr q (IsAfterNoMemory old line new) → OnErr q ((s : Situation) → IsIn old s → (t : Situation) × IsIn new t × IsAfterNoMemory s line t)
       by-result (Ok text) h = tt
       by-result (Err e) h = λ s i. left-in law old new s line i h

@@ -2,10 +2,10 @@
 use Rattle.std.proofs.Common.{inl, inr, ℕ, List, [], ◌∷◌, ◌++◌, refl, sym, subst}
 use Rattle.ceal_session.specs.Laws.{AnswersIn, KeptLaw}
 use Rattle.ceal_session.specs.Replies.{Leads}
-use Rattle.ceal_session.specs.Standing.{IsIn}
+use Rattle.ceal_session.specs.Consistency.{IsIn}
 use Rattle.ceal_session.specs.State.{Situation}
 use Rattle.ceal_cli.specs.Output.{LeadsFromRun}
-use Rattle.ceal_cli.specs.Serving.{AreServed, AreServedFromRun, Carries}
+use Rattle.ceal_cli.specs.ServedLines.{AreServed, AreServedFromRun, Carries}
 
 -- where the session answers the lines
 pub served : KeptLaw → (m s : Situation) (lines : List (List ℕ)) (out : List ℕ) → IsIn m s → AreServed m lines out → (end : Situation) × Leads s lines out end

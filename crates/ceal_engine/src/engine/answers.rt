@@ -76,8 +76,8 @@ impl Engine {
         self.run.finished().tables.trace.steps() as u32
     }
 
-    /// How many steps were re-executed for the last `run` or `propagate`. The step of a read belongs to what stands before
-    /// the read, so a stale read by itself is no work.
+    /// How many steps were re-executed for the last `run` or `propagate`. The step of a read belongs to what stands
+    /// before the read, so a stale read by itself is no work.
     pub fn work(&self) -> u32
         requires { self.now.phase ≡ Finished }
         ensures value { result ≡ self.now.work }

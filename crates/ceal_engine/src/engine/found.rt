@@ -83,7 +83,8 @@ impl Engine {
         is_plain_kind(self.find_kind(block, index))
     }
 
-    /// Whether `value` may be called: the run is finished, and the place is a modifiable, of an input or of a core block.
+    /// Whether `value` may be called: the run is finished, and the place is a modifiable, of an input or of a core
+    /// block.
     pub fn has_value(&self, place: Place) -> bool
         ensures finished { IsTrue result → self.now.phase ≡ Finished }
         ensures there { IsTrue result → is_cell

@@ -1,6 +1,7 @@
 // Runs, and change propagation.
 
-ghost use Rattle.std.specs.Prelude.{◌≡◌, ◌≢◌, ◌⊎◌, ℕ, ◌<◌, ◌≤◌, ◌^◌, true, Option, Some, None, length, IfOk, IsSome, IsOk, OnOk};
+ghost use Rattle.std.specs.Prelude.{◌≡◌, ◌≢◌, ◌⊎◌, ℕ, ◌<◌, ◌≤◌, ◌^◌, true, Option, Some, None, length, IfOk, IsSome};
+ghost use Rattle.std.specs.Prelude.{IsOk, OnOk};
 ghost use Rattle.std.specs.Option.{IsSomeAnd};
 ghost use Rattle.ceal_base.specs.Trace.{Trace as TraceOf};
 ghost use Rattle.ceal_code.specs.Fitting.{Fits};
@@ -8,7 +9,8 @@ ghost use Rattle.ceal_code.specs.Replay.{IsHonest};
 ghost use Rattle.ceal_engine.specs.Calls.{Advances, IsRunAnew, called};
 ghost use Rattle.ceal_engine.specs.Engine.{trace, fresh_of, has_run, IsWhole, IsPresent, IfOutOfFuel};
 ghost use Rattle.ceal_engine.specs.Looks.{LooksOfEither, LooksOfRepair, LooksOfRun};
-ghost use Rattle.ceal_engine.specs.Partial.{phase_after, phase_behind, CarriesFrom, Comes, ComesSo, EndsSo, IsRepairSoFar, IsRunAgain, KeepsWords};
+ghost use Rattle.ceal_engine.specs.Partial.{phase_after, phase_after_repair, CarriesRepair, RepairOutcome};
+ghost use Rattle.ceal_engine.specs.Partial.{ProgressOutcome, EndOutcome, IsRepairSoFar, IsRunAgain, KeepsWords};
 ghost use Rattle.ceal_engine.specs.Repaired.{IsFirst, IsRepaired, IsUnchanged, KeepsFront};
 ghost use Rattle.ceal_engine.specs.Runs.{IsFirstOf};
 ghost use Rattle.ceal_engine.specs.declared.phase.Phase.TheVariants.{New, Finished, Pending, Partial, Dropped};
@@ -82,8 +84,8 @@ impl Engine {
 
     /// Brings the run up to date after edits, by change propagation (Acar, *Self-Adjusting Computation*, 2005).
     /// OutOfFuel comes exactly when the run from scratch takes more steps than the fuel, although only a part is
-    /// re-executed. After an error the phase is Dropped, and another `propagate` runs the call again. In Finished it takes no
-    /// memory. In Partial it ends the repair that is under way.
+    /// re-executed. After an error the phase is Dropped, and another `propagate` runs the call again. In Finished it
+    /// takes no memory. In Partial it ends the repair that is under way.
     pub fn propagate(&mut self) -> Result<(), RunError>
         requires { self.old.phase ≡ New → ⊥ }
         ensures keeps { Advances self.old self.new result }
@@ -102,7 +104,7 @@ impl Engine {
             IsHonest self.old.code self.old.inputs l → self.new.timeline ≡ self.old.timeline) }
         ensures front { OnOk result (IsWhole self.old.phase → KeepsFront self.old self.new) }
         ensures partial { self.old.phase ≡ Partial → (next : ℕ) (r : RepairOf) →
-            CarriesFrom self.old next r → EndsSo self.old self.new next r result }
+            CarriesRepair self.old next r → EndOutcome self.old self.new next r result }
         ensures looks { OnOk result (IsWhole self.old.phase → LooksOfRepair self.old self.new) }
         ensures looks_always { OnOk result (LooksOfEither self.old self.new) }
         ensures sure { self.old.phase ≡ Finished → IsOk result }
@@ -126,19 +128,19 @@ impl Engine {
         }
     }
 
-    /// Continues the repair that is under way, or begins that of a run: `reads` stale reads, each with everything inside
-    /// it, or all of them if `reads` is None. The nodes before the first of them stay as they are, and where none is stale
-    /// it takes no memory. Where the steps of a repair that began in an earlier call exceed the fuel, the call is run
-    /// again; where those of one that begins here do, a run from scratch is out of fuel, too. After an error the phase is
-    /// Dropped.
+    /// Continues the repair that is under way, or begins that of a run: `reads` stale reads, each with everything
+    /// inside it, or all of them if `reads` is None. The nodes before the first of them stay as they are, and where
+    /// none is stale it takes no memory. Where the steps of a repair that began in an earlier call exceed the fuel, the
+    /// call is run again; where those of one that begins here do, a run from scratch is out of fuel, too. After an
+    /// error the phase is Dropped.
     pub fn advance(&mut self, reads: Option<u32>) -> Result<Came, RunError>
         requires run { has_run self.old.phase ≡ true }
         requires some { reads ≢ Some 0 }
         ensures keeps { Advances self.old self.new result }
-        ensures phase { IfOk result (λ came. self.new.phase ≡ phase_behind came) }
+        ensures phase { IfOk result (λ came. self.new.phase ≡ phase_after_repair came) }
         ensures present { IfOk result (λ came. came ≢ Came.More → IsPresent self.new) }
-        ensures comes { (next : ℕ) (r : RepairOf) → CarriesFrom self.old next r →
-            Comes self.old self.new reads next r result }
+        ensures comes { (next : ℕ) (r : RepairOf) → CarriesRepair self.old next r →
+            RepairOutcome self.old self.new reads next r result }
         ensures repaired { IfOk result (λ came. IsWhole self.old.phase → (l : TraceOf) →
             trace self.old ≡ Some l → IsRepairSoFar self.old self.new l came) }
         ensures more { IfOk result (λ came. came ≡ Came.More → IsSome reads) }
@@ -185,8 +187,8 @@ impl Engine {
         }
     }
 
-    /// More steps were spent on a repair than the fuel allows, and the run was given up. Where the repair had begun in an
-    /// earlier call, the call is run again. Otherwise a run from scratch needs more steps, too.
+    /// More steps were spent on a repair than the fuel allows, and the run was given up. Where the repair had begun in
+    /// an earlier call, the call is run again. Otherwise a run from scratch needs more steps, too.
     fn run_again(&mut self, began: Phase) -> Result<(), RunError>
         requires dropped { self.old.phase ≡ Dropped }
         requires called { IsSome self.old.call }
@@ -201,9 +203,10 @@ impl Engine {
         self.run_anew()
     }
 
-    /// Repairs at most `reads` stale reads, each with everything inside it. Done: the run is up to date. More: reads are
-    /// still stale, and another `slice` or `propagate` continues, also after edits. Where the steps re-executed since the
-    /// last completion would be more than the fuel, all is run again in the same call. After an error the phase is Dropped.
+    /// Repairs at most `reads` stale reads, each with everything inside it. Done: the run is up to date. More: reads
+    /// are still stale, and another `slice` or `propagate` continues, also after edits. Where the steps re-executed
+    /// since the last completion would be more than the fuel, all is run again in the same call. After an error the
+    /// phase is Dropped.
     pub fn slice(&mut self, reads: u32) -> Result<Progress, RunError>
         requires called { self.old.phase ≡ New → ⊥ }
         requires some { 1 ≤ reads }
@@ -213,8 +216,8 @@ impl Engine {
         ensures done { IfOk result (λ p. self.old.phase ≡ Dropped → p ≡ Progress.Done) }
         ensures first { OnOk result (self.old.phase ≡ Dropped →
             IsSomeAnd (trace self.new) (IsFirst self.new)) }
-        ensures slice { (next : ℕ) (r : RepairOf) → CarriesFrom self.old next r →
-            ComesSo self.old self.new (Some reads) next r result }
+        ensures slice { (next : ℕ) (r : RepairOf) → CarriesRepair self.old next r →
+            ProgressOutcome self.old self.new (Some reads) next r result }
         ensures repaired { IfOk result (λ p. p ≡ Progress.Done → IsWhole self.old.phase →
             (l : TraceOf) → trace self.old ≡ Some l →
             IsSomeAnd (trace self.new) (IsRepaired self.new l)) }

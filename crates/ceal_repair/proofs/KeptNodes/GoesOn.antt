@@ -9,7 +9,7 @@ use Rattle.ceal_order.specs.declared.stamp.Stamp.{Stamp}
 use Rattle.ceal_repair.proofs.KeptNodes.StaleReadEnd.{next-kept, lies-kept, first-kept, now-go-on}
 use Rattle.ceal_repair.proofs.Reuse.ReadReuseInCode.{passes-as}
 use Rattle.ceal_repair.specs.Blocks.{HasBlocks, KeepsReadable}
-use Rattle.ceal_repair.specs.Entries.{stamped, first_in, Lies}
+use Rattle.ceal_repair.specs.Entries.{stamp_of_number, first_in, Lies}
 use Rattle.ceal_repair.specs.Kept.{Kept, base_in}
 use Rattle.ceal_repair.specs.Moment.{Start, through}
 use Rattle.ceal_repair.specs.Reads.{EndsKept}
@@ -20,10 +20,10 @@ use Rattle.ceal_theory.specs.Groves.{Grove, Bare}
 use Rattle.ceal_trace.specs.Nodes.{Entry}
 
 module _ (old : Repair) (start : Start) (until end : Stamp) (a : EndsKept start until old) (at_end : old.limit ≡ Some end) where
-  same-end : stamped (next-kept (code_of old) (inputs_of old) start a.stack (view old) until a.now).end ≡ end
+  same-end : stamp_of_number (next-kept (code_of old) (inputs_of old) start a.stack (view old) until a.now).end ≡ end
   same-end =
       let n = next-kept (code_of old) (inputs_of old) start a.stack (view old) until a.now in
-      let both : Some (stamped n.end) ≡ Some end = sym n.now_is ∙ at_end in
+      let both : Some (stamp_of_number n.end) ≡ Some end = sym n.now_is ∙ at_end in
       cc
 
   -- its end is the first node after what is left over
@@ -32,7 +32,8 @@ module _ (old : Repair) (start : Start) (until end : Stamp) (a : EndsKept start 
 
   -- what is left over was revoked
   module _ (run : Running)
-      (all : (front : List Entry) (left : Grove) (tail : List Entry) → Lies old.cursor.0 front left tail old.running.now.tables → first_in tail ≡ Some end.0 → Lies old.cursor.0 front Bare tail run.tables)
+      (all : (front : List Entry) (left : Grove) (tail : List Entry) → Lies old.cursor.0 front left tail old.running.now.tables → first_in tail ≡ Some end.0
+      → Lies old.cursor.0 front Bare tail run.tables)
       (bases : (p : Place) → base_in run.tables.mods p ≡ base_in old.running.now.tables.mods p) (blocks : KeepsReadable old.running.now.heap run.heap)
       (has : (code : Code) (inputs : List Block) → HasBlocks code inputs old.running.now.heap old.running.now.tables → HasBlocks code inputs run.heap run.tables)
       (spent : run.spent ≡ old.running.now.spent) (kept : Kept run.tables) where

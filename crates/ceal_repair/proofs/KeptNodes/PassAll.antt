@@ -28,8 +28,8 @@ use Rattle.ceal_repair.proofs.Reuse.ReadReuse.{blocks-as, first-ticks, around-ti
 use Rattle.ceal_repair.proofs.Reuse.AllocReuse.{course-bare}
 use Rattle.ceal_repair.specs.Around.{Inside, Tails, Passes}
 use Rattle.ceal_repair.specs.Covered.{contents_after}
-use Rattle.ceal_repair.specs.Entries.{stamped, entry, closing, entries}
-use Rattle.ceal_repair.specs.Kept.{Kept, Records, IsHonestRecord, QueuedBehind, QueuedFrom, base_in}
+use Rattle.ceal_repair.specs.Entries.{stamp_of_number, entry, end_entry, entries}
+use Rattle.ceal_repair.specs.Kept.{Kept, Records, IsHonestRecord, QueuedAfter, QueuedFrom, base_in}
 use Rattle.ceal_repair.specs.Lists.{before}
 use Rattle.ceal_repair.specs.Moment.{View, Start, RunningNow, PassingNow, Unfinished, through, state_at}
 use Rattle.ceal_repair.specs.Frames.{Frame, Taken, frames_in}
@@ -89,7 +89,8 @@ bare-ticks code s st ws n is = record {
 }
 
 -- the end of a taken read that was kept
-end-turn : (code : Code) (names : ℕ → ℕ) (s : State) (below : Stack) (ws : List Wait) (is : List Item) → turn code names (fixing_at s (Takes below ∷ ws) (item.End ∷ is)) ≡ Went (item.End ∷ []) (running_at s below ws is)
+end-turn : (code : Code) (names : ℕ → ℕ) (s : State) (below : Stack) (ws : List Wait) (is : List Item)
+    → turn code names (fixing_at s (Takes below ∷ ws) (item.End ∷ is)) ≡ Went (item.End ∷ []) (running_at s below ws is)
 unfolding turn
 end-turn code names s below ws is = refl
 
@@ -112,9 +113,9 @@ pub record PassesTaken (limit : Option Stamp) (beyond : List Entry) (until : Sta
   pub reads : List ℕ
   pub nodes : List Entry
   pub rest : List Entry
-  pub until_is : until ≡ stamped end
+  pub until_is : until ≡ stamp_of_number end
   pub fs_are : fs ≡ Taken below next ∷ frames
-  pub back_is : back ≡ nodes ++ closing end read steps ∷ (entries behind ++ rest)
+  pub back_is : back ≡ nodes ++ end_entry end read steps ∷ (entries behind ++ rest)
   pub inside : Inside (Takes below ∷ waits) (read ∷ reads) ws rs nodes
   pub tails : Tails limit beyond (Some next) frames waits reads rest
 
@@ -144,19 +145,20 @@ module _ (code : Code) (inputs : List Block) (start : Start) (until : Stamp) (v 
   around-it = passes-taken now.passes
 
   abbrev pub next-end : Entry
-  next-end = closing around-it.end around-it.read around-it.steps
+  next-end = end_entry around-it.end around-it.read around-it.steps
 
   abbrev pub last-part : List Entry
   last-part = entries around-it.behind ++ around-it.rest
 
   -- the moment where the steps at the cursor are written
-  pub moment-at : At code inputs start v now.blocks (through now.placed.done now.placed.last) (forest_of (through now.placed.done now.placed.last)) now.waits (forest_of (around-it.nodes ++ next-end ∷ last-part))
+  pub moment-at : At code inputs start v now.blocks (through now.placed.done now.placed.last) (forest_of (through now.placed.done now.placed.last)) now.waits
+      (forest_of (around-it.nodes ++ next-end ∷ last-part))
   moment-at = subst (λ es. At code inputs start v now.blocks (through now.placed.done now.placed.last) (forest_of (through now.placed.done now.placed.last)) now.waits (forest_of es)) around-it.back_is
       (pass-steps code inputs start v now.blocks now.placed.done now.placed.last now.waits (forest_of now.behind) now.course)
 
   pub all-nodes : v.tables.trace.nodes ≡ (through now.placed.done now.placed.last ++ around-it.nodes) ++ next-end ∷ last-part
   all-nodes = now.placed.nodes ∙ (ap (λ es. through now.placed.done now.placed.last ++ es) around-it.back_is
-      ∙ sym (append_assoc (through now.placed.done now.placed.last) around-it.nodes (closing around-it.end around-it.read around-it.steps ∷ (entries around-it.behind ++ around-it.rest))))
+      ∙ sym (append_assoc (through now.placed.done now.placed.last) around-it.nodes (end_entry around-it.end around-it.read around-it.steps ∷ (entries around-it.behind ++ around-it.rest))))
 
   pub end-there : (t : Tables) → t.trace ≡ v.tables.trace → Kept t → has_node until.0 t.trace.nodes ≡ true
   end-there t same kept =
@@ -164,7 +166,7 @@ module _ (code : Code) (inputs : List Block) (start : Start) (until : Stamp) (v 
       let none : has_node around-it.end (through now.placed.done now.placed.last ++ around-it.nodes) ≡ false =
       not_before (through now.placed.done now.placed.last ++ around-it.nodes) next-end last-part (subst (λ es. order.Distinct (stamps_in es)) mid kept.step.whole.order.distinct) in
       subst (λ (s : Stamp). has_node s.0 t.trace.nodes ≡ true) (sym around-it.until_is)
-      (has-held around-it.end (End (stamped around-it.read)) t.trace.nodes
+      (has-held around-it.end (End (stamp_of_number around-it.read)) t.trace.nodes
       (ap (node_at around-it.end) mid ∙ ap held_by (entry-part next-end last-part (through now.placed.done now.placed.last ++ around-it.nodes) none)))
 
   pub limit-there : (u : Stamp) → v.limit ≡ Some u → has_node u.0 v.tables.trace.nodes ≡ true
@@ -205,30 +207,30 @@ module _ (code : Code) (inputs : List Block) (start : Start) (until : Stamp) (v 
     abbrev walked : List Entry
     walked = through now.placed.done now.placed.last ++ around-it.nodes
 
-    nodes-mid : t1.trace.nodes ≡ walked ++ closing until.0 around-it.read around-it.steps ∷ last-part
-    nodes-mid = ap (λ (l : Timeline). l.nodes) seen ∙ (all-nodes ∙ ap (λ (z : Stamp). walked ++ closing z.0 around-it.read around-it.steps ∷ last-part) (sym around-it.until_is))
+    nodes-mid : t1.trace.nodes ≡ walked ++ end_entry until.0 around-it.read around-it.steps ∷ last-part
+    nodes-mid = ap (λ (l : Timeline). l.nodes) seen ∙ (all-nodes ∙ ap (λ (z : Stamp). walked ++ end_entry z.0 around-it.read around-it.steps ∷ last-part) (sym around-it.until_is))
 
     not-front : has_node until.0 walked ≡ false
-    not-front = not_before walked (closing until.0 around-it.read around-it.steps) last-part (subst (λ es. order.Distinct (stamps_in es)) nodes-mid kept1.step.whole.order.distinct)
+    not-front = not_before walked (end_entry until.0 around-it.read around-it.steps) last-part (subst (λ es. order.Distinct (stamps_in es)) nodes-mid kept1.step.whole.order.distinct)
 
-    node-end : node_at until.0 t1.trace.nodes ≡ Some (End (stamped around-it.read))
-    node-end = ap (node_at until.0) nodes-mid ∙ ap held_by (entry-part (closing until.0 around-it.read around-it.steps) last-part walked not-front)
+    node-end : node_at until.0 t1.trace.nodes ≡ Some (End (stamp_of_number around-it.read))
+    node-end = ap (node_at until.0) nodes-mid ∙ ap held_by (entry-part (end_entry until.0 around-it.read around-it.steps) last-part walked not-front)
 
-    nodes-then : t.trace.nodes ≡ through walked (entry until.0 (End (stamped around-it.read)) 0) ++ last-part
+    nodes-then : t.trace.nodes ≡ through walked (entry until.0 (End (stamp_of_number around-it.read)) 0) ++ last-part
     nodes-then = dropped ∙ (ap (with_steps until.0 0) nodes-mid
-        ∙ (changed-part (closing until.0 around-it.read around-it.steps) last-part (steps_set 0) walked not-front
-        ∙ sym (behind-all walked (entry until.0 (End (stamped around-it.read)) 0) last-part)))
+        ∙ (changed-part (end_entry until.0 around-it.read around-it.steps) last-part (steps_set 0) walked not-front
+        ∙ sym (behind-all walked (entry until.0 (End (stamp_of_number around-it.read)) 0) last-part)))
 
     -- nothing is queued up to the end
-    late-then : QueuedBehind until.0 t
+    late-then : QueuedAfter until.0 t
     late-then r i =
         let q : is_in r t1.stale.stamps ≡ true = subst (λ (z : _). is_in r z.stamps ≡ true) queue i in
         let reads : is_read (node_at r t1.trace.nodes) ≡ true = kept1.step.queued r q in
         let there : has_node r t1.trace.nodes ≡ true = has-read r t1.trace.nodes reads in
-        let own : has_node until.0 t1.trace.nodes ≡ true = has-held until.0 (End (stamped around-it.read)) t1.trace.nodes node-end in
+        let own : has_node until.0 t1.trace.nodes ≡ true = has-held until.0 (End (stamp_of_number around-it.read)) t1.trace.nodes node-end in
         let other : position r t1.trace.nodes ≢ position until.0 t1.trace.nodes = λ e.
         let same : r ≡ until.0 = place_tells r until.0 (stamps_in t1.trace.nodes) there own e in
-        absurd (let bad : is_read (Some (End (stamped around-it.read))) ≡ true = subst (λ o. is_read o ≡ true) (ap (λ z. node_at z t1.trace.nodes) same ∙ node-end) reads in cc) in
+        absurd (let bad : is_read (Some (End (stamp_of_number around-it.read))) ≡ true = subst (λ o. is_read o ≡ true) (ap (λ z. node_at z t1.trace.nodes) same ∙ node-end) reads in cc) in
         let less : position until.0 t1.trace.nodes < position r t1.trace.nodes = omega (arith, other, left r q) in
         subst (λ ss. place until.0 ss < place r ss) (sym (ap stamps_in dropped ∙ stamps-changed until.0 (steps_set 0) (λ e. refl) t1.trace.nodes)) less
 
@@ -237,16 +239,18 @@ module _ (code : Code) (inputs : List Block) (start : Start) (until : Stamp) (v 
 
     honest-then : (r : ℕ) (p : Place) (w : Word) → Records p w (node_at r walked) → w ≡ contents_after (base_in v.tables.mods) (before r walked) p
     honest-then r p w is =
-        honest-front t1 kept1 walked (closing until.0 around-it.read around-it.steps) last-part nodes-mid
+        honest-front t1 kept1 walked (end_entry until.0 around-it.read around-it.steps) last-part nodes-mid
         (λ u lt. unqueued-from t1 kept1 until.0 left u lt) r p w is
         ∙ contents-base (base_in t1.mods) (base_in v.tables.mods) p (cells p) (before r walked)
 
     moment-end : Walked code inputs start v now.blocks now.placed.kept walked (next-end ∷ last-part) all-nodes honest-then (Takes around-it.below ∷ around-it.waits) (around-it.read ∷ around-it.reads)
-    moment-end = walk code inputs start v now.blocks now.placed.kept walked (next-end ∷ last-part) all-nodes honest-then (walks-all around-it.inside) (through now.placed.done now.placed.last) refl now.placed.opened now.placed.began moment-at
+    moment-end = walk code inputs start v now.blocks now.placed.kept walked (next-end ∷ last-part) all-nodes honest-then (walks-all around-it.inside)
+        (through now.placed.done now.placed.last) refl now.placed.opened now.placed.began moment-at
 
-    known-then : (q : Place) → KnownBlock (length inputs) (known_after [] (forest_of (through walked (entry until.0 (End (stamped around-it.read)) 0)))) q.block
+    known-then : (q : Place) → KnownBlock (length inputs) (known_after [] (forest_of (through walked (entry until.0 (End (stamp_of_number around-it.read)) 0)))) q.block
         → KnownBlock (length inputs) (known_after [] (forest_of walked)) q.block
-    known-then q c = subst (λ bs. KnownBlock (length inputs) bs q.block) (ap (known_after []) (forest-put walked until.0 (End (stamped around-it.read))) ∙ known-append [] (forest_of walked) (item.End ∷ [])) c
+    known-then q c = subst (λ bs. KnownBlock (length inputs) bs q.block)
+        (ap (known_after []) (forest-put walked until.0 (End (stamp_of_number around-it.read))) ∙ known-append [] (forest_of walked) (item.End ∷ [])) c
 
     -- all are in front with the end, and the units below run with what is after it
     pub now-passed : RunningNow code inputs start around-it.below (record { tables = t; heap = v.heap; spent = v.spent; cursor = until.0; limit = Some around-it.next; frames = around-it.frames })
@@ -258,12 +262,13 @@ module _ (code : Code) (inputs : List Block) (start : Start) (until : Stamp) (v 
       placed = record {
         kept = kept;
         done = walked;
-        last = entry until.0 (End (stamped around-it.read)) 0;
+        last = entry until.0 (End (stamp_of_number around-it.read)) 0;
         nodes = nodes-then;
         cursor = refl;
         late = late-then;
-        opened = opened-put walked (around-it.read ∷ (around-it.reads ++ start.reads)) moment-end.opened (entry until.0 (End (stamped around-it.read)) 0) ∙ closed-last (stamped around-it.read) (around-it.reads ++ start.reads) until.0;
-        began = began-put start walked (entry until.0 (End (stamped around-it.read)) 0) moment-end.began;
+        opened = opened-put walked (around-it.read ∷ (around-it.reads ++ start.reads)) moment-end.opened (entry until.0 (End (stamp_of_number around-it.read)) 0)
+            ∙ closed-last (stamp_of_number around-it.read) (around-it.reads ++ start.reads) until.0;
+        began = began-put start walked (entry until.0 (End (stamp_of_number around-it.read)) 0) moment-end.began;
         unfinished = subst (λ fs. Unfinished fs t.trace.nodes) around-it.fs_are
             (unfinished-ends v.frames v.tables.trace.nodes t.trace.nodes
             (λ r. ap (end_in r) dropped ∙ (ends-changed until.0 (steps_set 0) (λ e. refl) r t1.trace.nodes (λ e. refl) ∙ ap (λ (l : Timeline). end_in r l.nodes) seen)) now.placed.unfinished);
@@ -274,15 +279,16 @@ module _ (code : Code) (inputs : List Block) (start : Start) (until : Stamp) (v 
       blocks = blocks-steps code inputs v.heap t1 t (blocks-as code inputs v.heap v.tables t1 seen cells now.blocks) until.0 0 dropped mods;
       course = course-bare code inputs start v walked (forest_of walked) (λ s. fixing_at s (Takes around-it.below ∷ around-it.waits) (forest_of (next-end ∷ last-part))) moment-end.course
           (record { tables = t; heap = v.heap; spent = v.spent; cursor = until.0; limit = Some around-it.next; frames = around-it.frames })
-          (through walked (entry until.0 (End (stamped around-it.read)) 0)) (forest_of (through walked (entry until.0 (End (stamped around-it.read)) 0)))
+          (through walked (entry until.0 (End (stamp_of_number around-it.read)) 0)) (forest_of (through walked (entry until.0 (End (stamp_of_number around-it.read)) 0)))
           (λ s. running_at s around-it.below around-it.waits (forest_of last-part))
           (item.End ∷ []) moment-end.course.store
           (running_at (state_at code inputs v moment-end.course.store (start.chosen ++ moment-end.course.made)) around-it.below around-it.waits (ticks around-it.steps ++ forest_of last-part))
-          (forest-put walked until.0 (End (stamped around-it.read)))
-          (λ names. end-turn code names (state_at code inputs v moment-end.course.store (start.chosen ++ moment-end.course.made)) around-it.below around-it.waits (ticks around-it.steps ++ forest_of last-part)) refl
+          (forest-put walked until.0 (End (stamp_of_number around-it.read)))
+          (λ names. end-turn code names (state_at code inputs v moment-end.course.store (start.chosen ++ moment-end.course.made)) around-it.below around-it.waits
+              (ticks around-it.steps ++ forest_of last-part)) refl
           (bare-ticks code (state_at code inputs v moment-end.course.store (start.chosen ++ moment-end.course.made)) around-it.below around-it.waits around-it.steps (forest_of last-part))
           (λ q c. moment-end.course.same q (known-then q c)
           ∙ (contents-base (base_in v.tables.mods) (base_in t.mods) q (sym (bases-then q)) walked
-          ∙ sym (ap (λ (f : Store). f q) (contents-put (base_in t.mods) walked until.0 (End (stamped around-it.read))))))
+          ∙ sym (ap (λ (f : Store). f q) (contents-put (base_in t.mods) walked until.0 (End (stamp_of_number around-it.read))))))
           moment-end.course.given;
     }

@@ -28,7 +28,7 @@ use Rattle.ceal_repair.proofs.Reuse.AllocReuse.{before-part, blocks-append, defa
 use Rattle.ceal_repair.specs.Around.{Inside}
 use Rattle.ceal_repair.specs.Blocks.{HasBlocks}
 use Rattle.ceal_repair.specs.Covered.{contents_after}
-use Rattle.ceal_repair.specs.Entries.{stamped, entry, closing, entries}
+use Rattle.ceal_repair.specs.Entries.{stamp_of_number, entry, end_entry, entries}
 use Rattle.ceal_repair.specs.Kept.{Kept, Records, base_in}
 use Rattle.ceal_repair.specs.Lists.{before}
 use Rattle.ceal_repair.specs.Moment.{View, Start, Began, CourseNow, through, state_at}
@@ -54,7 +54,7 @@ pub data Walks (vs : List Wait) (qs : List ℕ) : List Wait → List ℕ → Lis
   write : {ws : List Wait} {rs : List ℕ} {es : List Entry} (s : ℕ) (p : Place) (w : Word) (n : ℕ) → Walks vs qs ws rs es → Walks vs qs ws rs (entry s (Write p w) n ∷ es)
   read : {ws : List Wait} {rs : List ℕ} {es : List Entry} (s : ℕ) (p : Place) (w : Word) (u : UnitId) (x : ℕ) (args : List Word) (n : ℕ)
       → Walks vs qs (Fixes ∷ ws) (s ∷ rs) es → Walks vs qs ws rs (entry s (Read p w u x args) n ∷ es)
-  close : {ws : List Wait} {rs : List ℕ} {es : List Entry} (e r m : ℕ) → Walks vs qs ws rs es → Walks vs qs (Fixes ∷ ws) (r ∷ rs) (closing e r m ∷ es)
+  close : {ws : List Wait} {rs : List ℕ} {es : List Entry} (e r m : ℕ) → Walks vs qs ws rs es → Walks vs qs (Fixes ∷ ws) (r ∷ rs) (end_entry e r m ∷ es)
 
 -- the same, where each read comes with what is inside it
 data Along (vs : List Wait) (qs : List ℕ) : List Wait → List ℕ → List Entry → Type 0 where
@@ -62,15 +62,15 @@ data Along (vs : List Wait) (qs : List ℕ) : List Wait → List ℕ → List En
   alloc : {ws : List Wait} {rs : List ℕ} {es : List Entry} (s : ℕ) (b : BlockId) (key : Key) (n : ℕ) → Along vs qs ws rs es → Along vs qs ws rs (entry s (Alloc b key) n ∷ es)
   write : {ws : List Wait} {rs : List ℕ} {es : List Entry} (s : ℕ) (p : Place) (w : Word) (n : ℕ) → Along vs qs ws rs es → Along vs qs ws rs (entry s (Write p w) n ∷ es)
   read : {ws : List Wait} {rs : List ℕ} {es later : List Entry} (s : ℕ) (p : Place) (w : Word) (u : UnitId) (x : ℕ) (args : List Word) (n : ℕ)
-      → (g : Grove) (e m : ℕ) → es ≡ entries g ++ closing e s m ∷ later → Inside vs qs ws rs later
+      → (g : Grove) (e m : ℕ) → es ≡ entries g ++ end_entry e s m ∷ later → Inside vs qs ws rs later
       → Along vs qs (Fixes ∷ ws) (s ∷ rs) es → Along vs qs ws rs (entry s (Read p w u x args) n ∷ es)
-  close : {ws : List Wait} {rs : List ℕ} {es : List Entry} (e r m : ℕ) → Along vs qs ws rs es → Along vs qs (Fixes ∷ ws) (r ∷ rs) (closing e r m ∷ es)
+  close : {ws : List Wait} {rs : List ℕ} {es : List Entry} (e r m : ℕ) → Along vs qs ws rs es → Along vs qs (Fixes ∷ ws) (r ∷ rs) (end_entry e r m ∷ es)
 
 -- nodes of a grove in front
 inside-join : {vs : List Wait} {qs : List ℕ} {ws : List Wait} {rs : List ℕ} {es : List Entry} (g : Grove) → Inside vs qs ws rs es → Inside vs qs ws rs (entries g ++ es)
 inside-join {vs} {qs = qs} g (Inside.level h) = subst (λ es. Inside vs qs vs qs es) (entries-joined g h) (Inside.level (joined g h))
 inside-join {vs} {qs = qs} g (Inside.deeper {vs = ws} {qs = rs} {es = es} h e r m i) =
-    subst (λ fs. Inside vs qs (Fixes ∷ ws) (r ∷ rs) fs) (ap (λ fs. fs ++ closing e r m ∷ es) (entries-joined g h) ∙ append_assoc (entries g) (entries h) (closing e r m ∷ es))
+    subst (λ fs. Inside vs qs (Fixes ∷ ws) (r ∷ rs) fs) (ap (λ fs. fs ++ end_entry e r m ∷ es) (entries-joined g h) ∙ append_assoc (entries g) (entries h) (end_entry e r m ∷ es))
     (Inside.deeper (joined g h) e r m i)
 
 along-join : {vs : List Wait} {qs : List ℕ} {ws : List Wait} {rs : List ℕ} {es : List Entry} (g : Grove) → Inside vs qs ws rs es → Along vs qs ws rs es → Along vs qs ws rs (entries g ++ es)
@@ -79,7 +79,8 @@ along-join (Made s b key n rest) i a = Along.alloc s b key n (along-join rest i 
 along-join (Put s p w n rest) i a = Along.write s p w n (along-join rest i a)
 along-join {vs} {qs} {ws} {rs} {es} (Got s p w u x args n inside e m rest) i a =
     let after : Inside vs qs ws rs (entries rest ++ es) = inside-join rest i in
-    let same : entries inside ++ closing e s m ∷ (entries rest ++ es) ≡ (entries inside ++ closing e s m ∷ entries rest) ++ es = sym (append_assoc (entries inside) (closing e s m ∷ entries rest) es) in
+    let same : entries inside ++ end_entry e s m ∷ (entries rest ++ es) ≡ (entries inside ++ end_entry e s m ∷ entries rest) ++ es =
+        sym (append_assoc (entries inside) (end_entry e s m ∷ entries rest) es) in
     Along.read s p w u x args n inside e m (sym same) after
     (subst (λ fs. Along vs qs (Fixes ∷ ws) (s ∷ rs) fs) same (along-join inside (Inside.deeper Bare e s m after) (Along.close e s m (along-join rest i a))))
 
@@ -112,12 +113,13 @@ pub record Reached (s : ℕ) (vs : List Wait) (qs : List ℕ) (ws : List Wait) (
   pub end : ℕ
   pub end_steps : ℕ
   pub later : List Entry
-  pub is : es ≡ front ++ entry s (Read place value unit var args) steps ∷ (entries inside ++ closing end s end_steps ∷ later)
+  pub is : es ≡ front ++ entry s (Read place value unit var args) steps ∷ (entries inside ++ end_entry end s end_steps ∷ later)
   pub walks : Walks waits reads ws rs front
   pub after : Inside vs qs waits reads later
 
 -- with a node in front of it
-further : (s : ℕ) {vs : List Wait} {qs : List ℕ} {ws : List Wait} {rs : List ℕ} {ws' : List Wait} {rs' : List ℕ} {es : List Entry} (e : Entry) → ((us : List Wait) (ts : List ℕ) (fs : List Entry) → Walks us ts ws rs fs → Walks us ts ws' rs' (e ∷ fs))
+further : (s : ℕ) {vs : List Wait} {qs : List ℕ} {ws : List Wait} {rs : List ℕ} {ws' : List Wait} {rs' : List ℕ} {es : List Entry} (e : Entry)
+    → ((us : List Wait) (ts : List ℕ) (fs : List Entry) → Walks us ts ws rs fs → Walks us ts ws' rs' (e ∷ fs))
     → Reached s vs qs ws rs es → Reached s vs qs ws' rs' (e ∷ es)
 further s e f r = record {
   waits = r.waits;
@@ -171,7 +173,7 @@ reach s {vs} {qs} {ws} {rs} (Along.read {es = es} {later = later} t p w u x args
 ]
 reach s (Along.close e r m a) h = elim (eqb_tells e s) [
   | inl q ↦ absurd (let bad : false ≡ true = rw q.0 at h in cc)
-  | inr q ↦ further s (closing e r m) (λ us ts fs k. Walks.close e r m k) (reach s a (rw q.0 at h))
+  | inr q ↦ further s (end_entry e r m) (λ us ts fs k. Walks.close e r m k) (reach s a (rw q.0 at h))
 ]
 
 pub reached : (s : ℕ) {vs : List Wait} {qs : List ℕ} {ws : List Wait} {rs : List ℕ} {es : List Entry} → Inside vs qs ws rs es → is_read (node_at s es) ≡ true → Reached s vs qs ws rs es
@@ -200,7 +202,8 @@ module _ (code : Code) (inputs : List Block) (start : Start) (v : View) (has : H
   pass-ticks front ws is (suc n) items c =
       subst (λ js. At front js ws is) (append_assoc items (item.Step ∷ []) (ticks n))
       (pass-ticks front ws is n (items ++ item.Step ∷ [])
-      (course-turn code inputs start v front items (λ s. fixing_at s ws (item.Step ∷ (ticks n ++ is))) c v front (items ++ item.Step ∷ []) (λ s. fixing_at s ws (ticks n ++ is)) (item.Step ∷ []) c.store refl (λ names. refl) refl
+      (course-turn code inputs start v front items (λ s. fixing_at s ws (item.Step ∷ (ticks n ++ is))) c v front (items ++ item.Step ∷ []) (λ s. fixing_at s ws (ticks n ++ is))
+          (item.Step ∷ []) c.store refl (λ names. refl) refl
       (λ q k. c.same q (subst (λ bs. KnownBlock (length inputs) bs q.block) (known-append [] items (item.Step ∷ [])) k)) c.given))
 
   -- the items of all in front
@@ -209,29 +212,34 @@ module _ (code : Code) (inputs : List Block) (start : Start) (v : View) (has : H
       ∙ (ap (λ is. forest_of done ++ (item_of last.node ++ is)) (sym (append-nil (ticks last.steps))) ∙ sym (forest-append done (last ∷ [])))
 
   -- the steps on the node at the cursor
-  pub pass-steps : (done : List Entry) (last : Entry) (ws : List Wait) (is : List Item) → At (through done last) (forest_of done ++ item_of last.node) ws (ticks last.steps ++ is) → At (through done last) (forest_of (through done last)) ws is
+  pub pass-steps : (done : List Entry) (last : Entry) (ws : List Wait) (is : List Item) → At (through done last) (forest_of done ++ item_of last.node) ws (ticks last.steps ++ is)
+      → At (through done last) (forest_of (through done last)) ws is
   pass-steps done last ws is c = subst (λ js. At (through done last) js ws is) (items-whole done last) (pass-ticks (through done last) ws is last.steps (forest_of done ++ item_of last.node) c)
 
   module _ (front : List Entry) (ws : List Wait) where
-    pass-write : (s : ℕ) (p : Place) (w : Word) (n : ℕ) (is : List Item) → At front (forest_of front) ws (item.Write p w ∷ is) → At (front ++ entry s (Write p w) n ∷ []) (forest_of front ++ item.Write p w ∷ []) ws is
+    pass-write : (s : ℕ) (p : Place) (w : Word) (n : ℕ) (is : List Item) → At front (forest_of front) ws (item.Write p w ∷ is)
+        → At (front ++ entry s (Write p w) n ∷ []) (forest_of front ++ item.Write p w ∷ []) ws is
     unfolding turn
     pass-write s p w n is c =
-        course-turn code inputs start v front (forest_of front) (λ s. fixing_at s ws (item.Write p w ∷ is)) c v (front ++ entry s (Write p w) n ∷ []) (forest_of front ++ item.Write p w ∷ []) (λ s. fixing_at s ws is) (item.Write p w ∷ []) (stored c.store p w) refl (λ names. refl) refl
+        course-turn code inputs start v front (forest_of front) (λ s. fixing_at s ws (item.Write p w ∷ is)) c v (front ++ entry s (Write p w) n ∷ []) (forest_of front ++ item.Write p w ∷ [])
+            (λ s. fixing_at s ws is) (item.Write p w ∷ []) (stored c.store p w) refl (λ names. refl) refl
         (λ q k. stored-base c.store (contents_after (base_in v.tables.mods) front) q
         (c.same q (subst (λ bs. KnownBlock (length inputs) bs q.block) (known-append [] (forest_of front) (item.Write p w ∷ [])) k)) p w
         ∙ sym (ap (λ (f : Store). f q) (contents-append (base_in v.tables.mods) front (entry s (Write p w) n ∷ []))))
         c.given
 
-    pass-end : (e r m : ℕ) (is : List Item) → At front (forest_of front) (Fixes ∷ ws) (item.End ∷ is) → At (front ++ closing e r m ∷ []) (forest_of front ++ item.End ∷ []) ws is
+    pass-end : (e r m : ℕ) (is : List Item) → At front (forest_of front) (Fixes ∷ ws) (item.End ∷ is) → At (front ++ end_entry e r m ∷ []) (forest_of front ++ item.End ∷ []) ws is
     unfolding turn
     pass-end e r m is c =
-        course-turn code inputs start v front (forest_of front) (λ s. fixing_at s (Fixes ∷ ws) (item.End ∷ is)) c v (front ++ closing e r m ∷ []) (forest_of front ++ item.End ∷ []) (λ s. fixing_at s ws is) (item.End ∷ []) c.store refl (λ names. refl) refl
+        course-turn code inputs start v front (forest_of front) (λ s. fixing_at s (Fixes ∷ ws) (item.End ∷ is)) c v (front ++ end_entry e r m ∷ []) (forest_of front ++ item.End ∷ [])
+            (λ s. fixing_at s ws is) (item.End ∷ []) c.store refl (λ names. refl) refl
         (λ q k. c.same q (subst (λ bs. KnownBlock (length inputs) bs q.block) (known-append [] (forest_of front) (item.End ∷ [])) k)
-        ∙ sym (ap (λ (f : Store). f q) (contents-append (base_in v.tables.mods) front (closing e r m ∷ []))))
+        ∙ sym (ap (λ (f : Store). f q) (contents-append (base_in v.tables.mods) front (end_entry e r m ∷ []))))
         c.given
 
     -- the place of the read that comes next is known
-    pub place-known : (p : Place) (w : Word) (u : UnitId) (x : ℕ) (args : List Word) (is : List Item) → (c : At front (forest_of front) ws (item.Read p w u x args ∷ is)) → KnownBlock (length inputs) (known_after [] (forest_of front)) p.block
+    pub place-known : (p : Place) (w : Word) (u : UnitId) (x : ℕ) (args : List Word) (is : List Item) → (c : At front (forest_of front) ws (item.Read p w u x args ∷ is))
+        → KnownBlock (length inputs) (known_after [] (forest_of front)) p.block
     place-known p w u x args is c =
         ((knowing-law code).next_read (length inputs) start.old (known_after [] (forest_of front)) (state_at code inputs v c.store (start.chosen ++ c.made)) [] p w u x args is
         (record { plain = c.knows.plain; old = c.knows.old; store = c.knows.store; mode = c.knows.mode; frames = tt })).0
@@ -244,7 +252,8 @@ module _ (code : Code) (inputs : List Block) (start : Start) (v : View) (has : H
     pass-read : (s : ℕ) (p : Place) (w : Word) (u : UnitId) (x : ℕ) (args : List Word) (n : ℕ) (is : List Item) → w ≡ contents_after (base_in v.tables.mods) front p
         → At front (forest_of front) ws (item.Read p w u x args ∷ is) → At (front ++ entry s (Read p w u x args) n ∷ []) (forest_of front ++ item.Read p w u x args ∷ []) (Fixes ∷ ws) is
     pass-read s p w u x args n is h c =
-        course-turn code inputs start v front (forest_of front) (λ s. fixing_at s ws (item.Read p w u x args ∷ is)) c v (front ++ entry s (Read p w u x args) n ∷ []) (forest_of front ++ item.Read p w u x args ∷ []) (λ s. fixing_at s (Fixes ∷ ws) is) (item.Read p w u x args ∷ []) c.store refl
+        course-turn code inputs start v front (forest_of front) (λ s. fixing_at s ws (item.Read p w u x args ∷ is)) c v (front ++ entry s (Read p w u x args) n ∷ [])
+            (forest_of front ++ item.Read p w u x args ∷ []) (λ s. fixing_at s (Fixes ∷ ws) is) (item.Read p w u x args ∷ []) c.store refl
         (λ names. kept-turn (state_at code inputs v c.store (start.chosen ++ c.made)) p w u x args is (ap (λ z. same_word z w) holds ∙ word-refl w) names
         ∙ ap (λ z. Went (item.Read p z u x args ∷ []) (fixing_at (state_at code inputs v c.store (start.chosen ++ c.made)) (Fixes ∷ ws) is)) holds) refl
         (λ q k. c.same q (subst (λ bs. KnownBlock (length inputs) bs q.block) (known-append [] (forest_of front) (item.Read p w u x args ∷ [])) k)
@@ -260,7 +269,8 @@ module _ (code : Code) (inputs : List Block) (start : Start) (v : View) (has : H
     contents-then : (p : Place) → contents_after (base_in v.tables.mods) (front ++ entry s (Alloc (Core b) key) n ∷ []) p ≡ contents_after (base_in v.tables.mods) front p
     contents-then p = ap (λ (f : Store). f p) (contents-append (base_in v.tables.mods) front (entry s (Alloc (Core b) key) n ∷ []))
 
-    same-other : (p : Place) → (p.block ≡ Core b → ⊥) → KnownBlock (length inputs) (known_after [] (forest_of front)) p.block → cleared code c.store (Core b) key p ≡ contents_after (base_in v.tables.mods) (front ++ entry s (Alloc (Core b) key) n ∷ []) p
+    same-other : (p : Place) → (p.block ≡ Core b → ⊥) → KnownBlock (length inputs) (known_after [] (forest_of front)) p.block
+        → cleared code c.store (Core b) key p ≡ contents_after (base_in v.tables.mods) (front ++ entry s (Alloc (Core b) key) n ∷ []) p
     same-other p other k = cleared-other code c.store b key p (differs p.block (Core b) other) ∙ (c.same p k ∙ sym (contents-then p))
 
     same-own : (p : Place) → p.block ≡ Core b → cleared code c.store (Core b) key p ≡ contents_after (base_in v.tables.mods) (front ++ entry s (Alloc (Core b) key) n ∷ []) p
@@ -273,10 +283,12 @@ module _ (code : Code) (inputs : List Block) (start : Start) (v : View) (has : H
         ∙ (sym (contents-written (base_in v.tables.mods) p front ∙ unwritten c.mentions p b e fresh (base_in v.tables.mods p))
         ∙ sym (contents-then p)))
 
-    same-then : (p : Place) → KnownBlock (length inputs) (b ∷ known_after [] (forest_of front)) p.block → cleared code c.store (Core b) key p ≡ contents_after (base_in v.tables.mods) (front ++ entry s (Alloc (Core b) key) n ∷ []) p
+    same-then : (p : Place) → KnownBlock (length inputs) (b ∷ known_after [] (forest_of front)) p.block
+        → cleared code c.store (Core b) key p ≡ contents_after (base_in v.tables.mods) (front ++ entry s (Alloc (Core b) key) n ∷ []) p
     same-then p k = go p.block refl k
       where
-        go : (d : BlockId) → p.block ≡ d → KnownBlock (length inputs) (b ∷ known_after [] (forest_of front)) p.block → cleared code c.store (Core b) key p ≡ contents_after (base_in v.tables.mods) (front ++ entry s (Alloc (Core b) key) n ∷ []) p
+        go : (d : BlockId) → p.block ≡ d → KnownBlock (length inputs) (b ∷ known_after [] (forest_of front)) p.block
+            → cleared code c.store (Core b) key p ≡ contents_after (base_in v.tables.mods) (front ++ entry s (Alloc (Core b) key) n ∷ []) p
         go (Input i) e j = same-other p (λ f. let no : Input i ≡ Core b = sym e ∙ f in absurd (cc)) (subst (KnownBlock (length inputs) (known_after [] (forest_of front))) (sym e)
             (let k : KnownBlock (length inputs) (b ∷ known_after [] (forest_of front)) (Input i) = subst (KnownBlock (length inputs) (b ∷ known_after [] (forest_of front))) e j in k))
         go (Core d) e j = elim (in-case d b (known_after [] (forest_of front)) (subst (KnownBlock (length inputs) (b ∷ known_after [] (forest_of front))) e j)) [
@@ -288,16 +300,19 @@ module _ (code : Code) (inputs : List Block) (start : Start) (v : View) (has : H
     pass-core : At (front ++ entry s (Alloc (Core b) key) n ∷ []) (forest_of front ++ item.Alloc (Core b) key ∷ []) ws is
     unfolding turn
     pass-core =
-        course-turn code inputs start v front (forest_of front) (λ s. fixing_at s ws (item.Alloc (Core b) key ∷ is)) c v (front ++ entry s (Alloc (Core b) key) n ∷ []) (forest_of front ++ item.Alloc (Core b) key ∷ []) (λ s. fixing_at s ws is) (item.Alloc (Core b) key ∷ []) (cleared code c.store (Core b) key) refl (λ names. refl) refl
+        course-turn code inputs start v front (forest_of front) (λ s. fixing_at s ws (item.Alloc (Core b) key ∷ is)) c v (front ++ entry s (Alloc (Core b) key) n ∷ [])
+            (forest_of front ++ item.Alloc (Core b) key ∷ []) (λ s. fixing_at s ws is) (item.Alloc (Core b) key ∷ []) (cleared code c.store (Core b) key) refl (λ names. refl) refl
         (λ q k. same-then q (subst (λ bs. KnownBlock (length inputs) bs q.block) (known-append [] (forest_of front) (item.Alloc (Core b) key ∷ [])) k))
         c.given
 
   -- no node allocates a block that one before it does
-  fresh-part : (front : List Entry) (s b : ℕ) (key : Key) (n : ℕ) (back : List Entry) → v.tables.trace.nodes ≡ front ++ entry s (Alloc (Core b) key) n ∷ back → In b (known_after [] (forest_of front)) → ⊥
+  fresh-part : (front : List Entry) (s b : ℕ) (key : Key) (n : ℕ) (back : List Entry) → v.tables.trace.nodes ≡ front ++ entry s (Alloc (Core b) key) n ∷ back
+      → In b (known_after [] (forest_of front)) → ⊥
   fresh-part front s b key n back e i =
       let j : In b (blocks_at front) = subst (In b) (allocs-nodes front) (known-allocs (forest_of front) b i) in
       let all : count b (blocks_at v.tables.trace.nodes) ≤ 1 = subst (λ bs. count b bs ≤ 1) (allocs-nodes v.tables.trace.nodes) (has.lives.once b) in
-      let parts : count b (blocks_at v.tables.trace.nodes) ≡ count b (b ∷ blocks_at back) + count b (blocks_at front) = ap (λ es. count b (blocks_at es)) e ∙ blocks-append b front (entry s (Alloc (Core b) key) n ∷ back) in
+      let parts : count b (blocks_at v.tables.trace.nodes) ≡ count b (b ∷ blocks_at back) + count b (blocks_at front) =
+          ap (λ es. count b (blocks_at es)) e ∙ blocks-append b front (entry s (Alloc (Core b) key) n ∷ back) in
       omega (arith, all, parts, in-count b (blocks_at front) j, in-count b (b ∷ blocks_at back) here)
 
   pass-alloc : (front : List Entry) (ws : List Wait) (s : ℕ) (b : BlockId) (key : Key) (n : ℕ) (is : List Item) (back : List Entry) → v.tables.trace.nodes ≡ front ++ entry s (Alloc b key) n ∷ back
@@ -351,17 +366,22 @@ module _ (code : Code) (inputs : List Block) (start : Start) (v : View) (has : H
           course = subst (λ es. At es (forest_of es) vs (forest_of tail)) same c;
         }
     walk {ws = ws} {rs = rs} (Walks.alloc {es = es} s d key n k) front h o b c =
-        walk k (front ++ entry s (Alloc d key) n ∷ []) (next-is front (entry s (Alloc d key) n) es h) (opened-put front (rs ++ start.reads) o (entry s (Alloc d key) n)) (began-put start front (entry s (Alloc d key) n) b)
-        (pass-steps front (entry s (Alloc d key) n) ws (forest_of (es ++ tail)) (pass-alloc front ws s d key n (ticks n ++ forest_of (es ++ tail)) (es ++ tail) (all-is front (entry s (Alloc d key) n) es h) c))
+        walk k (front ++ entry s (Alloc d key) n ∷ []) (next-is front (entry s (Alloc d key) n) es h) (opened-put front (rs ++ start.reads) o (entry s (Alloc d key) n))
+            (began-put start front (entry s (Alloc d key) n) b)
+        (pass-steps front (entry s (Alloc d key) n) ws (forest_of (es ++ tail))
+            (pass-alloc front ws s d key n (ticks n ++ forest_of (es ++ tail)) (es ++ tail) (all-is front (entry s (Alloc d key) n) es h) c))
     walk {ws = ws} {rs = rs} (Walks.write {es = es} s p w n k) front h o b c =
-        walk k (front ++ entry s (Write p w) n ∷ []) (next-is front (entry s (Write p w) n) es h) (opened-put front (rs ++ start.reads) o (entry s (Write p w) n)) (began-put start front (entry s (Write p w) n) b)
+        walk k (front ++ entry s (Write p w) n ∷ []) (next-is front (entry s (Write p w) n) es h) (opened-put front (rs ++ start.reads) o (entry s (Write p w) n))
+            (began-put start front (entry s (Write p w) n) b)
         (pass-steps front (entry s (Write p w) n) ws (forest_of (es ++ tail)) (pass-write front ws s p w n (ticks n ++ forest_of (es ++ tail)) c))
     walk {ws = ws} {rs = rs} (Walks.read {es = es} s p w u x args n k) front h o b c =
         let fact : w ≡ contents_after (base_in v.tables.mods) front p =
         honest s p w (record { unit = u; var = x; args = args; is = node-is front (entry s (Read p w u x args) n) es h })
         ∙ ap (λ fs. contents_after (base_in v.tables.mods) fs p) (before-is front (entry s (Read p w u x args) n) es h) in
-        walk k (front ++ entry s (Read p w u x args) n ∷ []) (next-is front (entry s (Read p w u x args) n) es h) (opened-put front (rs ++ start.reads) o (entry s (Read p w u x args) n)) (began-put start front (entry s (Read p w u x args) n) b)
+        walk k (front ++ entry s (Read p w u x args) n ∷ []) (next-is front (entry s (Read p w u x args) n) es h) (opened-put front (rs ++ start.reads) o (entry s (Read p w u x args) n))
+            (began-put start front (entry s (Read p w u x args) n) b)
         (pass-steps front (entry s (Read p w u x args) n) (Fixes ∷ ws) (forest_of (es ++ tail)) (pass-read front ws s p w u x args n (ticks n ++ forest_of (es ++ tail)) fact c))
     walk (Walks.close {ws = ws} {rs = rs} {es = es} e r m k) front h o b c =
-        walk k (front ++ closing e r m ∷ []) (next-is front (closing e r m) es h) (opened-put front (r ∷ (rs ++ start.reads)) o (closing e r m) ∙ closed-last (stamped r) (rs ++ start.reads) e) (began-put start front (closing e r m) b)
-        (pass-steps front (closing e r m) ws (forest_of (es ++ tail)) (pass-end front ws e r m (ticks m ++ forest_of (es ++ tail)) c))
+        walk k (front ++ end_entry e r m ∷ []) (next-is front (end_entry e r m) es h)
+            (opened-put front (r ∷ (rs ++ start.reads)) o (end_entry e r m) ∙ closed-last (stamp_of_number r) (rs ++ start.reads) e) (began-put start front (end_entry e r m) b)
+        (pass-steps front (end_entry e r m) ws (forest_of (es ++ tail)) (pass-end front ws e r m (ticks m ++ forest_of (es ++ tail)) c))

@@ -27,8 +27,8 @@ use Rattle.ceal_repair.proofs.Reuse.AllocReuse.{before-part, course-bare}
 use Rattle.ceal_repair.proofs.TableCalls.CutKeepsTables.{unqueued-honest}
 use Rattle.ceal_repair.specs.Around.{Tails, Passes}
 use Rattle.ceal_repair.specs.Covered.{contents_after}
-use Rattle.ceal_repair.specs.Entries.{stamped, entry, closing, entries}
-use Rattle.ceal_repair.specs.Kept.{Kept, Records, IsStale, IsHonestRecord, QueuedBehind, base_in, contents_at}
+use Rattle.ceal_repair.specs.Entries.{stamp_of_number, entry, end_entry, entries}
+use Rattle.ceal_repair.specs.Kept.{Kept, Records, IsStale, IsHonestRecord, QueuedAfter, base_in, contents_at}
 use Rattle.ceal_repair.specs.Lists.{before}
 use Rattle.ceal_repair.specs.Moment.{View, Start, RunningNow, PassingNow, through, state_at}
 use Rattle.ceal_repair.specs.Frames.{Kept as FrameKept}
@@ -67,13 +67,13 @@ position-far r (e ∷ es) back h = elim (eqb_tells e.stamp r) [
 ]
 
 -- where all that is queued is after a node, the reads up to it have the contents of their moments
-unqueued-behind : (t : Tables) → Kept t → (s : ℕ) → QueuedBehind s t → (r : ℕ) → position r t.trace.nodes ≤ position s t.trace.nodes → IsHonestRecord r t
+unqueued-behind : (t : Tables) → Kept t → (s : ℕ) → QueuedAfter s t → (r : ℕ) → position r t.trace.nodes ≤ position s t.trace.nodes → IsHonestRecord r t
 unqueued-behind t k s behind r le = unqueued-honest t k r (false-of (is_in r t.stale.stamps) (λ i. absurd (omega (arith, behind r i, le)))) (λ z i. omega (arith, behind z i, le))
 
 -- the end of a read is the limit then
-pub limit-of : (o : Option Stamp) (e : ℕ) (x : Option ℕ) → x ≡ Some e → IfSome o (λ s. x ≡ Some s.0) → IfNone o (x ≡ None) → o ≡ Some (stamped e)
+pub limit-of : (o : Option Stamp) (e : ℕ) (x : Option ℕ) → x ≡ Some e → IfSome o (λ s. x ≡ Some s.0) → IfNone o (x ≡ None) → o ≡ Some (stamp_of_number e)
 limit-of None e x h some none = absurd (let bad = sym h ∙ none in cc)
-limit-of (Some s) e x h some none = let both = sym h ∙ some in let same : s.0 ≡ e = cc in ap (λ k. Some (stamped k)) same
+limit-of (Some s) e x h some none = let both = sym h ∙ some in let same : s.0 ≡ e = cc in ap (λ k. Some (stamp_of_number k)) same
 
 -- ---- the turn
 
@@ -88,9 +88,11 @@ module _ (code : Code) (inputs : List Block) (start : Start) (until : Stamp) (v 
   not-yet : has_node read (through now.placed.done now.placed.last) ≡ false
   not-yet = elim (cases_Bool (has_node read (through now.placed.done now.placed.last))) [
     | inl h ↦
-        let here : position read v.tables.trace.nodes ≤ length now.placed.done = subst (λ es. position read es ≤ length now.placed.done) (sym now.placed.nodes) (position-front read now.placed.done now.placed.last now.behind h) in
+        let here : position read v.tables.trace.nodes ≤ length now.placed.done =
+            subst (λ es. position read es ≤ length now.placed.done) (sym now.placed.nodes) (position-front read now.placed.done now.placed.last now.behind h) in
         let cursor : position v.cursor v.tables.trace.nodes ≡ length now.placed.done = ap (position v.cursor) now.placed.nodes
-        ∙ (ap (λ s. position s (through now.placed.done now.placed.last ++ now.behind)) (sym now.placed.cursor) ∙ position-there now.placed.done now.placed.last now.behind (nodes-distinct start v now.reads now.behind now.placed)) in
+        ∙ (ap (λ s. position s (through now.placed.done now.placed.last ++ now.behind)) (sym now.placed.cursor)
+        ∙ position-there now.placed.done now.placed.last now.behind (nodes-distinct start v now.reads now.behind now.placed)) in
         absurd (stale.differs (unqueued-behind v.tables now.placed.kept v.cursor now.placed.late read (omega (arith, here, cursor)) stale.place stale.value stale.read))
     | inr h ↦ h
   ]
@@ -100,11 +102,15 @@ module _ (code : Code) (inputs : List Block) (start : Start) (until : Stamp) (v 
     | inl h ↦ h
     | inr h ↦
         let x = around-it code inputs start until v now in
-        let all : v.tables.trace.nodes ≡ (through now.placed.done now.placed.last ++ x.nodes) ++ next-end code inputs start until v now ∷ last-part code inputs start until v now = all-nodes code inputs start until v now in
-        let none : has_node x.end (through now.placed.done now.placed.last ++ x.nodes) ≡ false = not_before (through now.placed.done now.placed.last ++ x.nodes) (next-end code inputs start until v now) (last-part code inputs start until v now)
+        let all : v.tables.trace.nodes ≡ (through now.placed.done now.placed.last ++ x.nodes) ++ next-end code inputs start until v now ∷ last-part code inputs start until v now =
+            all-nodes code inputs start until v now in
+        let none : has_node x.end (through now.placed.done now.placed.last ++ x.nodes) ≡ false =
+            not_before (through now.placed.done now.placed.last ++ x.nodes) (next-end code inputs start until v now) (last-part code inputs start until v now)
         (subst (λ es. order.Distinct (stamps_in es)) all now.placed.kept.step.whole.order.distinct) in
-        let far : length (through now.placed.done now.placed.last ++ x.nodes) ≤ position read v.tables.trace.nodes = subst (λ es. length (through now.placed.done now.placed.last ++ x.nodes) ≤ position read es) (sym all)
-        (position-far read (through now.placed.done now.placed.last ++ x.nodes) (next-end code inputs start until v now ∷ last-part code inputs start until v now) (neither read (through now.placed.done now.placed.last) x.nodes not-yet h)) in
+        let far : length (through now.placed.done now.placed.last ++ x.nodes) ≤ position read v.tables.trace.nodes =
+            subst (λ es. length (through now.placed.done now.placed.last ++ x.nodes) ≤ position read es) (sym all)
+        (position-far read (through now.placed.done now.placed.last ++ x.nodes) (next-end code inputs start until v now ∷ last-part code inputs start until v now)
+            (neither read (through now.placed.done now.placed.last) x.nodes not-yet h)) in
         let end : position until.0 v.tables.trace.nodes ≡ length (through now.placed.done now.placed.last ++ x.nodes) =
         ap (λ (s : Stamp). position s.0 v.tables.trace.nodes) x.until_is ∙ (ap (position x.end) all
         ∙ position-part (next-end code inputs start until v now) (last-part code inputs start until v now) (through now.placed.done now.placed.last ++ x.nodes) none) in
@@ -115,12 +121,14 @@ module _ (code : Code) (inputs : List Block) (start : Start) (until : Stamp) (v 
   reads-one =
       let x = around-it code inputs start until v now in
       let found : node_at read v.tables.trace.nodes ≡ node_at read x.nodes =
-      ap (node_at read) (all-nodes code inputs start until v now ∙ append_assoc (through now.placed.done now.placed.last) x.nodes (next-end code inputs start until v now ∷ last-part code inputs start until v now))
+      ap (node_at read)
+          (all-nodes code inputs start until v now ∙ append_assoc (through now.placed.done now.placed.last) x.nodes (next-end code inputs start until v now ∷ last-part code inputs start until v now))
       ∙ ap held_by (entry-back read (through now.placed.done now.placed.last) (x.nodes ++ next-end code inputs start until v now ∷ last-part code inputs start until v now) not-yet
       ∙ entry-front read x.nodes (next-end code inputs start until v now ∷ last-part code inputs start until v now) among) in
       ap is_read (sym found ∙ stale.read.is)
 
-  pub the-read : Reached read (Takes (around-it code inputs start until v now).below ∷ (around-it code inputs start until v now).waits) ((around-it code inputs start until v now).read ∷ (around-it code inputs start until v now).reads)
+  pub the-read : Reached read (Takes (around-it code inputs start until v now).below ∷ (around-it code inputs start until v now).waits)
+      ((around-it code inputs start until v now).read ∷ (around-it code inputs start until v now).reads)
       now.waits now.reads (around-it code inputs start until v now).nodes
   the-read = reached read (around-it code inputs start until v now).inside reads-one
 
@@ -132,17 +140,19 @@ module _ (code : Code) (inputs : List Block) (start : Start) (until : Stamp) (v 
   later-part = the-read.later ++ next-end code inputs start until v now ∷ last-part code inputs start until v now
 
   abbrev pub read-tail : List Entry
-  read-tail = entries the-read.inside ++ closing the-read.end read the-read.end_steps ∷ later-part
+  read-tail = entries the-read.inside ++ end_entry the-read.end read the-read.end_steps ∷ later-part
 
   abbrev pub read-entry : Word → ℕ → Entry
   read-entry w n = entry read (Read the-read.place w the-read.unit the-read.var the-read.args) n
 
-  nodes-split : (around-it code inputs start until v now).nodes ++ next-end code inputs start until v now ∷ last-part code inputs start until v now ≡ the-read.front ++ read-entry the-read.value the-read.steps ∷ read-tail
+  nodes-split : (around-it code inputs start until v now).nodes ++ next-end code inputs start until v now ∷ last-part code inputs start until v now
+      ≡ the-read.front ++ read-entry the-read.value the-read.steps ∷ read-tail
   nodes-split =
       ap (λ es. es ++ next-end code inputs start until v now ∷ last-part code inputs start until v now) the-read.is
-      ∙ (append_assoc the-read.front (read-entry the-read.value the-read.steps ∷ (entries the-read.inside ++ closing the-read.end read the-read.end_steps ∷ the-read.later)) (next-end code inputs start until v now ∷ last-part code inputs start until v now)
+      ∙ (append_assoc the-read.front (read-entry the-read.value the-read.steps ∷ (entries the-read.inside ++ end_entry the-read.end read the-read.end_steps ∷ the-read.later))
+          (next-end code inputs start until v now ∷ last-part code inputs start until v now)
       ∙ ap (λ es. the-read.front ++ read-entry the-read.value the-read.steps ∷ es)
-      (append_assoc (entries the-read.inside) (closing the-read.end read the-read.end_steps ∷ the-read.later) (next-end code inputs start until v now ∷ last-part code inputs start until v now)))
+      (append_assoc (entries the-read.inside) (end_entry the-read.end read the-read.end_steps ∷ the-read.later) (next-end code inputs start until v now ∷ last-part code inputs start until v now)))
 
   nodes-now : v.tables.trace.nodes ≡ walked ++ read-entry the-read.value the-read.steps ∷ read-tail
   nodes-now = all-nodes code inputs start until v now
@@ -176,19 +186,22 @@ module _ (code : Code) (inputs : List Block) (start : Start) (until : Stamp) (v 
   unfolding word
   word-at p w r = ap (λ o. contents_at read v.tables o) (same-place (node_at read v.tables.trace.nodes) the-read.place p the-read.value w the-read.unit the-read.var the-read.args node-now r)
 
-  pub seen-as : (t1 : Tables) (p : Place) (w : Word) → Records p w (node_at read v.tables.trace.nodes) → t1.trace.nodes ≡ with_value read (contents_at read v.tables p) v.tables.trace.nodes → t1.trace.nodes ≡ with_value read word v.tables.trace.nodes
+  pub seen-as : (t1 : Tables) (p : Place) (w : Word) → Records p w (node_at read v.tables.trace.nodes) → t1.trace.nodes ≡ with_value read (contents_at read v.tables p) v.tables.trace.nodes
+      → t1.trace.nodes ≡ with_value read word v.tables.trace.nodes
   seen-as t1 p w r e = e ∙ ap (λ z. with_value read z v.tables.trace.nodes) (word-at p w r)
 
   pub read-here : (t1 : Tables) → t1.trace.nodes ≡ with_value read word v.tables.trace.nodes → has_node read t1.trace.nodes ≡ true
   read-here t1 e = subst (λ ss. is_in read ss ≡ true) (sym (ap stamps_in e ∙ stamps-changed read (value_set word) (λ e. refl) v.tables.trace.nodes)) (has-held read _ v.tables.trace.nodes node-now)
 
-  module _ (t1 t : Tables) (seen : t1.trace.nodes ≡ with_value read word v.tables.trace.nodes) (queued : QueuedBehind read t1) (cells : (p : Place) → base_in t1.mods p ≡ base_in v.tables.mods p) (kept1 : Kept t1)
+  module _ (t1 t : Tables) (seen : t1.trace.nodes ≡ with_value read word v.tables.trace.nodes) (queued : QueuedAfter read t1) (cells : (p : Place) → base_in t1.mods p ≡ base_in v.tables.mods p)
+      (kept1 : Kept t1)
       (dropped : t.trace.nodes ≡ with_steps read 0 t1.trace.nodes) (mods : t.mods ≡ t1.mods) (queue : t.stale ≡ t1.stale) (kept : Kept t) where
     nodes-seen : t1.trace.nodes ≡ walked ++ read-entry word the-read.steps ∷ read-tail
     nodes-seen = seen ∙ (ap (with_value read word) nodes-now ∙ changed-part (read-entry the-read.value the-read.steps) read-tail (value_set word) walked not-front)
 
     nodes-then : t.trace.nodes ≡ through walked (read-entry word 0) ++ read-tail
-    nodes-then = dropped ∙ (ap (with_steps read 0) nodes-seen ∙ (changed-part (read-entry word the-read.steps) read-tail (steps_set 0) walked not-front ∙ sym (behind-all walked (read-entry word 0) read-tail)))
+    nodes-then =
+        dropped ∙ (ap (with_steps read 0) nodes-seen ∙ (changed-part (read-entry word the-read.steps) read-tail (steps_set 0) walked not-front ∙ sym (behind-all walked (read-entry word 0) read-tail)))
 
     pub node-then : node_at read t.trace.nodes ≡ Some (Read the-read.place word the-read.unit the-read.var the-read.args)
     node-then = ap (node_at read) (nodes-then ∙ behind-all walked (read-entry word 0) read-tail) ∙ ap held_by (entry-part (read-entry word 0) read-tail walked not-front)
@@ -196,7 +209,7 @@ module _ (code : Code) (inputs : List Block) (start : Start) (until : Stamp) (v 
     pub end-then : end_in read t.trace.nodes ≡ Some the-read.end
     end-then = end-is t kept the-read.end read the-read.end_steps (through walked (read-entry word 0)) (entries the-read.inside) later-part nodes-then
 
-    late-then : QueuedBehind read t
+    late-then : QueuedAfter read t
     late-then r i = subst (λ ss. place read ss < place r ss) (sym (ap stamps_in dropped ∙ stamps-changed read (steps_set 0) (λ e. refl) t1.trace.nodes))
         (queued r (subst (λ (z : _). is_in r z.stamps ≡ true) queue i))
 
@@ -211,35 +224,42 @@ module _ (code : Code) (inputs : List Block) (start : Start) (until : Stamp) (v 
     moment-read : Walked code inputs start v now.blocks now.placed.kept walked (read-entry the-read.value the-read.steps ∷ read-tail) nodes-now honest-then the-read.waits the-read.reads
     moment-read = walk code inputs start v now.blocks now.placed.kept walked (read-entry the-read.value the-read.steps ∷ read-tail) nodes-now honest-then the-read.walks
         (through now.placed.done now.placed.last) refl now.placed.opened now.placed.began
-        (subst (λ es. At code inputs start v now.blocks (through now.placed.done now.placed.last) (forest_of (through now.placed.done now.placed.last)) now.waits (forest_of es)) nodes-split (moment-at code inputs start until v now))
+        (subst (λ es. At code inputs start v now.blocks (through now.placed.done now.placed.last) (forest_of (through now.placed.done now.placed.last)) now.waits (forest_of es)) nodes-split
+            (moment-at code inputs start until v now))
 
     store-now : moment-read.course.store the-read.place ≡ word
     store-now = moment-read.course.same the-read.place
-        (place-known code inputs start v now.blocks walked the-read.waits the-read.place the-read.value the-read.unit the-read.var the-read.args (ticks the-read.steps ++ forest_of read-tail) moment-read.course)
+        (place-known code inputs start v now.blocks walked the-read.waits the-read.place the-read.value the-read.unit the-read.var the-read.args
+            (ticks the-read.steps ++ forest_of read-tail) moment-read.course)
         ∙ sym content-read
 
-    known-then : (q : Place) → KnownBlock (length inputs) (known_after [] (forest_of (through walked (read-entry word 0)))) q.block → KnownBlock (length inputs) (known_after [] (forest_of walked)) q.block
+    known-then : (q : Place) → KnownBlock (length inputs) (known_after [] (forest_of (through walked (read-entry word 0)))) q.block
+        → KnownBlock (length inputs) (known_after [] (forest_of walked)) q.block
     known-then q c = subst (λ bs. KnownBlock (length inputs) bs q.block) (ap (known_after []) (forest-put walked read (Read the-read.place word the-read.unit the-read.var the-read.args))
         ∙ known-append [] (forest_of walked) (item.Read the-read.place word the-read.unit the-read.var the-read.args ∷ [])) c
 
-    turn-now : (names : ℕ → ℕ) → turn code names (fixing_at (state_at code inputs v moment-read.course.store (start.chosen ++ moment-read.course.made)) the-read.waits (forest_of (read-entry the-read.value the-read.steps ∷ read-tail)))
+    turn-now : (names : ℕ → ℕ) → turn code names
+        (fixing_at (state_at code inputs v moment-read.course.store (start.chosen ++ moment-read.course.made)) the-read.waits (forest_of (read-entry the-read.value the-read.steps ∷ read-tail)))
         ≡ Went (item.Read the-read.place word the-read.unit the-read.var the-read.args ∷ [])
-        (running_at (state_at code inputs v moment-read.course.store (start.chosen ++ moment-read.course.made)) (resumed code the-read.unit the-read.var the-read.args word) (Fixes ∷ the-read.waits) (ticks the-read.steps ++ forest_of read-tail))
+        (running_at (state_at code inputs v moment-read.course.store (start.chosen ++ moment-read.course.made)) (resumed code the-read.unit the-read.var the-read.args word) (Fixes ∷ the-read.waits)
+            (ticks the-read.steps ++ forest_of read-tail))
     turn-now names =
-        mend-turn code names (state_at code inputs v moment-read.course.store (start.chosen ++ moment-read.course.made)) the-read.waits the-read.place the-read.value the-read.unit the-read.var the-read.args (ticks the-read.steps ++ forest_of read-tail)
+        mend-turn code names (state_at code inputs v moment-read.course.store
+            (start.chosen ++ moment-read.course.made)) the-read.waits the-read.place the-read.value the-read.unit the-read.var the-read.args (ticks the-read.steps ++ forest_of read-tail)
         (ap (λ z. same_word z the-read.value) store-now ∙ not-same word the-read.value (λ e. differs (sym e)))
         ∙ ap (λ z. Went (item.Read the-read.place z the-read.unit the-read.var the-read.args ∷ [])
-        (running_at (state_at code inputs v moment-read.course.store (start.chosen ++ moment-read.course.made)) (resumed code the-read.unit the-read.var the-read.args z) (Fixes ∷ the-read.waits) (ticks the-read.steps ++ forest_of read-tail))) store-now
+        (running_at (state_at code inputs v moment-read.course.store (start.chosen ++ moment-read.course.made)) (resumed code the-read.unit the-read.var the-read.args z) (Fixes ∷ the-read.waits)
+            (ticks the-read.steps ++ forest_of read-tail))) store-now
 
     -- the nodes before the read are passed, and its unit runs, with what is inside it left over; after its end nodes
     -- are passed then
     pub now-mend : RunningNow code inputs start (resumed code the-read.unit the-read.var the-read.args word)
-        (record { tables = t; heap = v.heap; spent = v.spent; cursor = read; limit = Some (stamped the-read.end); frames = FrameKept until ∷ v.frames })
+        (record { tables = t; heap = v.heap; spent = v.spent; cursor = read; limit = Some (stamp_of_number the-read.end); frames = FrameKept until ∷ v.frames })
     now-mend = record {
       reads = read ∷ the-read.reads;
       left = the-read.inside;
       waits = Fixes ∷ the-read.waits;
-      tail = closing the-read.end read the-read.end_steps ∷ later-part;
+      tail = end_entry the-read.end read the-read.end_steps ∷ later-part;
       placed = record {
         kept = kept;
         done = walked;
@@ -256,19 +276,21 @@ module _ (code : Code) (inputs : List Block) (start : Start) (until : Stamp) (v 
       tails = Tails.kept the-read.end read the-read.end_steps
           (let x = around-it code inputs start until v now in
           subst (λ s. Passes start.limit start.beyond s v.frames the-read.waits the-read.reads later-part) (sym x.until_is)
-          (subst (λ fs. Passes start.limit start.beyond (stamped x.end) fs the-read.waits the-read.reads later-part) (sym x.fs_are)
+          (subst (λ fs. Passes start.limit start.beyond (stamp_of_number x.end) fs the-read.waits the-read.reads later-part) (sym x.fs_are)
           (Passes.passes x.below x.end x.read x.steps x.behind the-read.after x.tails)));
       bare = λ none. absurd (cc);
       bounds = now.bounds;
       blocks = blocks-steps code inputs v.heap t1 t (blocks-look code inputs v.heap v.tables t1 read word seen cells now.blocks) read 0 dropped mods;
       course = course-bare code inputs start v walked (forest_of walked) (λ s. fixing_at s the-read.waits (forest_of (read-entry the-read.value the-read.steps ∷ read-tail))) moment-read.course
-          (record { tables = t; heap = v.heap; spent = v.spent; cursor = read; limit = Some (stamped the-read.end); frames = FrameKept until ∷ v.frames })
+          (record { tables = t; heap = v.heap; spent = v.spent; cursor = read; limit = Some (stamp_of_number the-read.end); frames = FrameKept until ∷ v.frames })
           (through walked (read-entry word 0)) (forest_of (through walked (read-entry word 0)))
           (λ s. running_at s (resumed code the-read.unit the-read.var the-read.args word) (Fixes ∷ the-read.waits) (forest_of read-tail))
           (item.Read the-read.place word the-read.unit the-read.var the-read.args ∷ []) moment-read.course.store
-          (running_at (state_at code inputs v moment-read.course.store (start.chosen ++ moment-read.course.made)) (resumed code the-read.unit the-read.var the-read.args word) (Fixes ∷ the-read.waits) (ticks the-read.steps ++ forest_of read-tail))
+          (running_at (state_at code inputs v moment-read.course.store (start.chosen ++ moment-read.course.made)) (resumed code the-read.unit the-read.var the-read.args word)
+              (Fixes ∷ the-read.waits) (ticks the-read.steps ++ forest_of read-tail))
           (forest-put walked read (Read the-read.place word the-read.unit the-read.var the-read.args)) turn-now refl
-          (bare-ticks code (state_at code inputs v moment-read.course.store (start.chosen ++ moment-read.course.made)) (resumed code the-read.unit the-read.var the-read.args word) (Fixes ∷ the-read.waits) the-read.steps (forest_of read-tail))
+          (bare-ticks code (state_at code inputs v moment-read.course.store (start.chosen ++ moment-read.course.made)) (resumed code the-read.unit the-read.var the-read.args word)
+              (Fixes ∷ the-read.waits) the-read.steps (forest_of read-tail))
           (λ q c. moment-read.course.same q (known-then q c)
           ∙ (contents-base (base_in v.tables.mods) (base_in t.mods) q (sym (bases-then q)) walked
           ∙ sym (ap (λ (f : Store). f q) (contents-append (base_in t.mods) walked (read-entry word 0 ∷ [])))))

@@ -23,11 +23,11 @@ use Rattle.ceal_repair.proofs.Reuse.ReadReuse.{levels-behind}
 use Rattle.ceal_repair.proofs.Reuse.AllocReuse.{words-same, course-bare}
 use Rattle.ceal_repair.specs.Around.{Tails, Passes}
 use Rattle.ceal_repair.specs.Blocks.{HasBlocks, KeepsReadable}
-use Rattle.ceal_repair.specs.Entries.{stamped, closing, entries, first_in, Lies}
+use Rattle.ceal_repair.specs.Entries.{stamp_of_number, end_entry, entries, first_in, Lies}
 use Rattle.ceal_repair.specs.Moment.{View, Start, RunningNow, PassingNow, through, state_at}
 use Rattle.ceal_repair.specs.Words.{words_of}
 use Rattle.ceal_repair.specs.Frames.{Frame, Kept as FrameKept}
-use Rattle.ceal_repair.specs.Kept.{Kept, QueuedBehind, base_in}
+use Rattle.ceal_repair.specs.Kept.{Kept, QueuedAfter, base_in}
 use Rattle.ceal_repair.specs.declared.tables.Tables.{Tables}
 use Rattle.ceal_theory.proofs.Reuse.StepsBetween.{frames-self}
 use Rattle.ceal_theory.specs.Course.{Wait, Fixes, frames_at, running_at, fixing_at, BareMode, BareFrames, BareSame}
@@ -49,10 +49,10 @@ pub record WaitsKept (limit : Option Stamp) (beyond : List Entry) (now : Option 
   pub waits : List Wait
   pub reads : List ℕ
   pub back : List Entry
-  pub now_is : now ≡ Some (stamped end)
+  pub now_is : now ≡ Some (stamp_of_number end)
   pub waits_are : ws ≡ Fixes ∷ waits
   pub reads_are : rs ≡ read ∷ reads
-  pub tail_is : tail ≡ closing end read steps ∷ back
+  pub tail_is : tail ≡ end_entry end read steps ∷ back
   pub passes : Passes limit beyond until fs waits reads back
 
 abbrev pub ComesKept : Option Stamp → List Entry → Option Stamp → List Frame → List Wait → List ℕ → List Entry → Type 0
@@ -87,7 +87,7 @@ module _ (code : Code) (inputs : List Block) (start : Start) (st : Stack) (w : V
       (l : Lies w.cursor (through now.placed.done now.placed.last) Bare now.tail t) (bases : (p : Place) → base_in t.mods p ≡ base_in w.tables.mods p)
       (blocks : KeepsReadable w.heap heap) (has : HasBlocks code inputs w.heap w.tables → HasBlocks code inputs heap t) (kept : Kept t) where
     abbrev end-entry : Entry
-    end-entry = closing next-kept.end next-kept.read next-kept.steps
+    end-entry = end_entry next-kept.end next-kept.read next-kept.steps
 
     abbrev view-before : View
     view-before = record { tables = w.tables; heap = w.heap; spent = w.spent; cursor = w.cursor; limit = w.limit; frames = FrameKept until ∷ w.frames }
@@ -98,18 +98,18 @@ module _ (code : Code) (inputs : List Block) (start : Start) (st : Stack) (w : V
     not-front : has_node next-kept.end (through now.placed.done now.placed.last) ≡ false
     not-front = not_before (through now.placed.done now.placed.last) end-entry next-kept.back (subst (λ es. order.Distinct (stamps_in es)) nodes-part kept.step.whole.order.distinct)
 
-    node-there : node_at next-kept.end t.trace.nodes ≡ Some (End (stamped next-kept.read))
+    node-there : node_at next-kept.end t.trace.nodes ≡ Some (End (stamp_of_number next-kept.read))
     node-there = ap (node_at next-kept.end) nodes-part ∙ ap held_by (entry-part end-entry next-kept.back (through now.placed.done now.placed.last) not-front)
 
     -- nothing is queued up to the end
-    late-then : QueuedBehind next-kept.end t
+    late-then : QueuedAfter next-kept.end t
     late-then r i =
         let reads : is_read (node_at r t.trace.nodes) ≡ true = kept.step.queued r i in
         let there : has_node r t.trace.nodes ≡ true = has-read r t.trace.nodes reads in
-        let own : has_node next-kept.end t.trace.nodes ≡ true = has-held next-kept.end (End (stamped next-kept.read)) t.trace.nodes node-there in
+        let own : has_node next-kept.end t.trace.nodes ≡ true = has-held next-kept.end (End (stamp_of_number next-kept.read)) t.trace.nodes node-there in
         let other : position r t.trace.nodes ≢ position next-kept.end t.trace.nodes = λ e.
         let same : r ≡ next-kept.end = place_tells r next-kept.end (stamps_in t.trace.nodes) there own e in
-        absurd (let bad : is_read (Some (End (stamped next-kept.read))) ≡ true = subst (λ o. is_read o ≡ true) (ap (λ z. node_at z t.trace.nodes) same ∙ node-there) reads in cc) in
+        absurd (let bad : is_read (Some (End (stamp_of_number next-kept.read))) ≡ true = subst (λ o. is_read o ≡ true) (ap (λ z. node_at z t.trace.nodes) same ∙ node-there) reads in cc) in
         let first : position next-kept.end t.trace.nodes ≡ length (through now.placed.done now.placed.last) =
         ap (position next-kept.end) nodes-part ∙ position-part end-entry next-kept.back (through now.placed.done now.placed.last) not-front in
         omega (
@@ -137,16 +137,19 @@ module _ (code : Code) (inputs : List Block) (start : Start) (st : Stack) (w : V
       frames = frames_at next-kept.waits (around (around (levels (forest_of (entries now.left ++ now.tail)))));
     }
 
-    left-turn : (names : ℕ → ℕ) → turn code names (running_at (state_at code inputs view-before now.course.store (start.chosen ++ now.course.made)) st now.waits (forest_of (entries now.left ++ now.tail))) ≡ Went (item.End ∷ []) mid-machine
+    left-turn : (names : ℕ → ℕ) → turn code names
+        (running_at (state_at code inputs view-before now.course.store (start.chosen ++ now.course.made)) st now.waits (forest_of (entries now.left ++ now.tail))) ≡ Went (item.End ∷ []) mid-machine
     unfolding mid-machine
-    left-turn names = over-turn code names (state_at code inputs view-before now.course.store (start.chosen ++ now.course.made)) st now.waits next-kept.waits (forest_of (entries now.left ++ now.tail)) next-kept.waits_are over
+    left-turn names = over-turn code names (state_at code inputs view-before now.course.store (start.chosen ++ now.course.made)) st now.waits next-kept.waits
+        (forest_of (entries now.left ++ now.tail)) next-kept.waits_are over
 
     state-then : state_at code inputs view-before now.course.store (start.chosen ++ now.course.made)
         ≡ record { store = now.course.store; plain = words_of code inputs heap; number = length (start.chosen ++ now.course.made); work = w.spent }
     state-then = ap (λ (y : Plain). record { store = now.course.store; plain = y; number = length (start.chosen ++ now.course.made); work = w.spent }) (sym (words-same code inputs w.heap heap blocks))
 
     same-then : BareSame mid-machine
-        (fixing_at (record { store = now.course.store; plain = words_of code inputs heap; number = length (start.chosen ++ now.course.made); work = w.spent }) next-kept.waits (ticks next-kept.steps ++ forest_of next-kept.back))
+        (fixing_at (record { store = now.course.store; plain = words_of code inputs heap; number = length (start.chosen ++ now.course.made); work = w.spent }) next-kept.waits
+            (ticks next-kept.steps ++ forest_of next-kept.back))
     unfolding mid-machine
     same-then = record {
       state = state-then;
@@ -175,15 +178,16 @@ module _ (code : Code) (inputs : List Block) (start : Start) (st : Stack) (w : V
         cursor = refl;
         late = late-then;
         opened = opened-put (through now.placed.done now.placed.last) (now.reads ++ start.reads) now.placed.opened end-entry
-            ∙ subst (λ rs. unclosed (unclosed_after next-kept.end (End (stamped next-kept.read)) (rs ++ start.reads)) [] ≡ Some (next-kept.reads ++ start.reads)) (sym next-kept.reads_are)
-            (closed-last (stamped next-kept.read) (next-kept.reads ++ start.reads) next-kept.end);
+            ∙ subst (λ rs. unclosed (unclosed_after next-kept.end (End (stamp_of_number next-kept.read)) (rs ++ start.reads)) [] ≡ Some (next-kept.reads ++ start.reads)) (sym next-kept.reads_are)
+            (closed-last (stamp_of_number next-kept.read) (next-kept.reads ++ start.reads) next-kept.end);
         began = began-put start (through now.placed.done now.placed.last) end-entry now.placed.began;
         unfinished = unfinished-none w.frames w.tables.trace.nodes t.trace.nodes no-end-then now.placed.unfinished;
       };
       passes = next-kept.passes;
       bounds = now.bounds;
       blocks = has now.blocks;
-      course = course-bare code inputs start view-before (through now.placed.done now.placed.last) (forest_of (through now.placed.done now.placed.last)) (λ s. running_at s st now.waits (forest_of (entries now.left ++ now.tail))) now.course
+      course = course-bare code inputs start view-before (through now.placed.done now.placed.last) (forest_of (through now.placed.done now.placed.last))
+          (λ s. running_at s st now.waits (forest_of (entries now.left ++ now.tail))) now.course
           (record { tables = t; heap = heap; spent = w.spent; cursor = next-kept.end; limit = Some until; frames = w.frames })
           (through (through now.placed.done now.placed.last) end-entry) (forest_of (through now.placed.done now.placed.last) ++ item.End ∷ [])
           (λ s. fixing_at s next-kept.waits (ticks next-kept.steps ++ forest_of next-kept.back))

@@ -18,7 +18,8 @@ use Rattle.ceal_mods.specs.Cell.{value_before}
 use Rattle.ceal_mods.specs.Writes.{Write as WriteOf, stamps_of, last_of, those_before, with_one}
 use Rattle.ceal_mods.specs.declared.cell.Cell.{Cell}
 use Rattle.ceal_repair.proofs.QueueCover.Chain.{place-sym}
-use Rattle.ceal_repair.proofs.Lists.PartedLists.{before-part, behind-part, count-all, count-none, insert-after, writes-append, where-append, writes-among, where-among, out-one, out-none, false-of, where-skip}
+use Rattle.ceal_repair.proofs.Lists.PartedLists.{before-part, behind-part, count-all, count-none, insert-after, writes-append, where-append, writes-among, where-among, out-one, out-none, false-of}
+use Rattle.ceal_repair.proofs.Lists.PartedLists.{where-skip}
 use Rattle.ceal_repair.specs.Covered.{content_after, contents_after}
 use Rattle.ceal_repair.specs.Lists.{write_of, writes_in, stamps_where}
 
@@ -79,7 +80,8 @@ module _ (front : List Entry) (e : Entry) (back : List Entry) (distinct : Distin
 
   back-behind : (t : ℕ) → is_in t (stamps_in back) ≡ true → place e.stamp (stamps_in (front ++ e ∷ back)) ≤ place t (stamps_in (front ++ e ∷ back))
   back-behind t h = rw (stamps-append front (e ∷ back))
-      (behind-part e.stamp t (stamps_in front) (e.stamp ∷ stamps_in back) (back-apart (stamps_in front) (e.stamp ∷ stamps_in back) parts t (in_tail t e.stamp (stamps_in back) h)) own-apart (place_head e.stamp (stamps_in back)))
+      (behind-part e.stamp t (stamps_in front) (e.stamp ∷ stamps_in back) (back-apart (stamps_in front) (e.stamp ∷ stamps_in back) parts t (in_tail t e.stamp (stamps_in back) h)) own-apart
+          (place_head e.stamp (stamps_in back)))
 
   -- a write is put where its node is
   pub write-put : (p : Place) (v : Word) → e.node ≡ Write p v → with_one (stamps_in (front ++ e ∷ back)) e.stamp v (writes_in p front ++ writes_in p back) ≡ writes_in p (front ++ e ∷ back)
@@ -88,7 +90,8 @@ module _ (front : List Entry) (e : Entry) (back : List Entry) (distinct : Distin
       count-all (stamps_in (front ++ e ∷ back)) e.stamp (stamps_of (writes_in p front)) (stamps_of (writes_in p back)) (λ t h. front-before t (writes-among p front t h))
       ∙ (ap (λ n. length (stamps_of (writes_in p front)) + n) (count-none (stamps_in (front ++ e ∷ back)) e.stamp (stamps_of (writes_in p back)) (λ t h. back-behind t (writes-among p back t h)))
       ∙ omega (arith, stamps_of-length (writes_in p front))) in
-      rw (stamps_of-append (writes_in p front) (writes_in p back), count, insert-after (writes_in p front) (writes_in p back) (record { stamp = e.stamp; value = v }), writes-append p front (e ∷ back), is, place-refl p) refl
+      rw (stamps_of-append (writes_in p front) (writes_in p back), count, insert-after (writes_in p front) (writes_in p back) (record { stamp = e.stamp; value = v }), writes-append p front
+          (e ∷ back), is, place-refl p) refl
 
   pub where-put : (f : Node → Bool) → f e.node ≡ true
       → insert (stamps_where f (front ++ back)) (count_before (stamps_in (front ++ e ∷ back)) e.stamp (stamps_where f (front ++ back))) e.stamp ≡ stamps_where f (front ++ e ∷ back)
@@ -105,7 +108,8 @@ module _ (front : List Entry) (e : Entry) (back : List Entry) (distinct : Distin
 
   -- its stamp is that of no other node
   pub own-gone : has_node e.stamp (front ++ back) ≡ false
-  own-gone = false-of (has_node e.stamp (front ++ back)) (λ k. sym (in-parts (stamps_in front) (stamps_in back) e.stamp (subst (λ (l : List ℕ). is_in e.stamp l ≡ true) (stamps-append front back) k) own-apart) ∙ own-behind)
+  own-gone = false-of (has_node e.stamp (front ++ back))
+      (λ k. sym (in-parts (stamps_in front) (stamps_in back) e.stamp (subst (λ (l : List ℕ). is_in e.stamp l ≡ true) (stamps-append front back) k) own-apart) ∙ own-behind)
 
   -- taken out of a list, it is out of the list of the nodes
   pub where-cut : (f : Node → Bool) → without e.stamp (stamps_where f (front ++ e ∷ back)) ≡ stamps_where f (front ++ back)
@@ -113,11 +117,13 @@ module _ (front : List Entry) (e : Entry) (back : List Entry) (distinct : Distin
     where
       go : (b : Bool) → f e.node ≡ b → without e.stamp (stamps_where f (front ++ e ∷ back)) ≡ stamps_where f (front ++ back)
       go true k = ap (without e.stamp) (where-append f front (e ∷ back) ∙ ap (λ (l : List ℕ). stamps_where f front ++ l) here)
-          ∙ (out-one e.stamp (stamps_where f front) (stamps_where f back) (false-of (is_in e.stamp (stamps_where f front)) (λ h. sym (where-among f front e.stamp h) ∙ own-apart)) ∙ sym (where-append f front back))
+          ∙ (out-one e.stamp (stamps_where f front) (stamps_where f back) (false-of (is_in e.stamp (stamps_where f front)) (λ h. sym (where-among f front e.stamp h) ∙ own-apart))
+          ∙ sym (where-append f front back))
         where
           here : stamps_where f (e ∷ back) ≡ e.stamp ∷ stamps_where f back
           here = rw k refl
-      go false k = ap (without e.stamp) (where-skip f front e back k) ∙ out-none e.stamp (stamps_where f (front ++ back)) (false-of (is_in e.stamp (stamps_where f (front ++ back))) (λ h. sym (where-among f (front ++ back) e.stamp h) ∙ own-gone))
+      go false k = ap (without e.stamp) (where-skip f front e back k)
+          ∙ out-none e.stamp (stamps_where f (front ++ back)) (false-of (is_in e.stamp (stamps_where f (front ++ back))) (λ h. sym (where-among f (front ++ back) e.stamp h) ∙ own-gone))
 
   those-all : (p : Place) (n : ℕ) (fs bs : List WriteOf) → ((t : ℕ) → is_in t (stamps_of fs) ≡ true → place t (stamps_in (front ++ e ∷ back)) < place n (stamps_in (front ++ e ∷ back)))
       → ((t : ℕ) → is_in t (stamps_of bs) ≡ true → place n (stamps_in (front ++ e ∷ back)) ≤ place t (stamps_in (front ++ e ∷ back))) → those_before (stamps_in (front ++ e ∷ back)) n (fs ++ bs) ≡ fs
@@ -139,7 +145,8 @@ module _ (front : List Entry) (e : Entry) (back : List Entry) (distinct : Distin
   pub value-there : (p : Place) (cell : Cell) → cell.writes ≡ writes_in p (front ++ e ∷ back)
       → value_before (stamps_in (front ++ e ∷ back)) e.stamp cell ≡ last_of cell.base (writes_in p front)
   value-there p cell is =
-      rw (is, writes-append p front (e ∷ back), those-all p e.stamp (writes_in p front) (writes_in p (e ∷ back)) (λ t h. front-before t (writes-among p front t h)) (λ t h. from-own t (writes-among p (e ∷ back) t h))) refl
+      rw (is, writes-append p front (e ∷ back), those-all p e.stamp (writes_in p front) (writes_in p (e ∷ back)) (λ t h. front-before t (writes-among p front t h))
+          (λ t h. from-own t (writes-among p (e ∷ back) t h))) refl
 
 stored-here : (s : Store) (p q : Place) (v : Word) → q ≡ p → stored s q v p ≡ v
 unfolding stored

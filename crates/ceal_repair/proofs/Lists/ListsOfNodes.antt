@@ -60,7 +60,8 @@ read-key-same a b h =
 
 pub read-key-refl : (a : ReadKey) → same_as a a ≡ true
 read-key-refl a = both-true ((same_place a.place a.place && a.unit.0 == a.unit.0) && a.var == a.var) (same_words a.args a.args)
-    (both-true (same_place a.place a.place && a.unit.0 == a.unit.0) (a.var == a.var) (both-true (same_place a.place a.place) (a.unit.0 == a.unit.0) (place-refl a.place) (nat-refl a.unit.0)) (nat-refl a.var)) (words-refl a.args)
+    (both-true (same_place a.place a.place && a.unit.0 == a.unit.0) (a.var == a.var) (both-true (same_place a.place a.place) (a.unit.0 == a.unit.0) (place-refl a.place) (nat-refl a.unit.0))
+        (nat-refl a.var)) (words-refl a.args)
 
 -- ---- nodes that a list passes over
 
@@ -114,7 +115,8 @@ module _ (front : List Entry) (e : Entry) (back : List Entry) where
         no q = rw is refl
 
         writes : (q : Place) (b : Bool) → same_place q p ≡ b → (cell_of new q).writes ≡ writes_in q (front ++ e ∷ back)
-        writes q true k = rw (place-same q p k) (ap (λ (x : Cell). x.writes) c.here ∙ (ap (λ (l : List WriteOf). with_one (stamps_in (front ++ e ∷ back)) e.stamp v l) (t.writes p ∙ writes-append p front back) ∙ write-put front e back distinct p v is))
+        writes q true k = rw (place-same q p k) (ap (λ (x : Cell). x.writes) c.here
+            ∙ (ap (λ (l : List WriteOf). with_one (stamps_in (front ++ e ∷ back)) e.stamp v l) (t.writes p ∙ writes-append p front back) ∙ write-put front e back distinct p v is))
         writes q false k = ap (λ (x : Cell). x.writes) (c.others q (other-place q p k)) ∙ (t.writes q ∙ sym (writes-skip q front e back (rw (is, place-sym q p k) refl)))
 
         reads : (q : Place) (b : Bool) → same_place q p ≡ b → (cell_of new q).reads ≡ stamps_where (reads_at q) (front ++ e ∷ back)
@@ -137,7 +139,8 @@ module _ (front : List Entry) (e : Entry) (back : List Entry) where
         here = rw is (place-refl p)
 
         reads : (q : Place) (b : Bool) → same_place q p ≡ b → (cell_of new q).reads ≡ stamps_where (reads_at q) (front ++ e ∷ back)
-        reads q true k = rw (place-same q p k) (ap (λ (x : Cell). x.reads) c.here ∙ (ap (λ (l : List ℕ). insert l (count_before (stamps_in (front ++ e ∷ back)) e.stamp l) e.stamp) (t.reads p) ∙ where-put front e back distinct (reads_at p) here))
+        reads q true k = rw (place-same q p k) (ap (λ (x : Cell). x.reads) c.here
+            ∙ (ap (λ (l : List ℕ). insert l (count_before (stamps_in (front ++ e ∷ back)) e.stamp l) e.stamp) (t.reads p) ∙ where-put front e back distinct (reads_at p) here))
         reads q false k = ap (λ (x : Cell). x.reads) (c.others q (other-place q p k)) ∙ (t.reads q ∙ sym (where-skip (reads_at q) front e back (rw (is, place-sym q p k) refl)))
 
     -- a write is taken out
@@ -158,7 +161,8 @@ module _ (front : List Entry) (e : Entry) (back : List Entry) where
         apart = false-of (is_in e.stamp (stamps_of (writes_in p front))) (λ h. sym (writes-among p front e.stamp h) ∙ own-apart front e back distinct)
 
         writes : (q : Place) (b : Bool) → same_place q p ≡ b → (cell_of new q).writes ≡ writes_in q (front ++ back)
-        writes q true k = rw (place-same q p k) (ap (λ (x : Cell). x.writes) c.here ∙ (ap (without_one e.stamp) (t.writes p ∙ at) ∙ (out-write e.stamp v (writes_in p front) (writes_in p back) apart ∙ sym (writes-append p front back))))
+        writes q true k = rw (place-same q p k)
+            (ap (λ (x : Cell). x.writes) c.here ∙ (ap (without_one e.stamp) (t.writes p ∙ at) ∙ (out-write e.stamp v (writes_in p front) (writes_in p back) apart ∙ sym (writes-append p front back))))
         writes q false k = ap (λ (x : Cell). x.writes) (c.others q (other-place q p k)) ∙ (t.writes q ∙ writes-skip q front e back (rw (is, place-sym q p k) refl))
 
         reads : (q : Place) (b : Bool) → same_place q p ≡ b → (cell_of new q).reads ≡ stamps_where (reads_at q) (front ++ back)

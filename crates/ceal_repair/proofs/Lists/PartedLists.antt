@@ -68,7 +68,8 @@ writes-append p (e ∷ es) g = one e.node (writes-append p es g)
     one (End r) h = h
     one (Write q v) h = go (same_place q p)
       where
-        go : (t : Bool) → (if t then record { stamp = e.stamp; value = v } ∷ writes_in p (es ++ g) else writes_in p (es ++ g)) ≡ (if t then record { stamp = e.stamp; value = v } ∷ writes_in p es else writes_in p es) ++ writes_in p g
+        go : (t : Bool) → (if t then record { stamp = e.stamp; value = v } ∷ writes_in p (es ++ g) else writes_in p (es ++ g))
+            ≡ (if t then record { stamp = e.stamp; value = v } ∷ writes_in p es else writes_in p es) ++ writes_in p g
         go true = ap (λ (l : List WriteOf). record { stamp = e.stamp; value = v } ∷ l) h
         go false = h
 
@@ -89,7 +90,8 @@ pub writes-among : (p : Place) (es : List Entry) (t : ℕ) → is_in t (stamps_o
 writes-among p [] t h = h
 writes-among p (e ∷ es) t h = one e.node (writes-among p es t) h
   where
-    one : (i : Node) → (is_in t (stamps_of (writes_in p es)) ≡ true → is_in t (stamps_in es) ≡ true) → is_in t (stamps_of (write_of p e.stamp i (writes_in p es))) ≡ true → is_in t (e.stamp ∷ stamps_in es) ≡ true
+    one : (i : Node) → (is_in t (stamps_of (writes_in p es)) ≡ true → is_in t (stamps_in es) ≡ true) → is_in t (stamps_of (write_of p e.stamp i (writes_in p es))) ≡ true
+        → is_in t (e.stamp ∷ stamps_in es) ≡ true
     one Root k h = in_tail t e.stamp (stamps_in es) (k h)
     one (Alloc b j) k h = in_tail t e.stamp (stamps_in es) (k h)
     one (Read q v u x args) k h = in_tail t e.stamp (stamps_in es) (k h)
@@ -104,7 +106,8 @@ pub where-among : (f : Node → Bool) (es : List Entry) (t : ℕ) → is_in t (s
 where-among f [] t h = h
 where-among f (e ∷ es) t h = go (f e.node) (where-among f es t) h
   where
-    go : (b : Bool) → (is_in t (stamps_where f es) ≡ true → is_in t (stamps_in es) ≡ true) → is_in t (if b then e.stamp ∷ stamps_where f es else stamps_where f es) ≡ true → is_in t (e.stamp ∷ stamps_in es) ≡ true
+    go : (b : Bool) → (is_in t (stamps_where f es) ≡ true → is_in t (stamps_in es) ≡ true) → is_in t (if b then e.stamp ∷ stamps_where f es else stamps_where f es) ≡ true
+        → is_in t (e.stamp ∷ stamps_in es) ≡ true
     go true k h = in-later t e.stamp (stamps_where f es) (stamps_in es) k h
     go false k h = in_tail t e.stamp (stamps_in es) (k h)
 
@@ -139,7 +142,8 @@ where-skip f front e back k = where-append f front (e ∷ back) ∙ (ap (λ (l :
     skip : stamps_where f (e ∷ back) ≡ stamps_where f back
     skip = rw k refl
 
-pub writes-skip : (p : Place) (front : List Entry) (e : Entry) (back : List Entry) → write_of p e.stamp e.node (writes_in p back) ≡ writes_in p back → writes_in p (front ++ e ∷ back) ≡ writes_in p (front ++ back)
+pub writes-skip : (p : Place) (front : List Entry) (e : Entry) (back : List Entry) → write_of p e.stamp e.node (writes_in p back) ≡ writes_in p back
+    → writes_in p (front ++ e ∷ back) ≡ writes_in p (front ++ back)
 writes-skip p front e back k = writes-append p front (e ∷ back) ∙ (ap (λ (l : List WriteOf). writes_in p front ++ l) k ∙ sym (writes-append p front back))
 
 -- ---- taken out of a list

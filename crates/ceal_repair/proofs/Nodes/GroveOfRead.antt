@@ -8,7 +8,7 @@ use Rattle.ceal_base.specs.declared.word.Place.{Place}
 use Rattle.ceal_base.specs.declared.word.Word.{Word}
 use Rattle.ceal_order.specs.Stamps.{Distinct, head_of}
 use Rattle.ceal_repair.proofs.Nodes.NodeItems.{RootlessNode, Rootless, behind-all}
-use Rattle.ceal_repair.specs.Entries.{stamped, entry, closing, entries}
+use Rattle.ceal_repair.specs.Entries.{stamp_of_number, entry, end_entry, entries}
 use Rattle.ceal_repair.specs.Turning.{ReadAt}
 use Rattle.ceal_theory.specs.Groves.{Grove, Bare, Made, Put, Got}
 use Rattle.ceal_trace.proofs.Entries.{ends_is}
@@ -29,7 +29,7 @@ record Layer : Type 0 where
 -- a grove, and then layers
 abbrev laid : Grove → List Layer → List Entry
 laid g [] = entries g
-laid g (l ∷ ls) = entries g ++ closing l.end l.read l.steps ∷ laid l.behind ls
+laid g (l ∷ ls) = entries g ++ end_entry l.end l.read l.steps ∷ laid l.behind ls
 
 -- the reads that layers end
 abbrev reads_of : List Layer → List ℕ
@@ -52,10 +52,10 @@ laid-put s p v n g [] = refl
 laid-put s p v n g (l ∷ ls) = refl
 
 laid-got : (s : ℕ) (p : Place) (v : Word) (u : UnitId) (x : ℕ) (args : List Word) (n : ℕ) (g : Grove) (e m : ℕ) (h : Grove) (ls : List Layer)
-    → entry s (Read p v u x args) n ∷ (entries g ++ closing e s m ∷ laid h ls) ≡ laid (Got s p v u x args n g e m h) ls
+    → entry s (Read p v u x args) n ∷ (entries g ++ end_entry e s m ∷ laid h ls) ≡ laid (Got s p v u x args n g e m h) ls
 laid-got s p v u x args n g e m h [] = refl
 laid-got s p v u x args n g e m h (l ∷ ls) =
-    ap (λ es. entry s (Read p v u x args) n ∷ es) (sym (append_assoc (entries g) (closing e s m ∷ entries h) (closing l.end l.read l.steps ∷ laid l.behind ls)))
+    ap (λ es. entry s (Read p v u x args) n ∷ es) (sym (append_assoc (entries g) (end_entry e s m ∷ entries h) (end_entry l.end l.read l.steps ∷ laid l.behind ls)))
 
 -- a read takes the innermost grove inside, and continues with the one after its end
 laid-read : (s n : ℕ) (p : Place) (v : Word) (u : UnitId) (x : ℕ) (args : List Word) (reads : List ℕ) (es : List Entry) (g : Grove) (ls : List Layer) → reads_of ls ≡ s ∷ reads → es ≡ laid g ls
@@ -68,7 +68,7 @@ laid-read s n p v u x args reads es g (l ∷ ls) same is =
       inner = Got s p v u x args n g l.end l.steps l.behind;
       outer = ls;
       same = rest;
-      is = ap (λ fs. entry s (Read p v u x args) n ∷ fs) (is ∙ ap (λ r. entries g ++ closing l.end r l.steps ∷ laid l.behind ls) own) ∙ laid-got s p v u x args n g l.end l.steps l.behind ls;
+      is = ap (λ fs. entry s (Read p v u x args) n ∷ fs) (is ∙ ap (λ r. entries g ++ end_entry l.end r l.steps ∷ laid l.behind ls) own) ∙ laid-got s p v u x args n g l.end l.steps l.behind ls;
     }
 
 laid-node : (node : Node) (s n : ℕ) (es : List Entry) (reads : List ℕ) → RootlessNode node → ((rs : List ℕ) → unclosed (Some rs) es ≡ Some [] → Laid rs es)
@@ -91,7 +91,7 @@ laid-node (End r) s n es (last ∷ reads) plain behind h = elim (eqb_tells r.0 l
         inner = Bare;
         outer = record { end = s; read = last; steps = n; behind = l.inner } ∷ l.outer;
         same = ap (λ rs. last ∷ rs) l.same;
-        is = ap (λ k. entry s (End (stamped k)) n ∷ es) q.1 ∙ ap (λ fs. closing s last n ∷ fs) l.is;
+        is = ap (λ k. entry s (End (stamp_of_number k)) n ∷ es) q.1 ∙ ap (λ fs. end_entry s last n ∷ fs) l.is;
       }
   | inr q ↦ absurd (let no : None ≡ Some [] = rw q.0 at h in cc)
 ]
@@ -176,15 +176,17 @@ module _ (t : Timeline) (trace : IsTrace t) (nests : Nests t.nodes) (read : ℕ)
       cc
 
   pub inside-grove : (g : Grove) × (around.inside ≡ entries g)
-  inside-grove = as-grove around.inside (rootless-front around.inside (around.ends' ∷ around.behind) (rootless-behind t trace around.before around.begins (around.inside ++ around.ends' ∷ around.behind) around.whole)) around.nests
+  inside-grove = as-grove around.inside
+      (rootless-front around.inside (around.ends' ∷ around.behind) (rootless-behind t trace around.before around.begins (around.inside ++ around.ends' ∷ around.behind) around.whole)) around.nests
 
   begins-is : around.begins ≡ entry read (Read place value unit var args) around.begins.steps
   begins-is = ap (λ s. entry s around.begins.node around.begins.steps) around.begun ∙ ap (λ node. entry read node around.begins.steps) begins-node
 
-  ends-is : around.ends' ≡ closing around.ends'.stamp read around.ends'.steps
+  ends-is : around.ends' ≡ end_entry around.ends'.stamp read around.ends'.steps
   ends-is = ap (λ node. entry around.ends'.stamp node around.ends'.steps) (ends_is read around.ends'.node around.ended)
 
-  pub parts-whole : t.nodes ≡ around.before ++ entry read (Read place value unit var args) around.begins.steps ∷ (entries inside-grove.0 ++ closing around.ends'.stamp read around.ends'.steps ∷ around.behind)
+  pub parts-whole : t.nodes
+      ≡ around.before ++ entry read (Read place value unit var args) around.begins.steps ∷ (entries inside-grove.0 ++ end_entry around.ends'.stamp read around.ends'.steps ∷ around.behind)
   parts-whole = around.whole ∙ (ap (λ e. around.before ++ e ∷ (around.inside ++ around.ends' ∷ around.behind)) begins-is
       ∙ (ap (λ es. around.before ++ entry read (Read place value unit var args) around.begins.steps ∷ (es ++ around.ends' ∷ around.behind)) inside-grove.1
       ∙ ap (λ e. around.before ++ entry read (Read place value unit var args) around.begins.steps ∷ (entries inside-grove.0 ++ e ∷ around.behind)) ends-is))

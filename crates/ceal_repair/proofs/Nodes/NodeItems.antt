@@ -1,5 +1,6 @@
 -- Nodes in front of the cursor and after it, and what they stand for.
-use Rattle.std.proofs.Common.{◌≡◌, ℕ, zero, suc, inl, inr, ◌⊎◌, ◌+◌, ◌≤◌, Bool, true, false, if◌then◌else◌, Option, Some, None, List, [], ◌∷◌, ◌++◌, length, refl, sym, ap, subst, ◌∙◌, arith, append_assoc, append-nil, add-one}
+use Rattle.std.proofs.Common.{◌≡◌, ℕ, zero, suc, inl, inr, ◌⊎◌, ◌+◌, ◌≤◌, Bool, true, false, if◌then◌else◌, Option, Some, None, List, [], ◌∷◌, ◌++◌, length, refl, sym, ap, subst, ◌∙◌, arith}
+use Rattle.std.proofs.Common.{append_assoc, append-nil, add-one}
 use Rattle.std.specs.Prelude.{⊤, IsSome}
 use Rattle.std.proofs.lemmas.Bool.Decides.{eqb_tells}
 use Rattle.std.proofs.lemmas.Bool.{eq-eqb}
@@ -18,7 +19,7 @@ use Rattle.ceal_order.specs.Stamps.{NotIn, Distinct, is_in}
 use Rattle.ceal_code.specs.Step.{Stack}
 use Rattle.ceal_order.specs.declared.stamp.Stamp.{Stamp}
 use Rattle.ceal_repair.specs.Around.{Bounds, Inside, Tails, Passes}
-use Rattle.ceal_repair.specs.Entries.{entries, entry, closing, knots_of}
+use Rattle.ceal_repair.specs.Entries.{entries, entry, end_entry, knots_of}
 use Rattle.ceal_repair.specs.Moment.{Start, Began, Unfinished, through}
 use Rattle.ceal_repair.specs.Frames.{Frame, Begun, Taken, Kept}
 use Rattle.ceal_repair.specs.AsItems.{item_in}
@@ -121,7 +122,7 @@ knots-entries Bare = refl
 knots-entries (Made s b key n rest) = ap (λ ks. knot s (item.Alloc b key) n ∷ ks) (knots-entries rest)
 knots-entries (Put s p v n rest) = ap (λ ks. knot s (item.Write p v) n ∷ ks) (knots-entries rest)
 knots-entries (Got s p v u x args n inside e m rest) =
-    ap (λ ks. knot s (item.Read p v u x args) n ∷ ks) (knots-append (entries inside) (closing e s m ∷ entries rest)
+    ap (λ ks. knot s (item.Read p v u x args) n ∷ ks) (knots-append (entries inside) (end_entry e s m ∷ entries rest)
     ∙ (ap (λ ks. ks ++ knot e item.End m ∷ knots_of (entries rest)) (knots-entries inside) ∙ ap (λ ks. knots inside ++ knot e item.End m ∷ ks) (knots-entries rest)))
 
 pub entries-joined : (f g : Grove) → entries (joined f g) ≡ entries f ++ entries g
@@ -129,8 +130,8 @@ entries-joined Bare g = refl
 entries-joined (Made s b key n rest) g = ap (λ es. entry s (Alloc b key) n ∷ es) (entries-joined rest g)
 entries-joined (Put s p v n rest) g = ap (λ es. entry s (Write p v) n ∷ es) (entries-joined rest g)
 entries-joined (Got s p v u x args n inside e m rest) g =
-    ap (λ es. entry s (Read p v u x args) n ∷ es) (ap (λ es. entries inside ++ closing e s m ∷ es) (entries-joined rest g)
-    ∙ sym (append_assoc (entries inside) (closing e s m ∷ entries rest) (entries g)))
+    ap (λ es. entry s (Read p v u x args) n ∷ es) (ap (λ es. entries inside ++ end_entry e s m ∷ es) (entries-joined rest g)
+    ∙ sym (append_assoc (entries inside) (end_entry e s m ∷ entries rest) (entries g)))
 
 -- none of these nodes is the root
 abbrev pub RootlessNode : Node → Type 0
@@ -168,7 +169,7 @@ pub rootless-entries : (g : Grove) → Rootless (entries g)
 rootless-entries Bare = tt
 rootless-entries (Made s b key n rest) = (tt, rootless-entries rest)
 rootless-entries (Put s p v n rest) = (tt, rootless-entries rest)
-rootless-entries (Got s p v u x args n inside e m rest) = (tt, rootless-append (entries inside) (closing e s m ∷ entries rest) (rootless-entries inside) (tt, rootless-entries rest))
+rootless-entries (Got s p v u x args n inside e m rest) = (tt, rootless-append (entries inside) (end_entry e s m ∷ entries rest) (rootless-entries inside) (tt, rootless-entries rest))
 
 -- ---- open reads
 
@@ -483,7 +484,8 @@ tails-bound (Tails.taken {tail = tail} below e r m g t) b = (r, m, entries g ++ 
 tails-bound (Tails.kept {back = back} e r m t) b = (r, m, back, refl)
 
 -- what a frame that comes next says of what waits
-pub record WaitsBegun (limit : Option Stamp) (beyond : List Entry) (until : Option Stamp) (below : Stack) (read : Stamp) (fs : List Frame) (ws : List Wait) (rs : List ℕ) (tail : List Entry) : Type 0 where
+pub record WaitsBegun (limit : Option Stamp) (beyond : List Entry) (until : Option Stamp) (below : Stack) (read : Stamp) (fs : List Frame) (ws : List Wait) (rs : List ℕ)
+    (tail : List Entry) : Type 0 where
   pub waits : List Wait
   pub reads : List ℕ
   pub waits_are : ws ≡ Begins below ∷ waits

@@ -25,7 +25,7 @@ use Rattle.ceal_repair.specs.Covered.{content_after, contents_after}
 use Rattle.ceal_repair.specs.Kept.{IsHonestRecord, base_in, contents_at}
 use Rattle.ceal_repair.specs.Lists.{before}
 use Rattle.ceal_repair.specs.Turning.{StandsFor}
-use Rattle.ceal_repair.specs.Words.{default_of}
+use Rattle.ceal_repair.specs.Words.{default_by_standing}
 use Rattle.ceal_repair.specs.declared.running.Running.{Running}
 use Rattle.ceal_repair.specs.declared.tables.Tables.{Tables}
 use Rattle.ceal_theory.specs.Cover.{known_after}
@@ -67,7 +67,8 @@ moment-part t front e back h d p =
     ap (λ es. contents_after (base_in t.mods) es p) (ap (before e.stamp) h ∙ before-node e back front (not_before front e back (subst (λ es. Distinct (stamps_in es)) h d)))
 
 module _ (t : Tables) (d : Distinct (stamps_in t.trace.nodes)) where
-  honest-node : (done : List Entry) (e : Entry) (back : List Entry) → t.trace.nodes ≡ done ++ e ∷ back → IsHonestRecord e.stamp t → (node : Node) → e.node ≡ node → HasContent (contents_after (base_in t.mods) done) node
+  honest-node : (done : List Entry) (e : Entry) (back : List Entry) → t.trace.nodes ≡ done ++ e ∷ back → IsHonestRecord e.stamp t → (node : Node) → e.node ≡ node
+      → HasContent (contents_after (base_in t.mods) done) node
   honest-node done e back h k Root is = tt
   honest-node done e back h k (Alloc b key) is = tt
   honest-node done e back h k (Write p v) is = tt
@@ -82,7 +83,8 @@ module _ (t : Tables) (d : Distinct (stamps_in t.trace.nodes)) where
   honest-node done e back h k (End r) is = tt
 
   -- the second list of nodes
-  honest-after : (done todo back : List Entry) → t.trace.nodes ≡ done ++ (todo ++ back) → ((r : ℕ) → has_node r todo ≡ true → IsHonestRecord r t) → HasContents (contents_after (base_in t.mods) done) todo
+  honest-after : (done todo back : List Entry) → t.trace.nodes ≡ done ++ (todo ++ back) → ((r : ℕ) → has_node r todo ≡ true → IsHonestRecord r t)
+      → HasContents (contents_after (base_in t.mods) done) todo
   honest-after done [] back h k = tt
   honest-after done (e ∷ es) back h k = (
     honest-node done e (es ++ back) h (k e.stamp (in_head e.stamp (stamps_in es))) e.node refl,
@@ -125,7 +127,7 @@ module _ (code : Code) (inputs : List Block) (f : ℕ) (args : List Word) (r : R
   unfolding starting
   live-base b field l =
       let own : r.known (Core b) ≡ Some (plain_block l.0) = stands.known b ∙ ap (λ s. option_map plain_block (known s)) l.1 in
-      rw own (sym (stands.blocks.bases.of_cores b field ∙ ap (λ s. default_of code.structs s field) l.1))
+      rw own (sym (stands.blocks.bases.of_cores b field ∙ ap (λ s. default_by_standing code.structs s field) l.1))
 
   input-base : (i field : ℕ) → KnownBlock (length inputs) [] (Input i) → first-store (record { block = Input i; field = field }) ≡ bases (record { block = Input i; field = field })
   unfolding starting

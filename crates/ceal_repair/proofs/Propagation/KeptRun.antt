@@ -83,7 +83,8 @@ same-running a b t h s =
 
 -- a repair that begins on it
 pub has-come-in : (code : Code) (inputs : List Block) (f : ℕ) (args : List Word) (fuel : ℕ) (l : Trace) (run : Running) → IsKeptRun code inputs f args fuel l run
-    → (r : Repair) → code_of r ≡ code → inputs_of r ≡ inputs → r.running.now.tables ≡ run.tables → r.running.now.heap ≡ run.heap → r.running.now.spent ≡ 0 → HasCome (code_of r) (inputs_of r) f args (since_begun code inputs l (next run.heap)) run r.running.now
+    → (r : Repair) → code_of r ≡ code → inputs_of r ≡ inputs → r.running.now.tables ≡ run.tables → r.running.now.heap ≡ run.heap → r.running.now.spent ≡ 0
+    → HasCome (code_of r) (inputs_of r) f args (since_begun code inputs l (next run.heap)) run r.running.now
 has-come-in code inputs f args fuel l run kept r same_code same_inputs tables heap spent =
     let same : r.running.now ≡ record run { spent = 0 } = same-running r.running.now (record run { spent = 0 }) tables heap spent in
     rw (same_code, same_inputs, same) (has-come code inputs f args fuel l run kept)

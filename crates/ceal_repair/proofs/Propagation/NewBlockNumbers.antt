@@ -89,7 +89,8 @@ module _ (code : Code) (inputs : List Block) (f : ℕ) (args : List Word) (o : S
       let rest = turns-room names r' z m one.sound t in omega (arith, one.room, rest)
 
 -- turns, and one more
-pub turns-more : (code : Code) (names : ℕ → ℕ) (inputs : List Block) (r z w : Repair) (n : ℕ) → Turns code names inputs n r z → Slices code names inputs (Some 1) z w → Turns code names inputs (suc n) r w
+pub turns-more : (code : Code) (names : ℕ → ℕ) (inputs : List Block) (r z w : Repair) (n : ℕ) → Turns code names inputs n r z → Slices code names inputs (Some 1) z w
+    → Turns code names inputs (suc n) r w
 turns-more code names inputs r z w n Turns.none s = Turns.turn s Turns.none
 turns-more code names inputs r z w n (Turns.turn {n = m} {r' = r'} s t) k = Turns.turn s (turns-more code names inputs r' z w m t k)
 

@@ -112,7 +112,8 @@ module _ (code : Code) (inputs : List Block) (f : ℕ) (args : List Word) (fuel 
 
     turned : Turned code going_on.names inputs n (counted_anew r) last
     turned = subst (λ m. Turned code going_on.names inputs m (counted_anew r) last) (no-turns-more n)
-        (turns-law code going_on.names inputs f args part.fits (counted_anew r) (origin.sound going_on.names going_on.single going_on.apart) (turns_more n 0) last (come.so_far.history going_on.names going_on.continues))
+        (turns-law code going_on.names inputs f args part.fits (counted_anew r) (origin.sound going_on.names going_on.single going_on.apart) (turns_more n 0) last
+            (come.so_far.history going_on.names going_on.continues))
 
     within : (reads : Option ℕ) (z : Repair) → Slices code going_on.names inputs reads (counted_anew r) z → z.spent ≤ fuel → IsSliceOf code inputs reads fuel r (Some z)
     within reads z s few = record {
@@ -151,7 +152,8 @@ module _ (code : Code) (inputs : List Block) (f : ℕ) (args : List Word) (fuel 
     -- to the end: what it is a slice to, which has the same items and has spent as much
     pub is-whole : IsHonest code inputs last.items → (reads : Option ℕ) → reads ≢ Some 0 → IsWithin n reads → now.spent ≤ fuel
         → (z : Repair) × IsSliceOf code inputs reads fuel r (Some z) × (z.items ≡ last.items) × (z.spent ≡ last.spent)
-    is-whole honest None some less few = (repair_at (goes_on code inputs last) last.items, within None (repair_at (goes_on code inputs last) last.items) (turned.whole honest) (spent-few few), refl, refl)
+    is-whole honest None some less few =
+        (repair_at (goes_on code inputs last) last.items, within None (repair_at (goes_on code inputs last) last.items) (turned.whole honest) (spent-few few), refl, refl)
     is-whole honest (Some k) some less few = of (cases_order n k)
       where
         of : (n ≡ k) ⊎ ((n < k) ⊎ (k < n)) → (z : Repair) × IsSliceOf code inputs (Some k) fuel r (Some z) × (z.items ≡ last.items) × (z.spent ≡ last.spent)
@@ -177,13 +179,15 @@ module _ (code : Code) (inputs : List Block) (f : ℕ) (args : List Word) (fuel 
   at-least zero h = absurd (h refl)
   at-least (suc n) h = omega arith
 
-  pub goes-on-so : (before now : Running) (n : ℕ) → IsUnderWay code inputs f args (later n since) before now → (reads : Option ℕ) → reads ≢ Some 0 → reads ≡ Some n → now.spent ≤ fuel → IsSliced code inputs f args reads fuel r now More
+  pub goes-on-so : (before now : Running) (n : ℕ) → IsUnderWay code inputs f args (later n since) before now → (reads : Option ℕ) → reads ≢ Some 0 → reads ≡ Some n → now.spent ≤ fuel
+      → IsSliced code inputs f args reads fuel r now More
   goes-on-so before now n way reads some e few =
       let s = is-slice before now n way.come (at-least n (λ z. some (e ∙ ap Some z))) few in
       (last before now n way.come, subst (λ k. IsSliceOf code inputs k fuel r (Some (last before now n way.come))) (sym e) s, way.stale, is-part before now n way.come few)
 
   -- so it is a slice, however far it has come
-  pub is-sliced : (p : Progress) (before now : Running) (reads : Option ℕ) → reads ≢ Some 0 → (p ≢ Spent → now.spent ≤ fuel) → Propagated p code inputs f args reads fuel since before now → IsSliced code inputs f args reads fuel r now p
+  pub is-sliced : (p : Progress) (before now : Running) (reads : Option ℕ) → reads ≢ Some 0 → (p ≢ Spent → now.spent ≤ fuel) → Propagated p code inputs f args reads fuel since before now
+      → IsSliced code inputs f args reads fuel r now p
   is-sliced More before now reads some few h = goes-on-so before now h.0 h.2 reads some h.1 (few (λ e. absurd cc))
   is-sliced Done before now reads some few h =
       let up = h.3 in
@@ -204,7 +208,8 @@ module _ (code : Code) (inputs : List Block) (f : ℕ) (args : List Word) (fuel 
       (w.0, w.1, subst (λ m. IsHonest code inputs m) (sym w.2) up.honest, too-many code inputs f args (later h.0 since) before now up fuel h.3)
 
 -- nodes that agreed at the beginning are as they were
-pub front-stays : (code : Code) (inputs : List Block) (f : ℕ) (args : List Word) (reads : Option ℕ) (fuel : ℕ) (o : Since) (before now : Running) (p : Progress) → p ≢ Spent → Propagated p code inputs f args reads fuel o before now
+pub front-stays : (code : Code) (inputs : List Block) (f : ℕ) (args : List Word) (reads : Option ℕ) (fuel : ℕ) (o : Since) (before now : Running) (p : Progress) → p ≢ Spent
+    → Propagated p code inputs f args reads fuel o before now
     → KeepsFront code inputs before.tables.trace.nodes now.tables.trace.nodes
 front-stays code inputs f args reads fuel o before now More n h = h.2.come.front
 front-stays code inputs f args reads fuel o before now Done n h = rw h.4.tables h.3.come.front
@@ -212,11 +217,13 @@ front-stays code inputs f args reads fuel o before now Spent n h = absurd (n ref
 front-stays code inputs f args reads fuel o before now OutOfFuel n h = h.2.come.front
 
 -- so it is with the repair of a trace of the call
-pub is-repaired : (code : Code) (inputs : List Block) (f : ℕ) (args : List Word) (reads : Option ℕ) (fuel : ℕ) (l : Trace) (old : Running) → IsKeptRun code inputs f args fuel l old → (before now : Running) (p : Progress)
+pub is-repaired : (code : Code) (inputs : List Block) (f : ℕ) (args : List Word) (reads : Option ℕ) (fuel : ℕ) (l : Trace) (old : Running) → IsKeptRun code inputs f args fuel l old
+    → (before now : Running) (p : Progress)
     → Propagated p code inputs f args reads fuel (since_begun code inputs l (next old.heap)) before now → IsRepaired code inputs f args fuel l before now p
 is-repaired code inputs f args reads fuel l old kept before now More h = tt
 is-repaired code inputs f args reads fuel l old kept before now Done h =
-    repaired code inputs f args l kept.fits kept.replays (next old.heap) h.0 before h.2 h.3 fuel h.4.few kept.numbers (let m = few-blocks code inputs f args fuel l old kept in omega (arith, m, kept.few)) now
+    repaired code inputs f args l kept.fits kept.replays (next old.heap) h.0 before h.2 h.3 fuel h.4.few kept.numbers
+        (let m = few-blocks code inputs f args fuel l old kept in omega (arith, m, kept.few)) now
     h.4.tables h.4.spent h.4.released h.4.slots
 is-repaired code inputs f args reads fuel l old kept before now Spent h = spent-out code inputs f args l kept.fits kept.replays (next old.heap) h.0 fuel h.2
 is-repaired code inputs f args reads fuel l old kept before now OutOfFuel h = too-many code inputs f args (later h.0 (since_begun code inputs l (next old.heap))) before now h.2 fuel h.3

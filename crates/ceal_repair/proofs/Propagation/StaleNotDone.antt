@@ -10,7 +10,7 @@ use Rattle.ceal_repair.proofs.Nodes.GroveOfRead.{read-at}
 use Rattle.ceal_repair.proofs.Propagation.TurnBegin.{known-read}
 use Rattle.ceal_repair.proofs.Nodes.StoreAgreement.{moment-part, store-listed}
 use Rattle.ceal_repair.specs.Covered.{contents_after}
-use Rattle.ceal_repair.specs.Entries.{entry, closing, entries}
+use Rattle.ceal_repair.specs.Entries.{entry, end_entry, entries}
 use Rattle.ceal_repair.specs.Kept.{IsStale, base_in, contents_at}
 use Rattle.ceal_repair.specs.Turning.{ReadAt, StandsFor}
 use Rattle.ceal_repair.specs.declared.running.Running.{Running}
@@ -34,25 +34,29 @@ module _ (code : Code) (inputs : List Block) (f : ℕ) (args : List Word) (fits 
   was = entry s (Read stale.place stale.value stale.read.unit stale.read.var stale.read.args) spot.steps
 
   abbrev behind : List Entry
-  behind = entries spot.inside ++ closing spot.end s spot.end_steps ∷ spot.behind
+  behind = entries spot.inside ++ end_entry spot.end s spot.end_steps ∷ spot.behind
 
   -- all items agree, so those before the read do, and the read does
   all : AgreesAll code (starting code inputs r.known) (forest_of run.tables.trace.nodes)
   all = subst (AgreesAll code (starting code inputs r.known)) (sym stands.items) ((start-law code stands.names inputs f args fits r stands.sound).0 honest)
 
-  parted : AgreesAll code (starting code inputs r.known) (forest_of spot.before ++ item.Read stale.place stale.value stale.read.unit stale.read.var stale.read.args ∷ (ticks spot.steps ++ forest_of behind))
+  parted : AgreesAll code (starting code inputs r.known)
+      (forest_of spot.before ++ item.Read stale.place stale.value stale.read.unit stale.read.var stale.read.args ∷ (ticks spot.steps ++ forest_of behind))
   parted = subst (AgreesAll code (starting code inputs r.known)) (ap forest_of spot.whole ∙ forest-append spot.before (was ∷ behind)) all
 
   both : AgreesAll code (starting code inputs r.known) (forest_of spot.before)
-      × AgreesAll code (store_after code (starting code inputs r.known) (forest_of spot.before)) (item.Read stale.place stale.value stale.read.unit stale.read.var stale.read.args ∷ (ticks spot.steps ++ forest_of behind))
-  both = agrees-front code (starting code inputs r.known) (forest_of spot.before) (item.Read stale.place stale.value stale.read.unit stale.read.var stale.read.args ∷ (ticks spot.steps ++ forest_of behind)) parted
+      × AgreesAll code (store_after code (starting code inputs r.known) (forest_of spot.before))
+          (item.Read stale.place stale.value stale.read.unit stale.read.var stale.read.args ∷ (ticks spot.steps ++ forest_of behind))
+  both = agrees-front code (starting code inputs r.known) (forest_of spot.before)
+      (item.Read stale.place stale.value stale.read.unit stale.read.var stale.read.args ∷ (ticks spot.steps ++ forest_of behind)) parted
 
   listed : Listed code inputs r (forest_of run.tables.trace.nodes)
   listed = listed-law code stands.names inputs f args fits r stands.sound (forest_of run.tables.trace.nodes) [] (sym stands.items ∙ sym (append-nil (forest_of run.tables.trace.nodes))) all
 
   pub still-stale : ⊥
   still-stale =
-      let known = known-read listed.items (forest_of spot.before) stale.place stale.value stale.read.unit stale.read.var stale.read.args (ticks spot.steps ++ forest_of behind) (ap forest_of spot.whole ∙ forest-append spot.before (was ∷ behind)) in
+      let known = known-read listed.items (forest_of spot.before) stale.place stale.value stale.read.unit stale.read.var stale.read.args (ticks spot.steps ++ forest_of behind)
+          (ap forest_of spot.whole ∙ forest-append spot.before (was ∷ behind)) in
       let now : store_after code (starting code inputs r.known) (forest_of spot.before) stale.place ≡ contents_after (base_in run.tables.mods) spot.before stale.place =
       store-listed code inputs f args r run fits listed-law ready-law stands spot.before (was ∷ behind) spot.whole both.0 stale.place known in
       let there : contents_at s run.tables stale.place ≡ contents_after (base_in run.tables.mods) spot.before stale.place =

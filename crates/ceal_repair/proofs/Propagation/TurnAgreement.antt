@@ -18,8 +18,8 @@ use Rattle.ceal_repair.proofs.Propagation.TurnCourse.{turn-over}
 use Rattle.ceal_repair.proofs.Propagation.UpToDateHonest.{come-now, up-to-date}
 use Rattle.ceal_repair.proofs.Runs.Paid.{stays}
 use Rattle.ceal_repair.specs.Looks.{PaysBut}
-use Rattle.ceal_repair.specs.Entries.{entry, entries, closing}
-use Rattle.ceal_repair.specs.Kept.{Kept, IsStale, IsHonestRecord, QueuedBehind, Records, contents_at}
+use Rattle.ceal_repair.specs.Entries.{entry, entries, end_entry}
+use Rattle.ceal_repair.specs.Kept.{Kept, IsStale, IsHonestRecord, QueuedAfter, Records, contents_at}
 use Rattle.ceal_repair.proofs.TableCalls.BaseEdit.{queue-empty, stale-same}
 use Rattle.ceal_repair.proofs.Propagation.StaleNotDone.{still-stale}
 use Rattle.ceal_repair.specs.Propagation.{Concludes, Propagated, HasCome, IsUpToDate, IsUnderWay, IsSpent, IsLess, IsWithin, TurnMade, KeepsFront, steps_of_run}
@@ -53,7 +53,8 @@ fronts [] ys zs w ws e = inl (zs, refl)
 fronts (x ∷ xs) ys [] w ws e = inr (xs, cc)
 fronts (x ∷ xs) ys (z ∷ zs) w ws e = of (fronts xs ys zs w ws cc)
   where
-    of : ((mid : List Entry) × (zs ≡ xs ++ mid)) ⊎ ((mid : List Entry) × (xs ≡ zs ++ w ∷ mid)) → ((mid : List Entry) × (z ∷ zs ≡ (x ∷ xs) ++ mid)) ⊎ ((mid : List Entry) × (x ∷ xs ≡ (z ∷ zs) ++ w ∷ mid))
+    of : ((mid : List Entry) × (zs ≡ xs ++ mid)) ⊎ ((mid : List Entry) × (xs ≡ zs ++ w ∷ mid))
+        → ((mid : List Entry) × (z ∷ zs ≡ (x ∷ xs) ++ mid)) ⊎ ((mid : List Entry) × (x ∷ xs ≡ (z ∷ zs) ++ w ∷ mid))
     of (inl (mid, k)) = let same : z ≡ x = cc in inl (mid, cc)
     of (inr (mid, k)) = let same : z ≡ x = cc in inr (mid, cc)
 
@@ -73,7 +74,8 @@ module _ (code : Code) (inputs : List Block) (is : List Item) (bs : List ℕ) (c
 
 -- ---- a read that is stale does not lie in front
 
-module _ (code : Code) (inputs : List Block) (f : ℕ) (args : List Word) (o : Since) (called : IsOrigin code inputs f args o) (run : Running) (so_far : TurnedSoFar code inputs f args o run) (spot : ReadAt run.tables.trace.nodes)
+module _ (code : Code) (inputs : List Block) (f : ℕ) (args : List Word) (o : Since) (called : IsOrigin code inputs f args o) (run : Running) (so_far : TurnedSoFar code inputs f args o run)
+    (spot : ReadAt run.tables.trace.nodes)
     (agrees : AgreesAll code (starting code inputs so_far.repair.known) (forest_of spot.before))
     (stale : ¬ (store_after code (starting code inputs so_far.repair.known) (forest_of spot.before) spot.place ≡ spot.value)) where
   abbrev read_there : Entry
@@ -83,8 +85,10 @@ module _ (code : Code) (inputs : List Block) (f : ℕ) (args : List Word) (o : S
   pub not-there : (rest : List Entry) → AgreesAll code (bases code inputs) (forest_of (spot.before ++ read_there ∷ rest)) → ⊥
   not-there rest a =
       let items = sym so_far.stands.items ∙ spot-items spot in
-      let listed : Listed code inputs so_far.repair (forest_of spot.before) = listed-law code so_far.stands.names inputs f args called.fits so_far.repair so_far.stands.sound (forest_of spot.before) _ items agrees in
-      let ready = ready-law code so_far.stands.names inputs f args called.fits so_far.repair so_far.stands.sound (forest_of spot.before) spot.place spot.value spot.unit spot.var spot.args _ items agrees stale in
+      let listed : Listed code inputs so_far.repair (forest_of spot.before) =
+          listed-law code so_far.stands.names inputs f args called.fits so_far.repair so_far.stands.sound (forest_of spot.before) _ items agrees in
+      let ready = ready-law code so_far.stands.names inputs f args called.fits so_far.repair so_far.stands.sound
+          (forest_of spot.before) spot.place spot.value spot.unit spot.var spot.args _ items agrees stale in
       let contents = known-content-law code (length inputs) (forest_of spot.before) (known_after [] (forest_of spot.before)) listed.items listed.once in
       let there = agrees-front code (bases code inputs) (forest_of spot.before) (item.Read spot.place spot.value spot.unit spot.var spot.args ∷ (ticks spot.steps ++ forest_of rest))
       (subst (λ is. AgreesAll code (bases code inputs) is) (forest-append spot.before (read_there ∷ rest)) a) in
@@ -103,12 +107,13 @@ module _ (code : Code) (inputs : List Block) (f : ℕ) (args : List Word) (o : S
     pub not-honest : IsHonest code inputs o.repair.items → ⊥
     not-honest h =
         let same : run.tables.trace.nodes ≡ old.tables.trace.nodes = ap (λ t. t.nodes) (come.unchanged h).0 in
-        not-there (entries spot.inside ++ closing spot.end spot.read spot.end_steps ∷ spot.behind)
+        not-there (entries spot.inside ++ end_entry spot.end spot.read spot.end_steps ∷ spot.behind)
         (subst (λ es. AgreesAll code (bases code inputs) (forest_of es)) spot.whole
         (subst (λ is. AgreesAll code (bases code inputs) is) (sym (ap forest_of same ∙ come.items)) (flat-honest code h.walk)))
 
 -- one turn more
-module _ (code : Code) (inputs : List Block) (f : ℕ) (args : List Word) (o : Since) (old before run : Running) (come : HasCome code inputs f args o old before) (turn : TurnMade code inputs f args o before run) where
+module _ (code : Code) (inputs : List Block) (f : ℕ) (args : List Word) (o : Since) (old before run : Running) (come : HasCome code inputs f args o old before)
+    (turn : TurnMade code inputs f args o before run) where
   keeps : KeepsFront code inputs old.tables.trace.nodes run.tables.trace.nodes
   keeps front back e a =
       let was = come.front front back e a in
@@ -132,8 +137,10 @@ module _ (code : Code) (inputs : List Block) (f : ℕ) (args : List Word) (o : S
 pub record Turning (old now : Repair) (turns : ℕ) : Type 0 where
   pub call : SameCall old now
   pub idle : now.frames.now.items ≡ []
-  pub come : (f : ℕ) (args : List Word) (o : Since) (before : Running) → HasCome (code_of old) (inputs_of old) f args o before old.running.now → HasCome (code_of old) (inputs_of old) f args (later turns o) before now.running.now
-  pub sure : (f : ℕ) (args : List Word) (o : Since) (before : Running) → HasCome (code_of old) (inputs_of old) f args o before old.running.now → IsHonest (code_of old) (inputs_of old) o.repair.items → turns ≡ 0
+  pub come : (f : ℕ) (args : List Word) (o : Since) (before : Running) → HasCome (code_of old) (inputs_of old) f args o before old.running.now
+      → HasCome (code_of old) (inputs_of old) f args (later turns o) before now.running.now
+  pub sure : (f : ℕ) (args : List Word) (o : Since) (before : Running) → HasCome (code_of old) (inputs_of old) f args o before old.running.now → IsHonest (code_of old) (inputs_of old) o.repair.items
+      → turns ≡ 0
 
 pub no-turns : (r : Repair) → r.frames.now.items ≡ [] → Turning r r 0
 no-turns r idle = record {
@@ -176,21 +183,26 @@ module _ (old now : Repair) (turns : ℕ) (t : Turning old now turns) (looked : 
 
   -- and there was none
   module _ (trace : looked.trace ≡ now.running.now.tables.trace) (none : (s : ℕ) → is_in s looked.stale.stamps ≡ true → ⊥) where
-    pub is-up-to-date : (f : ℕ) (args : List Word) (o : Since) (before : Running) → HasCome (code_of old) (inputs_of old) f args o before old.running.now → IsUpToDate (code_of old) (inputs_of old) f args (later turns o) before looked_run
-    is-up-to-date f args o before h = up-to-date (code_of old) (inputs_of old) f args (later turns o) before now.running.now (t.come f args o before h) looked kept trace cells (queue-empty looked.stale.stamps none)
+    pub is-up-to-date : (f : ℕ) (args : List Word) (o : Since) (before : Running) → HasCome (code_of old) (inputs_of old) f args o before old.running.now
+        → IsUpToDate (code_of old) (inputs_of old) f args (later turns o) before looked_run
+    is-up-to-date f args o before h =
+        up-to-date (code_of old) (inputs_of old) f args (later turns o) before now.running.now (t.come f args o before h) looked kept trace cells (queue-empty looked.stale.stamps none)
         (λ r. unqueued-honest looked kept r (false-of (is_in r looked.stale.stamps) (λ i. absurd (none r i))) (λ z i. absurd (none z i)))
 
-  pub come-here : (f : ℕ) (args : List Word) (o : Since) (before : Running) → HasCome (code_of old) (inputs_of old) f args o before old.running.now → HasCome (code_of now) (inputs_of now) f args (later turns o) before now.running.now
+  pub come-here : (f : ℕ) (args : List Word) (o : Since) (before : Running) → HasCome (code_of old) (inputs_of old) f args o before old.running.now
+      → HasCome (code_of now) (inputs_of now) f args (later turns o) before now.running.now
   come-here f args o before h = rw (t.call.code, t.call.inputs) (t.come f args o before h)
 
   -- each read has the content of its moment
   module _ (trace : looked.trace ≡ now.running.now.tables.trace) (empty : looked.stale.stamps ≡ []) (all : (s : ℕ) → IsHonestRecord s looked) where
-    pub is-done : (f : ℕ) (args : List Word) (o : Since) (before : Running) → HasCome (code_of old) (inputs_of old) f args o before old.running.now → IsUpToDate (code_of old) (inputs_of old) f args (later turns o) before looked_run
+    pub is-done : (f : ℕ) (args : List Word) (o : Since) (before : Running) → HasCome (code_of old) (inputs_of old) f args o before old.running.now
+        → IsUpToDate (code_of old) (inputs_of old) f args (later turns o) before looked_run
     is-done f args o before h = up-to-date (code_of old) (inputs_of old) f args (later turns o) before now.running.now (t.come f args o before h) looked kept trace cells empty all
 
   -- one is stale still
   module _ (trace : looked.trace ≡ now.running.now.tables.trace) (z : ℕ) (stale : IsStale z now.running.now.tables) where
-    pub is-under-way : (f : ℕ) (args : List Word) (o : Since) (before : Running) → HasCome (code_of old) (inputs_of old) f args o before old.running.now → IsUnderWay (code_of old) (inputs_of old) f args (later turns o) before looked_run
+    pub is-under-way : (f : ℕ) (args : List Word) (o : Since) (before : Running) → HasCome (code_of old) (inputs_of old) f args o before old.running.now
+        → IsUnderWay (code_of old) (inputs_of old) f args (later turns o) before looked_run
     is-under-way f args o before h =
         let come = t.come f args o before h in
         let now-come = come-now (code_of old) (inputs_of old) f args (later turns o) before now.running.now come looked kept trace cells in
@@ -202,8 +214,9 @@ module _ (old now : Repair) (turns : ℕ) (t : Turning old now turns) (looked : 
 
   -- it was found
   module _ (read : ℕ) (stale : IsStale read now.running.now.tables)
-      (nodes : (p : Place) × (v : Word) × Records p v (node_at read now.running.now.tables.trace.nodes) × (looked.trace.nodes ≡ with_value read (contents_at read now.running.now.tables p) now.running.now.tables.trace.nodes))
-      (behind : QueuedBehind read looked) where
+      (nodes : (p : Place) × (v : Word) × Records p v (node_at read now.running.now.tables.trace.nodes)
+      × (looked.trace.nodes ≡ with_value read (contents_at read now.running.now.tables p) now.running.now.tables.trace.nodes))
+      (behind : QueuedAfter read looked) where
     module _ (f : ℕ) (args : List Word) (o : Since) (before : Running) (h : HasCome (code_of old) (inputs_of old) f args o before old.running.now) where
       abbrev found : FoundStale (code_of now) (inputs_of now) f args (later turns o) read looked_run
       found = record {
@@ -225,10 +238,13 @@ module _ (old now : Repair) (turns : ℕ) (t : Turning old now turns) (looked : 
       pub found-never : IsHonest (code_of old) (inputs_of old) o.repair.items → ⊥
       found-never honest =
           not-honest (code_of now) (inputs_of now) f args (later turns o) (come-here f args o before h).called now.running.now (come-here f args o before h).so_far
-          (spot (code_of now) (inputs_of now) f args (later turns o) read looked_run listed-law ready-law turn-known-law found) (front-agrees (code_of now) (inputs_of now) f args (later turns o) read looked_run listed-law ready-law turn-known-law found)
-          (store-differs (code_of now) (inputs_of now) f args (later turns o) read looked_run listed-law ready-law turn-known-law found) before (come-here f args o before h) (rw (t.call.code, t.call.inputs) honest)
+          (spot (code_of now) (inputs_of now) f args (later turns o) read looked_run listed-law ready-law turn-known-law found)
+              (front-agrees (code_of now) (inputs_of now) f args (later turns o) read looked_run listed-law ready-law turn-known-law found)
+          (store-differs (code_of now) (inputs_of now) f args (later turns o) read looked_run listed-law ready-law turn-known-law found) before (come-here f args o before h)
+              (rw (t.call.code, t.call.inputs) honest)
 
-      further : (new : Repair) → TurnMade (code_of now) (inputs_of now) f args (later turns o) now.running.now new.running.now → HasCome (code_of old) (inputs_of old) f args (later (turns + 1) o) before new.running.now
+      further : (new : Repair) → TurnMade (code_of now) (inputs_of now) f args (later turns o) now.running.now new.running.now
+          → HasCome (code_of old) (inputs_of old) f args (later (turns + 1) o) before new.running.now
       further new made =
           let next : suc turns ≡ turns + 1 = omega arith in
           let count : suc (turns_more turns o.turns) ≡ turns_more (turns + 1) o.turns = ap (λ n. turns_more n o.turns) next in
@@ -236,12 +252,14 @@ module _ (old now : Repair) (turns : ℕ) (t : Turning old now turns) (looked : 
           (rw (t.call.code, t.call.inputs) at (comes-further (code_of now) (inputs_of now) f args (later turns o) before now.running.now new.running.now (come-here f args o before h) made))
 
     -- the same for any call
-    abbrev pub found_by : (f : ℕ) (args : List Word) (o : Since) (before : Running) → HasCome (code_of old) (inputs_of old) f args o before old.running.now → FoundStale (code_of now) (inputs_of now) f args (later turns o) read looked_run
+    abbrev pub found_by : (f : ℕ) (args : List Word) (o : Since) (before : Running) → HasCome (code_of old) (inputs_of old) f args o before old.running.now
+        → FoundStale (code_of now) (inputs_of now) f args (later turns o) read looked_run
     found_by f args o before h = found f args o before h
 
     -- and its turn was made
     pub turn-more : (new : Repair) → SameCall now new → new.frames.now.items ≡ []
-        → ((f : ℕ) (args : List Word) (o : Since) (before : Running) → HasCome (code_of old) (inputs_of old) f args o before old.running.now → TurnMade (code_of now) (inputs_of now) f args (later turns o) now.running.now new.running.now)
+        → ((f : ℕ) (args : List Word) (o : Since) (before : Running) → HasCome (code_of old) (inputs_of old) f args o before old.running.now
+        → TurnMade (code_of now) (inputs_of now) f args (later turns o) now.running.now new.running.now)
         → Turning old new (turns + 1)
     turn-more new same idle made = record {
       call = record { code = same.code ∙ t.call.code; inputs = same.inputs ∙ t.call.inputs; place = same.place ∙ t.call.place };
@@ -251,7 +269,8 @@ module _ (old now : Repair) (turns : ℕ) (t : Turning old now turns) (looked : 
     }
 
 -- a run that is up to date has ended
-pub ends-so : (code : Code) (inputs : List Block) (f : ℕ) (args : List Word) (reads : Option ℕ) (fuel : ℕ) (o : Since) (before last run : Running) (n : ℕ) → IsWithin n reads → IsUpToDate code inputs f args (later n o) before last
+pub ends-so : (code : Code) (inputs : List Block) (f : ℕ) (args : List Word) (reads : Option ℕ) (fuel : ℕ) (o : Since) (before last run : Running) (n : ℕ) → IsWithin n reads
+    → IsUpToDate code inputs f args (later n o) before last
     → (p : Progress) → Concludes p fuel last run → Propagated p code inputs f args reads fuel o before run
 ends-so code inputs f args reads fuel o before last run n within done More h = absurd h
 ends-so code inputs f args reads fuel o before last run n within done Ends h = (n, within, last, done, h)

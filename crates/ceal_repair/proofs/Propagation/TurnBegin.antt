@@ -34,8 +34,8 @@ use Rattle.ceal_repair.proofs.Runs.RepairView.{runs-as}
 use Rattle.ceal_repair.specs.Around.{Tails}
 use Rattle.ceal_repair.specs.Blocks.{HasBlocks, Given}
 use Rattle.ceal_repair.specs.Covered.{contents_after}
-use Rattle.ceal_repair.specs.Entries.{stamped, entry, closing, entries}
-use Rattle.ceal_repair.specs.Kept.{Kept, QueuedBehind, IsHonestRecord, base_in, contents_at}
+use Rattle.ceal_repair.specs.Entries.{stamp_of_number, entry, end_entry, entries}
+use Rattle.ceal_repair.specs.Kept.{Kept, QueuedAfter, IsHonestRecord, base_in, contents_at}
 use Rattle.ceal_repair.specs.Moment.{View, Start, CourseNow, RunningNow, through, state_at}
 use Rattle.ceal_repair.specs.Turning.{Since, ReadAt, turn_start, FoundStale, TurnBegan, TurnRuns}
 use Rattle.ceal_repair.specs.Words.{words_of}
@@ -129,16 +129,17 @@ unit-as code node p v u x args held q y w z words seen st none empty is =
     ∙ ap (λ (k : Word). resumed code u x args k) same)))
 
 -- the end that was found
-pub end-is : (o : Option Stamp) (e : Option ℕ) (s : ℕ) → IfSome o (λ end. e ≡ Some end.0) → IfNone o (e ≡ None) → e ≡ Some s → o ≡ Some (stamped s)
+pub end-is : (o : Option Stamp) (e : Option ℕ) (s : ℕ) → IfSome o (λ end. e ≡ Some end.0) → IfNone o (e ≡ None) → e ≡ Some s → o ≡ Some (stamp_of_number s)
 end-is None e s some none is = absurd (let no : None ≡ Some s = sym none ∙ is in cc)
 end-is (Some end) e s some none is =
     let both : Some end.0 ≡ Some s = sym some ∙ is in
     let same : end.0 ≡ s = cc in
-    ap (λ k. Some (stamped k)) same
+    ap (λ k. Some (stamp_of_number k)) same
 
 -- the parts of a repair in code, where nothing follows
 view-is : (t : Tables) (heap heap' : Contents) → heap ≡ heap' → (n n' : ℕ) → n ≡ n' → (s s' : ℕ) → s ≡ s' → (o o' : Option Stamp) → o ≡ o' → (aside : Pile) (fs : List CodeFrame) → fs ≡ []
-    → ◌≡◌ {A = View} (record { tables = t; heap = heap; spent = n; cursor = s; limit = o; frames = frames_in aside (reverse fs) }) (record { tables = t; heap = heap'; spent = n'; cursor = s'; limit = o'; frames = [] })
+    → ◌≡◌ {A = View} (record { tables = t; heap = heap; spent = n; cursor = s; limit = o; frames = frames_in aside (reverse fs) })
+        (record { tables = t; heap = heap'; spent = n'; cursor = s'; limit = o'; frames = [] })
 view-is t heap heap' a n n' b s s' c o o' d aside fs e = rw (a, b, c, d, e) refl
 
 module _ (code : Code) (inputs : List Block) (f : ℕ) (args : List Word) (o : Since) (read : ℕ) (run : Running) (listed : ListedLaw) (ready : ReadyLaw) (knowing : TurnKnownLaw)
@@ -169,7 +170,7 @@ module _ (code : Code) (inputs : List Block) (f : ℕ) (args : List Word) (o : S
 
   -- what is after the read
   abbrev behind : List Entry
-  behind = entries spot.inside ++ closing spot.end read spot.end_steps ∷ spot.behind
+  behind = entries spot.inside ++ end_entry spot.end read spot.end_steps ∷ spot.behind
 
   -- the read as it was
   abbrev was : Entry
@@ -196,7 +197,8 @@ module _ (code : Code) (inputs : List Block) (f : ℕ) (args : List Word) (o : S
 
   -- nothing is queued up to the read
   honest-there : (s : ℕ) → position s run.tables.trace.nodes ≤ position read run.tables.trace.nodes → IsHonestRecord s run.tables
-  honest-there s le = unqueued-honest run.tables found.kept s (false-of (is_in s run.tables.stale.stamps) (λ i. absurd (omega (arith, found.queued s i, le)))) (λ z i. omega (arith, found.queued z i, le))
+  honest-there s le =
+      unqueued-honest run.tables found.kept s (false-of (is_in s run.tables.stale.stamps) (λ i. absurd (omega (arith, found.queued s i, le)))) (λ z i. omega (arith, found.queued z i, le))
 
   read-position : position read run.tables.trace.nodes ≡ length spot.before
   read-position = ap (position read) nodes-run ∙ position-part (valued-as (contents_at read old at-place) spot.steps) behind spot.before apart
@@ -204,7 +206,8 @@ module _ (code : Code) (inputs : List Block) (f : ℕ) (args : List Word) (o : S
   -- the reads before it have what the lists of writes say
   front-contents : HasContents (base_in old.mods) spot.before
   front-contents =
-      let whole : run.tables.trace.nodes ≡ through spot.before (valued-as (contents_at read old at-place) spot.steps) ++ behind = nodes-run ∙ sym (behind-all spot.before (valued-as (contents_at read old at-place) spot.steps) behind) in
+      let whole : run.tables.trace.nodes ≡ through spot.before (valued-as (contents_at read old at-place) spot.steps) ++ behind =
+          nodes-run ∙ sym (behind-all spot.before (valued-as (contents_at read old at-place) spot.steps) behind) in
       subst (λ s. HasContents s spot.before) same-bases
       (contents-front (base_in run.tables.mods) spot.before (valued-as (contents_at read old at-place) spot.steps ∷ [])
       (honest-front run.tables run-distinct (through spot.before (valued-as (contents_at read old at-place) spot.steps)) behind whole
@@ -228,8 +231,10 @@ module _ (code : Code) (inputs : List Block) (f : ℕ) (args : List Word) (o : S
 
   read-stale : found.value ≢ contents_at read old at-place
   read-stale e =
-      let place-too : found.stale.place ≡ at-place = same-place (node_at read old.trace.nodes) at-place found.stale.place found.value found.stale.value unit var words found.is_read.is found.stale.read in
-      let value-too : found.stale.value ≡ found.value = same-value (node_at read old.trace.nodes) at-place found.stale.place found.value found.stale.value unit var words found.is_read.is found.stale.read in
+      let place-too : found.stale.place ≡ at-place =
+          same-place (node_at read old.trace.nodes) at-place found.stale.place found.value found.stale.value unit var words found.is_read.is found.stale.read in
+      let value-too : found.stale.value ≡ found.value =
+          same-value (node_at read old.trace.nodes) at-place found.stale.place found.value found.stale.value unit var words found.is_read.is found.stale.read in
       found.stale.differs (value-too ∙ (e ∙ ap (λ p. contents_at read old p) (sym place-too)))
 
   -- the store has not its value either
@@ -238,7 +243,8 @@ module _ (code : Code) (inputs : List Block) (f : ℕ) (args : List Word) (o : S
       let front : AgreesAll code (starting code inputs r.known) (forest_of spot.before ++ item.Read at-place found.value unit var words ∷ []) =
       agrees-both code (starting code inputs r.known) (forest_of spot.before) (item.Read at-place found.value unit var words ∷ []) front-agrees (e, tt) in
       let all : Listed code inputs r (forest_of spot.before ++ item.Read at-place found.value unit var words ∷ []) =
-      listed code found.so_far.stands.names inputs f args found.called.fits r found.so_far.stands.sound (forest_of spot.before ++ item.Read at-place found.value unit var words ∷ []) (ticks spot.steps ++ forest_of behind)
+      listed code found.so_far.stands.names inputs f args found.called.fits r found.so_far.stands.sound (forest_of spot.before ++ item.Read at-place found.value unit var words ∷ [])
+          (ticks spot.steps ++ forest_of behind)
       (items-there ∙ sym (append_assoc (forest_of spot.before) (item.Read at-place found.value unit var words ∷ []) (ticks spot.steps ++ forest_of behind))) front in
       let known = known-read all.items (forest_of spot.before) at-place found.value unit var words [] refl in
       let now : store at-place ≡ contents_after (base_in old.mods) spot.before at-place =
@@ -246,7 +252,8 @@ module _ (code : Code) (inputs : List Block) (f : ℕ) (args : List Word) (o : S
       read-stale (sym e ∙ (now ∙ sym content-there))
 
   there : KnownThere code inputs r (forest_of spot.before) at-place found.value unit var words (ticks spot.steps ++ forest_of behind)
-  there = stale-known code inputs f args r found.before found.called.fits listed ready found.so_far.stands spot.before was behind spot.whole front-agrees at-place found.value unit var words refl store-differs
+  there = stale-known code inputs f args r found.before found.called.fits listed ready found.so_far.stands spot.before was behind spot.whole front-agrees at-place found.value unit var words refl
+      store-differs
 
   store-known : (p : Place) → KnownBlock (length inputs) (known_after [] (forest_of spot.before)) p.block → store p ≡ contents_after (base_in old.mods) spot.before p
   store-known p k = store-listed code inputs f args r found.before found.called.fits listed ready found.so_far.stands spot.before (was ∷ behind) spot.whole front-agrees p k
@@ -265,10 +272,11 @@ module _ (code : Code) (inputs : List Block) (f : ℕ) (args : List Word) (o : S
   pub end-run : end_in read run.tables.trace.nodes ≡ Some spot.end
   end-run =
       let front : List Entry = spot.before ++ valued-as (contents_at read old at-place) spot.steps ∷ entries spot.inside in
-      let whole : run.tables.trace.nodes ≡ front ++ closing spot.end read spot.end_steps ∷ spot.behind =
-      nodes-run ∙ sym (append_assoc spot.before (valued-as (contents_at read old at-place) spot.steps ∷ entries spot.inside) (closing spot.end read spot.end_steps ∷ spot.behind)) in
-      found.kept.step.whole.one_end spot.end (stamped read)
-      (ap (node_at spot.end) whole ∙ ap held_by (entry-part (closing spot.end read spot.end_steps) spot.behind front (not_before front (closing spot.end read spot.end_steps) spot.behind (subst (λ es. Distinct (stamps_in es)) whole run-distinct))))
+      let whole : run.tables.trace.nodes ≡ front ++ end_entry spot.end read spot.end_steps ∷ spot.behind =
+      nodes-run ∙ sym (append_assoc spot.before (valued-as (contents_at read old at-place) spot.steps ∷ entries spot.inside) (end_entry spot.end read spot.end_steps ∷ spot.behind)) in
+      found.kept.step.whole.one_end spot.end (stamp_of_number read)
+      (ap (node_at spot.end) whole ∙ ap held_by (entry-part (end_entry spot.end read spot.end_steps) spot.behind front
+          (not_before front (end_entry spot.end read spot.end_steps) spot.behind (subst (λ es. Distinct (stamps_in es)) whole run-distinct))))
 
   -- what the read holds now
   pub node-now : node_at read run.tables.trace.nodes ≡ Some (Read at-place (store at-place) unit var words)
@@ -279,12 +287,13 @@ module _ (code : Code) (inputs : List Block) (f : ℕ) (args : List Word) (o : S
 
   -- the items inside the read and after it
   items-behind : ticks spot.steps ++ forest_of behind ≡ flat (stepped spot.steps (trace_in spot.inside)) ++ item.End ∷ (ticks spot.end_steps ++ forest_of spot.behind)
-  items-behind = ap (λ is. ticks spot.steps ++ is) (forest-left spot.inside (closing spot.end read spot.end_steps ∷ spot.behind))
-      ∙ (sym (append_assoc (ticks spot.steps) (flat (trace_in spot.inside)) (forest_of (closing spot.end read spot.end_steps ∷ spot.behind)))
-      ∙ ap (λ is. is ++ forest_of (closing spot.end read spot.end_steps ∷ spot.behind)) (sym (flat-stepped spot.steps (trace_in spot.inside))))
+  items-behind = ap (λ is. ticks spot.steps ++ is) (forest-left spot.inside (end_entry spot.end read spot.end_steps ∷ spot.behind))
+      ∙ (sym (append_assoc (ticks spot.steps) (flat (trace_in spot.inside)) (forest_of (end_entry spot.end read spot.end_steps ∷ spot.behind)))
+      ∙ ap (λ is. is ++ forest_of (end_entry spot.end read spot.end_steps ∷ spot.behind)) (sym (flat-stepped spot.steps (trace_in spot.inside))))
 
   alone-knows : Knows code (length inputs) found.so_far.stands.sound.blocks (known_after [] (forest_of spot.before)) start.machine
-  alone-knows = knowing code found.so_far.stands.names inputs f args found.called.fits r found.so_far.stands.sound (forest_of spot.before) at-place found.value unit var words (ticks spot.steps ++ forest_of behind) items-there
+  alone-knows = knowing code found.so_far.stands.names inputs f args found.called.fits r found.so_far.stands.sound (forest_of spot.before) at-place found.value unit var words
+      (ticks spot.steps ++ forest_of behind) items-there
       front-agrees store-differs (stepped spot.steps (trace_in spot.inside)) (ticks spot.end_steps ++ forest_of spot.behind) items-behind
 
   number-now : r.number ≡ length (found.so_far.chosen ++ [])
@@ -294,7 +303,7 @@ module _ (code : Code) (inputs : List Block) (f : ℕ) (args : List Word) (o : S
 
   module _ (t : Tables) (dropped : t.trace.nodes ≡ with_steps read 0 run.tables.trace.nodes) (mods : t.mods ≡ run.tables.mods) (queue : t.stale ≡ run.tables.stale) (kept : Kept t) where
     abbrev view-then : View
-    view-then = record { tables = t; heap = run.heap; spent = run.spent; cursor = read; limit = Some (stamped spot.end); frames = [] }
+    view-then = record { tables = t; heap = run.heap; spent = run.spent; cursor = read; limit = Some (stamp_of_number spot.end); frames = [] }
 
     nodes-then : t.trace.nodes ≡ through spot.before (valued-as (store at-place) 0) ++ behind
     nodes-then = dropped ∙ (ap (with_steps read 0) nodes-run
@@ -302,7 +311,7 @@ module _ (code : Code) (inputs : List Block) (f : ℕ) (args : List Word) (o : S
         ∙ (ap (λ w. spot.before ++ valued-as w 0 ∷ behind) content-now
         ∙ sym (behind-all spot.before (valued-as (store at-place) 0) behind))))
 
-    late-then : QueuedBehind read t
+    late-then : QueuedAfter read t
     late-then s i = subst (λ ss. place read ss < place s ss) (sym (ap stamps_in dropped ∙ stamps-changed read (steps_set 0) (λ e. refl) run.tables.trace.nodes))
         (found.queued s (subst (λ (z : _). is_in s z.stamps ≡ true) queue i))
 
@@ -335,7 +344,7 @@ module _ (code : Code) (inputs : List Block) (f : ℕ) (args : List Word) (o : S
       state = ap₂ (λ (y : Plain) (n : ℕ). record { store = store; plain = y; number = r.number; work = n }) words-then work-then
           ∙ ap (λ (n : ℕ). record { store = store; plain = words_of code inputs run.heap; number = n; work = run.spent }) number-now;
       mode = BareMode.runs (bare-stepped spot.steps (trace_in spot.inside)
-          ∙ ap bare (sym (first-left spot.inside (Some (stamped spot.end)) (closing spot.end read spot.end_steps ∷ spot.behind) (read, spot.end_steps, spot.behind, refl))));
+          ∙ ap bare (sym (first-left spot.inside (Some (stamp_of_number spot.end)) (end_entry spot.end read spot.end_steps ∷ spot.behind) (read, spot.end_steps, spot.behind, refl))));
       frames = BareFrames.bottom;
     }
 
@@ -356,7 +365,8 @@ module _ (code : Code) (inputs : List Block) (f : ℕ) (args : List Word) (o : S
           (subst (KnownItems (length inputs) [] (forest_of spot.before ++ item.Read at-place (store at-place) unit var words ∷ []))
           (sym (known-append [] (forest_of spot.before) (item.Read at-place (store at-place) unit var words ∷ [])))
           (known-items-append
-          (listed code found.so_far.stands.names inputs f args found.called.fits r found.so_far.stands.sound (forest_of spot.before) (item.Read at-place found.value unit var words ∷ (ticks spot.steps ++ forest_of behind)) items-there front-agrees).items
+          (listed code found.so_far.stands.names inputs f args found.called.fits r found.so_far.stands.sound (forest_of spot.before)
+              (item.Read at-place found.value unit var words ∷ (ticks spot.steps ++ forest_of behind)) items-there front-agrees).items
           (KnownItems.read there.place (there.store at-place) there.words KnownItems.none)));
       comes = comes-then;
       knows = subst (λ bs. Knows code (length inputs) found.so_far.stands.sound.blocks bs machine-then) (sym known-then)
@@ -374,7 +384,7 @@ module _ (code : Code) (inputs : List Block) (f : ℕ) (args : List Word) (o : S
       reads = [];
       left = spot.inside;
       waits = [];
-      tail = closing spot.end read spot.end_steps ∷ spot.behind;
+      tail = end_entry spot.end read spot.end_steps ∷ spot.behind;
       placed = record {
         kept = kept;
         done = spot.before;
@@ -396,7 +406,8 @@ module _ (code : Code) (inputs : List Block) (f : ℕ) (args : List Word) (o : S
   -- ---- in code
 
   pub turn-runs : (new : RepairInCode) → code_of new ≡ code → inputs_of new ≡ inputs
-      → new.running.now.tables.trace.nodes ≡ with_steps read 0 run.tables.trace.nodes → new.running.now.tables.mods ≡ run.tables.mods → new.running.now.tables.stale ≡ run.tables.stale → Kept new.running.now.tables
+      → new.running.now.tables.trace.nodes ≡ with_steps read 0 run.tables.trace.nodes → new.running.now.tables.mods ≡ run.tables.mods → new.running.now.tables.stale ≡ run.tables.stale
+      → Kept new.running.now.tables
       → new.running.now.heap ≡ run.heap → new.running.now.spent ≡ run.spent → new.cursor.0 ≡ read → new.frames.now.items ≡ []
       → IfSome new.limit (λ end. end_in read run.tables.trace.nodes ≡ Some end.0) → IfNone new.limit (end_in read run.tables.trace.nodes ≡ None)
       → ((p : Place) (v : Word) (u : UnitId) (x : ℕ) (ws : List Word) → node_at read run.tables.trace.nodes ≡ Some (Read p v u x ws) → stack_in new.stack.now ≡ resumed code u x ws v)
@@ -404,8 +415,9 @@ module _ (code : Code) (inputs : List Block) (f : ℕ) (args : List Word) (o : S
   turn-runs new same_code same_inputs nodes mods queue kept heap spent cursor frames some none resumes = record {
     start = start;
     began = began;
-    runs = runs-as code inputs start (resumed code unit var words (store at-place)) (view-then new.running.now.tables nodes mods queue kept) new (now-begun new.running.now.tables nodes mods queue kept)
+    runs = runs-as code inputs start (resumed code unit var words (store at-place)) (view-then new.running.now.tables nodes mods queue kept) new
+        (now-begun new.running.now.tables nodes mods queue kept)
         same_code same_inputs (resumes at-place (store at-place) unit var words node-now)
         (view-is new.running.now.tables new.running.now.heap run.heap heap new.running.now.spent run.spent spent new.cursor.0 read cursor
-        new.limit (Some (stamped spot.end)) (end-is new.limit (end_in read run.tables.trace.nodes) spot.end some none end-run) (aside_in new.stack.now) new.frames.now.items frames);
+        new.limit (Some (stamp_of_number spot.end)) (end-is new.limit (end_in read run.tables.trace.nodes) spot.end some none end-run) (aside_in new.stack.now) new.frames.now.items frames);
   }

@@ -17,7 +17,7 @@ use Rattle.ceal_repair.proofs.Runs.FewNumbers.{given-same}
 use Rattle.ceal_repair.proofs.Nodes.AroundRead.{flat-once, end-closes, spot-nests}
 use Rattle.ceal_repair.proofs.Propagation.TurnCourse.{store_there, start_there, back_there, chosen_now, turn-course}
 use Rattle.ceal_repair.specs.Blocks.{HasBlocks, KeepsReadable}
-use Rattle.ceal_repair.specs.Entries.{stamped, entry, entries, closing, first_in, Lies}
+use Rattle.ceal_repair.specs.Entries.{stamp_of_number, entry, entries, end_entry, first_in, Lies}
 use Rattle.ceal_repair.specs.Moment.{View, Start, RunningNow, through, state_at}
 use Rattle.ceal_repair.specs.Repairs.{code_of, inputs_of, view, IsOver}
 use Rattle.ceal_repair.specs.Words.{words_of}
@@ -51,7 +51,7 @@ core-words code inputs old new h b = ap (option_map plain_block) (sym (h.blocks 
 
 module _ (code : Code) (inputs : List Block) (f : ℕ) (args : List Word) (o : Since) (before : Running) (start : Start) (b : TurnBegan code inputs f args o before start) (st : Stack) (v : View)
     (now : RunningNow code inputs (start_there code inputs f args o before start b) st v) (frames : v.frames ≡ []) where
-  bottom : (v.limit ≡ Some (stamped b.spot.end)) × (now.waits ≡ []) × (now.reads ≡ []) × (now.tail ≡ closing b.spot.end b.spot.read b.spot.end_steps ∷ b.spot.behind)
+  bottom : (v.limit ≡ Some (stamp_of_number b.spot.end)) × (now.waits ≡ []) × (now.reads ≡ []) × (now.tail ≡ end_entry b.spot.end b.spot.read b.spot.end_steps ∷ b.spot.behind)
   bottom = frames-none now.tails frames
 
   abbrev front : List Entry
@@ -60,7 +60,7 @@ module _ (code : Code) (inputs : List Block) (f : ℕ) (args : List Word) (o : S
   pub lies-ended : Lies v.cursor front now.left now.tail v.tables
   lies-ended = record { done = now.placed.done; last = now.placed.last; ends = refl; is_at = now.placed.cursor; nodes = now.placed.nodes; late = now.placed.late }
 
-  pub limit-ended : v.limit ≡ Some (stamped b.spot.end)
+  pub limit-ended : v.limit ≡ Some (stamp_of_number b.spot.end)
   limit-ended = bottom.0
 
   pub first-ended : first_in now.tail ≡ Some b.spot.end
@@ -71,7 +71,7 @@ module _ (code : Code) (inputs : List Block) (f : ℕ) (args : List Word) (o : S
 
   module _ (over : next code (words_of code inputs v.heap) st ≡ Over) (run : Running) (l' : Lies v.cursor front Bare now.tail run.tables) (kept : Kept run.tables)
       (blocks : KeepsReadable v.heap run.heap) (has : HasBlocks code inputs v.heap v.tables → HasBlocks code inputs run.heap run.tables) (spent : run.spent ≡ v.spent) where
-    nodes : run.tables.trace.nodes ≡ front ++ closing b.spot.end b.spot.read b.spot.end_steps ∷ b.spot.behind
+    nodes : run.tables.trace.nodes ≡ front ++ end_entry b.spot.end b.spot.read b.spot.end_steps ∷ b.spot.behind
     nodes = l'.nodes ∙ ap (λ es. front ++ es) bottom.3
 
     abbrev state : State
@@ -84,12 +84,15 @@ module _ (code : Code) (inputs : List Block) (f : ℕ) (args : List Word) (o : S
       pub same : flat items ≡ forest_of run.tables.trace.nodes
 
     items-now : forest_of run.tables.trace.nodes
-        ≡ forest_of b.spot.before ++ item.Read b.spot.place (store_there code inputs f args o before start b b.spot.place) b.spot.unit b.spot.var b.spot.args ∷ (now.course.out ++ item.End ∷ back_there code inputs f args o before start b)
+        ≡ forest_of b.spot.before ++ item.Read b.spot.place (store_there code inputs f args o before start b b.spot.place) b.spot.unit b.spot.var b.spot.args ∷
+            (now.course.out ++ item.End ∷ back_there code inputs f args o before start b)
     items-now = ap forest_of nodes
-        ∙ (forest-append front (closing b.spot.end b.spot.read b.spot.end_steps ∷ b.spot.behind)
+        ∙ (forest-append front (end_entry b.spot.end b.spot.read b.spot.end_steps ∷ b.spot.behind)
         ∙ (ap (λ is. is ++ item.End ∷ back_there code inputs f args o before start b) now.course.written
-        ∙ (append_assoc (forest_of b.spot.before ++ item.Read b.spot.place (store_there code inputs f args o before start b b.spot.place) b.spot.unit b.spot.var b.spot.args ∷ []) now.course.out (item.End ∷ back_there code inputs f args o before start b)
-        ∙ append_assoc (forest_of b.spot.before) (item.Read b.spot.place (store_there code inputs f args o before start b b.spot.place) b.spot.unit b.spot.var b.spot.args ∷ []) (now.course.out ++ item.End ∷ back_there code inputs f args o before start b))))
+        ∙ (append_assoc (forest_of b.spot.before ++ item.Read b.spot.place (store_there code inputs f args o before start b b.spot.place) b.spot.unit b.spot.var b.spot.args ∷ []) now.course.out
+            (item.End ∷ back_there code inputs f args o before start b)
+        ∙ append_assoc (forest_of b.spot.before) (item.Read b.spot.place (store_there code inputs f args o before start b b.spot.place) b.spot.unit b.spot.var b.spot.args ∷ [])
+            (now.course.out ++ item.End ∷ back_there code inputs f args o before start b))))
 
     comes : (names : ℕ → ℕ) → Continues chosen names → Come names
     comes names h =
@@ -113,8 +116,8 @@ module _ (code : Code) (inputs : List Block) (f : ℕ) (args : List Word) (o : S
 
     nests : Nests run.tables.trace.nodes
     nests = ap (λ es. unclosed (Some []) es) nodes
-        ∙ (unclosed-append front (closing b.spot.end b.spot.read b.spot.end_steps ∷ b.spot.behind) (Some [])
-        ∙ (ap (λ o. unclosed o (closing b.spot.end b.spot.read b.spot.end_steps ∷ b.spot.behind)) (now.placed.opened ∙ ap (λ rs. Some (rs ++ b.spot.read ∷ b.reads)) bottom.2)
+        ∙ (unclosed-append front (end_entry b.spot.end b.spot.read b.spot.end_steps ∷ b.spot.behind) (Some [])
+        ∙ (ap (λ o. unclosed o (end_entry b.spot.end b.spot.read b.spot.end_steps ∷ b.spot.behind)) (now.placed.opened ∙ ap (λ rs. Some (rs ++ b.spot.read ∷ b.reads)) bottom.2)
         ∙ (end-closes b.spot.end b.spot.read b.spot.end_steps b.spot.behind b.reads
         ∙ spot-nests b.spot b.so_far.stands.nests b.reads b.opened)))
 
@@ -128,7 +131,8 @@ module _ (code : Code) (inputs : List Block) (f : ℕ) (args : List Word) (o : S
       spent = sym spent;
       names = going.names;
       sound = (slice-law code going.names inputs f args b.called.fits b.so_far.repair
-          (turns-sound code inputs f args o b.called going.names going.single going.apart o.turns b.so_far.repair (old-history going.names going.continues)) (Some 1) (repair_at state one.items) one.slice).sound;
+          (turns-sound code inputs f args o b.called going.names going.single going.apart o.turns b.so_far.repair (old-history going.names going.continues)) (Some 1)
+              (repair_at state one.items) one.slice).sound;
     }
 
     so-far : TurnedSoFar code inputs f args (later 1 o) run
@@ -143,17 +147,18 @@ module _ (code : Code) (inputs : List Block) (f : ℕ) (args : List Word) (o : S
 
     -- the read and the nodes that the turn made
     abbrev fresh-nodes : List Entry
-    fresh-nodes = entry b.spot.read (Read b.spot.place (store_there code inputs f args o before start b b.spot.place) b.spot.unit b.spot.var b.spot.args) now.placed.began.steps ∷ now.placed.began.fresh
+    fresh-nodes =
+        entry b.spot.read (Read b.spot.place (store_there code inputs f args o before start b b.spot.place) b.spot.unit b.spot.var b.spot.args) now.placed.began.steps ∷ now.placed.began.fresh
 
     -- the nodes before the read are as they were
     pub turn-ends : TurnEnded code inputs f args o start run
     turn-ends = record {
       so_far = so-far;
-      after = fresh-nodes ++ closing b.spot.end b.spot.read b.spot.end_steps ∷ b.spot.behind;
+      after = fresh-nodes ++ end_entry b.spot.end b.spot.read b.spot.end_steps ∷ b.spot.behind;
       front = nodes
-          ∙ (ap (λ es. es ++ closing b.spot.end b.spot.read b.spot.end_steps ∷ b.spot.behind) now.placed.began.same
-          ∙ (append_assoc b.spot.before fresh-nodes (closing b.spot.end b.spot.read b.spot.end_steps ∷ b.spot.behind)
-          ∙ ap (λ (s : Start). s.before ++ (fresh-nodes ++ closing b.spot.end b.spot.read b.spot.end_steps ∷ b.spot.behind)) (sym b.is)));
+          ∙ (ap (λ es. es ++ end_entry b.spot.end b.spot.read b.spot.end_steps ∷ b.spot.behind) now.placed.began.same
+          ∙ (append_assoc b.spot.before fresh-nodes (end_entry b.spot.end b.spot.read b.spot.end_steps ∷ b.spot.behind)
+          ∙ ap (λ (s : Start). s.before ++ (fresh-nodes ++ end_entry b.spot.end b.spot.read b.spot.end_steps ∷ b.spot.behind)) (sym b.is)));
     }
 
 -- the unit of a repair in code that is over runs from that beginning

@@ -16,7 +16,7 @@ use Rattle.ceal_heap.specs.Heap.{HasSlots, ReleasesRevoked, next}
 use Rattle.ceal_repair.proofs.Propagation.NewBlockNumbers.{GoesOn, above, goes-on, edited-here, begins-sound, turns-room}
 use Rattle.ceal_repair.proofs.Runs.FewNumbers.{next-released}
 use Rattle.ceal_repair.proofs.Revocation.BlockRelease.{words-released, none-revoked, blocks-released}
-use Rattle.ceal_repair.specs.Answers.{Stands, IsRunOf, IsRepairFrom, IsRepairedRun}
+use Rattle.ceal_repair.specs.Answers.{StandsForTrace, IsRunOf, IsRepairFrom, IsRepairedRun}
 use Rattle.ceal_repair.specs.Propagation.{IsUpToDate, IsSpent}
 use Rattle.ceal_repair.specs.Turning.{Since, turns_more, later, since_begun}
 use Rattle.ceal_repair.specs.Words.{words_of}
@@ -70,7 +70,7 @@ module _ (code : Code) (inputs : List Block) (f : ℕ) (args : List Word) (o : S
       go (Core b) e = sym (done.come.so_far.stands.known b) ∙ held (Core b) e
 
   -- the revoked blocks were taken away
-  pub stands-after : (after : Running) → after.tables ≡ run.tables → ReleasesRevoked run.heap after.heap → HasSlots after.heap → Stands code inputs repair.items after
+  pub stands-after : (after : Running) → after.tables ≡ run.tables → ReleasesRevoked run.heap after.heap → HasSlots after.heap → StandsForTrace code inputs repair.items after
   stands-after after tables rel slots = record {
     kept = rw tables done.come.so_far.stands.kept;
     nests = rw tables done.come.so_far.stands.nests;
@@ -82,7 +82,8 @@ module _ (code : Code) (inputs : List Block) (f : ℕ) (args : List Word) (o : S
   }
 
   -- so it is a run of the call
-  pub concluded-run : (fuel : ℕ) → steps_in (forest_of run.tables.trace.nodes) ≤ fuel → next run.heap ≤ 2 * fuel → (after : Running) → after.tables ≡ run.tables → ReleasesRevoked run.heap after.heap → HasSlots after.heap
+  pub concluded-run : (fuel : ℕ) → steps_in (forest_of run.tables.trace.nodes) ≤ fuel → next run.heap ≤ 2 * fuel → (after : Running) → after.tables ≡ run.tables → ReleasesRevoked run.heap after.heap
+      → HasSlots after.heap
       → IsRunOf code inputs f args fuel repair.items after
   concluded-run fuel few numbers after tables rel slots = record {
     stands = stands-after after tables rel slots;
@@ -147,7 +148,8 @@ module _ (code : Code) (inputs : List Block) (f : ℕ) (args : List Word) (l : T
           | inr k ↦ omega (arith, k, room, done.come.so_far.number, few-work, few, blocks)
         ]
 
-    pub repaired : (fuel : ℕ) → steps_in (forest_of run.tables.trace.nodes) ≤ fuel → numbers ≤ 2 * fuel → length (core_numbers (blocks_of l)) ≤ fuel → (after : Running) → after.tables ≡ run.tables → after.spent ≡ run.spent → ReleasesRevoked run.heap after.heap → HasSlots after.heap
+    pub repaired : (fuel : ℕ) → steps_in (forest_of run.tables.trace.nodes) ≤ fuel → numbers ≤ 2 * fuel → length (core_numbers (blocks_of l)) ≤ fuel → (after : Running) → after.tables ≡ run.tables
+        → after.spent ≡ run.spent → ReleasesRevoked run.heap after.heap → HasSlots after.heap
         → IsRepairedRun code inputs f args fuel l old after
     repaired fuel few most blocks after tables spent rel slots =
         let o = later n (since_begun code inputs l numbers) in

@@ -149,7 +149,8 @@ read-honest q t front n m p v u y args back none own c =
     value (inr i) = absurd (let no : true ≡ false = sym i ∙ own in cc)
 
 -- where nothing in front is queued, what was recorded last there is the content
-pub front-held : (q : Queue) (t : Store) (front back : List Entry) → ((z : ℕ) → is_in z (stamps_in front) ≡ true → q z ≡ false) → Chained q t (front ++ back) → (p : Place) → recorded_last t front p ≡ contents_after t front p
+pub front-held : (q : Queue) (t : Store) (front back : List Entry) → ((z : ℕ) → is_in z (stamps_in front) ≡ true → q z ≡ false) → Chained q t (front ++ back) → (p : Place)
+    → recorded_last t front p ≡ contents_after t front p
 front-held q t front back none c p = held-last q front t t none (λ x. refl) (chained-part q front back t c).0 p
 
 -- a base is edited

@@ -18,7 +18,7 @@ use Rattle.ceal_repair.proofs.QueueCover.AffectedRead.{first-woken}
 use Rattle.ceal_repair.specs.Chain.{Chained}
 use Rattle.ceal_repair.specs.Covered.{Queue, queue_of, and_one, contents_after}
 use Rattle.ceal_repair.specs.Kept.{IsAwake, AreReads, base_in}
-use Rattle.ceal_repair.specs.Lists.{IsTabled, reads_at, writes_in, stamps_where, before, up_to, behind}
+use Rattle.ceal_repair.specs.Lists.{IsTabled, reads_at, writes_in, stamps_where, before, up_to, nodes_after}
 use Rattle.ceal_trace.proofs.Parts.{split_at, after-part, without-part, entry-part}
 use Rattle.ceal_trace.specs.Nodes.{Entry, stamps_in, has_node, node_at, entry_at, held_by, is_read, with_entry_after, without_entry}
 use Rattle.ceal_trace.specs.declared.node.Node.{Node}
@@ -41,7 +41,7 @@ module _ (e : Entry) (back : List Entry) where
     | inr p ↦ rw p.0 (ap (λ (l : List Entry). x ∷ l) (up-to-node xs (rw p.0 at none)))
   ]
 
-  pub behind-node : (front : List Entry) → has_node e.stamp front ≡ false → behind e.stamp (front ++ e ∷ back) ≡ back
+  pub behind-node : (front : List Entry) → has_node e.stamp front ≡ false → nodes_after e.stamp (front ++ e ∷ back) ≡ back
   behind-node [] none = rw (eq-eqb e.stamp e.stamp refl) refl
   behind-node (x ∷ xs) none = elim (eqb_tells x.stamp e.stamp) [
     | inl p ↦ absurd (let no : true ≡ false = rw p.0 at none in cc)
@@ -120,7 +120,8 @@ part-at s n nodes h = go (split_at s nodes (node-has s n nodes h))
       back = x.2;
       was = x.3;
       stamp = x.4;
-      node = some-same x.1.node n (sym (ap held_by (subst (λ (l : List Entry). entry_at x.1.stamp l ≡ Some x.1) (sym x.3) (entry-part x.1 x.2 x.0 (rw (← x.4) at x.5)))) ∙ (ap (λ t. node_at t nodes) x.4 ∙ h));
+      node = some-same x.1.node n
+          (sym (ap held_by (subst (λ (l : List Entry). entry_at x.1.stamp l ≡ Some x.1) (sym x.3) (entry-part x.1 x.2 x.0 (rw (← x.4) at x.5)))) ∙ (ap (λ t. node_at t nodes) x.4 ∙ h));
       apart = rw (← x.4) at x.5;
     }
 
@@ -131,7 +132,8 @@ part-without s n nodes c = subst (λ t. without_entry t nodes ≡ c.front ++ c.b
 -- ---- what is queued
 
 -- what a place's list of reads has are reads
-pub listed-read : (p : Place) (nodes : List Entry) (mods : Contents) (z : ℕ) → Distinct (stamps_in nodes) → IsTabled nodes mods → is_in z (cell_of mods p).reads ≡ true → is_read (node_at z nodes) ≡ true
+pub listed-read : (p : Place) (nodes : List Entry) (mods : Contents) (z : ℕ) → Distinct (stamps_in nodes) → IsTabled nodes mods → is_in z (cell_of mods p).reads ≡ true
+    → is_read (node_at z nodes) ≡ true
 listed-read p nodes mods z d t i = go (where-holds (reads_at p) nodes z d (subst (λ (l : List ℕ). is_in z l ≡ true) (t.reads p) i))
   where
     read : (n : Node) → reads_at p n ≡ true → is_read (Some n) ≡ true
@@ -241,7 +243,8 @@ first-queued front back own s order p cell q' is distinct in_own w r awake =
     (in-back own (s ∷ []) s (in_head s [])) awake [] back (record {
       parts = is;
       writes = λ t i k. in-parts (stamps_of (writes_in p front)) (stamps_of (writes_in p back)) t
-          (subst (λ (l : List ℕ). is_in t l ≡ true) (stamps_of-append (writes_in p front) (writes_in p back)) (subst (λ (l : List WriteOf). is_in t (stamps_of l) ≡ true) (w ∙ writes-append p front back) i))
+          (subst (λ (l : List ℕ). is_in t l ≡ true) (stamps_of-append (writes_in p front) (writes_in p back))
+              (subst (λ (l : List WriteOf). is_in t (stamps_of l) ≡ true) (w ∙ writes-append p front back) i))
           (false-of (is_in t (stamps_of (writes_in p front))) (λ h. sym (in_own t (writes-among p front t h)) ∙ k));
       reads = λ t i k. in-parts (stamps_where (reads_at p) front) (stamps_where (reads_at p) back) t
           (subst (λ (l : List ℕ). is_in t l ≡ true) (r ∙ where-append (reads_at p) front back) i)
@@ -267,7 +270,8 @@ tabled-same nodes a b e t = record {
 }
 
 -- what a look-up at a node gives is what the nodes before it leave
-pub looked-up : (s : ℕ) (front : List Entry) (e : Entry) (back nodes : List Entry) (mods : Contents) (p : Place) → nodes ≡ front ++ e ∷ back → e.stamp ≡ s → Distinct (stamps_in nodes) → IsTabled nodes mods
+pub looked-up : (s : ℕ) (front : List Entry) (e : Entry) (back nodes : List Entry) (mods : Contents) (p : Place) → nodes ≡ front ++ e ∷ back → e.stamp ≡ s → Distinct (stamps_in nodes)
+    → IsTabled nodes mods
     → value_before (stamps_in nodes) s (cell_of mods p) ≡ contents_after (base_in mods) front p
 looked-up s front e back nodes mods p was is distinct t =
     subst (λ z. value_before (stamps_in nodes) z (cell_of mods p) ≡ contents_after (base_in mods) front p) is

@@ -47,7 +47,8 @@ opened-more g w p false k x e = go (same_place x p) (w x) (k x e)
     go t false h = absurd (let no : false ≡ true = h in cc)
 
 abbrev Too : Code → Queue → List Entry → Type 0
-Too code q es = (s s' : Store) (g : Seen) (w : Waiting) → ((p : Place) → s p ≡ s' p) → ((p : Place) → g p ≡ true → w p ≡ true) → StartsAll code s es → Covers q s g es → Covered code q s' w (nodes_of es)
+Too code q es =
+    (s s' : Store) (g : Seen) (w : Waiting) → ((p : Place) → s p ≡ s' p) → ((p : Place) → g p ≡ true → w p ≡ true) → StartsAll code s es → Covers q s g es → Covered code q s' w (nodes_of es)
 
 node-too : (code : Code) (q : Queue) (e : Entry) (es : List Entry) → Too code q es → Too code q (e ∷ es)
 node-too code q e es on s s' g w h k a c = go e.node refl

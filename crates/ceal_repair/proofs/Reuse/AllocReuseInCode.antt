@@ -19,7 +19,7 @@ use Rattle.ceal_repair.proofs.Nodes.NodeBlocks.{node-step}
 use Rattle.ceal_repair.proofs.Reuse.AllocReuse.{bound-now, left-is, CutMore}
 use Rattle.ceal_repair.proofs.Runs.RepairView.{IsStepped, cursor-kept}
 use Rattle.ceal_repair.specs.Blocks.{HasBlocks, KeepsReadable}
-use Rattle.ceal_repair.specs.Entries.{closing, entries, starts, first_stamp, CutTo, IsUntil, Lies}
+use Rattle.ceal_repair.specs.Entries.{end_entry, entries, starts, first_stamp, CutTo, IsUntil, Lies}
 use Rattle.ceal_repair.specs.Moment.{Start, through}
 use Rattle.ceal_repair.specs.Repairs.{code_of, inputs_of, view, RunsAt, left_nodes}
 use Rattle.ceal_repair.specs.declared.repair.Repair.{Repair}
@@ -45,7 +45,8 @@ CutsThere cursor until old new = (front : List Entry) (left : Grove) (tail : Lis
 
 module _ (old new : Repair) (h : IsStepped old new) (start : Start) (st : Stack) (now : RunsAt start st old) where
   pub has-stepped : HasBlocks (code_of old) (inputs_of old) new.running.now.heap new.running.now.tables
-  has-stepped = subst (λ z. HasBlocks (code_of old) (inputs_of old) z new.running.now.tables) (sym h.heap) (blocks-more (code_of old) (inputs_of old) old.running.now.heap old.running.now.tables new.running.now.tables now.blocks old.cursor.0 h.more)
+  has-stepped = subst (λ z. HasBlocks (code_of old) (inputs_of old) z new.running.now.tables) (sym h.heap)
+      (blocks-more (code_of old) (inputs_of old) old.running.now.heap old.running.now.tables new.running.now.tables now.blocks old.cursor.0 h.more)
 
   lies-stepped : Lies old.cursor.0 (through now.placed.done (more now.placed.last)) now.left now.tail new.running.now.tables
   lies-stepped = record {
@@ -69,7 +70,8 @@ module _ (old new : Repair) (h : IsStepped old new) (start : Start) (st : Stack)
 
     module _ (t2 : Tables) (kept : Kept t2) (there : CutsThere new.cursor.0 found.0 new.running.now.tables t2) where
       pub cut-result : (rest : Grove) × CutTo found.0 now.left rest × Lies old.cursor.0 (through now.placed.done (more now.placed.last)) rest now.tail t2
-      cut-result = (subst (λ k. CutsThere k found.0 new.running.now.tables t2) (cursor-kept old new h) there) (through now.placed.done (more now.placed.last)) now.left now.tail lies-stepped (match-starts key now.left found.0 matches-left)
+      cut-result = (subst (λ k. CutsThere k found.0 new.running.now.tables t2) (cursor-kept old new h) there) (through now.placed.done (more now.placed.last)) now.left now.tail lies-stepped
+          (match-starts key now.left found.0 matches-left)
 
       pub found-there : has_node found.0 t2.trace.nodes ≡ true
       found-there = has-first old.cursor.0 found.0 (through now.placed.done (more now.placed.last)) cut-result.0 now.tail t2 kept cut-result.2 (cut-first cut-result.1)
@@ -77,7 +79,8 @@ module _ (old new : Repair) (h : IsStepped old new) (start : Start) (st : Stack)
       pub cut-more-code : (heap : Contents) (t : Tables) → ((p : Place) → base_in t2.mods p ≡ base_in new.running.now.tables.mods p) → KeepsReadable new.running.now.heap heap
           → ((code : Code) (inputs : List Block) → HasBlocks code inputs new.running.now.heap new.running.now.tables → HasBlocks code inputs heap t2)
           → t.trace.nodes ≡ with_steps found.0 0 t2.trace.nodes → t.mods ≡ t2.mods → t.stale ≡ t2.stale → Kept t
-          → CutMore (code_of old) (inputs_of old) old.cursor.0 found.0 (through now.placed.done (more now.placed.last)) now.left cut-result.0 now.tail old.running.now.heap heap new.running.now.tables t2 t
+          → CutMore (code_of old) (inputs_of old) old.cursor.0 found.0
+              (through now.placed.done (more now.placed.last)) now.left cut-result.0 now.tail old.running.now.heap heap new.running.now.tables t2 t
       cut-more-code heap t bases blocks has nodes mods queue now_kept = record {
         cuts = cut-result.1;
         lies = cut-result.2;
@@ -114,7 +117,7 @@ lacks key (Made t b k n rest) h = elim (cases_Bool (same_key k key)) [
 lacks key (Put t p v n rest) h = (tt, lacks key rest h)
 lacks key (Got t p v u x args n inside e m rest) h =
     let k = head-none (stamps_where (allocates key) (entries inside)) (stamps_where (allocates key) (entries rest))
-    (sym (ap head_of (where-append (allocates key) (entries inside) (closing e t m ∷ entries rest))) ∙ h) in
+    (sym (ap head_of (where-append (allocates key) (entries inside) (end_entry e t m ∷ entries rest))) ∙ h) in
     (tt, lacks-append key (knots inside) (knot e item.End m ∷ knots rest) (lacks key inside k.0) (tt, lacks key rest k.1))
 
 -- nothing is taken where no node that is left over has the key

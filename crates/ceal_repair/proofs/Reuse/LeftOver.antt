@@ -13,7 +13,7 @@ use Rattle.ceal_order.specs.Stamps.{NotIn, Distinct, is_in, head_of}
 use Rattle.ceal_order.specs.declared.stamp.Stamp.{Stamp}
 use Rattle.ceal_repair.proofs.Nodes.NodeItems.{knots-entries, items-knots-of, rootless-entries, entries-joined, not-in-is}
 use Rattle.ceal_repair.specs.Around.{Bounds}
-use Rattle.ceal_repair.specs.Entries.{closing, entries, first_stamp, starts, CutTo, there, more}
+use Rattle.ceal_repair.specs.Entries.{end_entry, entries, first_stamp, starts, CutTo, there, more}
 use Rattle.ceal_repair.proofs.Lists.PartedLists.{where-append, where-among}
 use Rattle.ceal_repair.proofs.Lists.ListChanges.{in-front, in-back}
 use Rattle.ceal_repair.specs.Lists.{allocates, stamps_where}
@@ -114,7 +114,8 @@ not-later key s es n h =
     let i : is_in s (stamps_in es) ≡ true = where-among (allocates key) es s (head_in s (stamps_where (allocates key) es) h) in
     absurd (let no : true ≡ false = sym i ∙ not-in-is s (stamps_in es) n in cc)
 
-match-here : (key : Key) (found : ℕ) (g : Grove) → first_stamp g ≡ Some found → Distinct (stamps_in (entries g)) → head_of (stamps_where (allocates key) (entries g)) ≡ Some found → MatchAlloc key found g g
+match-here : (key : Key) (found : ℕ) (g : Grove) → first_stamp g ≡ Some found → Distinct (stamps_in (entries g)) → head_of (stamps_where (allocates key) (entries g)) ≡ Some found
+    → MatchAlloc key found g g
 match-here key found Bare f d h = absurd (cc)
 match-here key found (Made t b k n rest) f d h = elim (cases_Bool (same_key k key)) [
   | inl e ↦ record {
@@ -133,7 +134,7 @@ match-here key found (Made t b k n rest) f d h = elim (cases_Bool (same_key k ke
 match-here key found (Put t p v n rest) f d h = let same : t ≡ found = cc in not-later key found (entries rest) (subst (λ z. NotIn z (stamps_in (entries rest))) same d.0) h
 match-here key found (Got t p v u x args n inside e m rest) f d h =
     let same : t ≡ found = cc in
-    not-later key found (entries inside ++ closing e t m ∷ entries rest) (subst (λ z. NotIn z (stamps_in (entries inside ++ closing e t m ∷ entries rest))) same d.0) h
+    not-later key found (entries inside ++ end_entry e t m ∷ entries rest) (subst (λ z. NotIn z (stamps_in (entries inside ++ end_entry e t m ∷ entries rest))) same d.0) h
 
 -- the first node is another one
 record MatchLater (key : Key) (found : ℕ) (g : Grove) : Type 0 where
@@ -141,7 +142,8 @@ record MatchLater (key : Key) (found : ℕ) (g : Grove) : Type 0 where
   where_is : head_of (stamps_where (allocates key) (entries (cut g))) ≡ Some found
   distinct : Distinct (stamps_in (entries (cut g)))
 
-match-later : (key : Key) (found : ℕ) (g : Grove) → ¬ (first_stamp g ≡ Some found) → Distinct (stamps_in (entries g)) → head_of (stamps_where (allocates key) (entries g)) ≡ Some found → MatchLater key found g
+match-later : (key : Key) (found : ℕ) (g : Grove) → ¬ (first_stamp g ≡ Some found) → Distinct (stamps_in (entries g)) → head_of (stamps_where (allocates key) (entries g)) ≡ Some found
+    → MatchLater key found g
 match-later key found Bare f d h = absurd (cc)
 match-later key found (Made t b k n rest) f d h = elim (cases_Bool (same_key k key)) [
   | inl e ↦ absurd (f (rw e at h))
@@ -150,12 +152,13 @@ match-later key found (Made t b k n rest) f d h = elim (cases_Bool (same_key k k
 match-later key found (Put t p v n rest) f d h = record { has = refl; where_is = h; distinct = d.1 }
 match-later key found (Got t p v u x args n inside e m rest) f d h = record {
   has = refl;
-  where_is = subst (λ es. head_of es ≡ Some found) (where-append (allocates key) (entries inside) (closing e t m ∷ entries rest) ∙ (sym (where-append (allocates key) (entries inside) (entries rest))
+  where_is = subst (λ es. head_of es ≡ Some found) (where-append (allocates key) (entries inside) (end_entry e t m ∷ entries rest) ∙ (sym (where-append (allocates key) (entries inside) (entries rest))
       ∙ ap (stamps_where (allocates key)) (sym (entries-joined inside rest)))) h;
-  distinct = subst (λ es. Distinct (stamps_in es)) (sym (entries-joined inside rest)) (distinct-skip (entries inside) (closing e t m) (entries rest) d.1);
+  distinct = subst (λ es. Distinct (stamps_in es)) (sym (entries-joined inside rest)) (distinct-skip (entries inside) (end_entry e t m) (entries rest) d.1);
 }
 
-pub match-alloc : (key : Key) (found : ℕ) {g rest : Grove} → CutTo found g rest → Distinct (stamps_in (entries g)) → head_of (stamps_where (allocates key) (entries g)) ≡ Some found → MatchAlloc key found g rest
+pub match-alloc : (key : Key) (found : ℕ) {g rest : Grove} → CutTo found g rest → Distinct (stamps_in (entries g)) → head_of (stamps_where (allocates key) (entries g)) ≡ Some found
+    → MatchAlloc key found g rest
 match-alloc key found {g} (there f) d h = match-here key found g f d h
 match-alloc key found {g} (more f c) d h =
     let l = match-later key found g f d h in
@@ -193,7 +196,7 @@ match-starts key (Put t p v n rest) s h = in_tail s t (starts rest) (match-start
 match-starts key (Got t p v u x args n inside e m rest) s h =
     in_tail s t (starts inside ++ starts rest)
     (elim (head-some (stamps_where (allocates key) (entries inside)) (stamps_where (allocates key) (entries rest)) s
-    (subst (λ es. head_of es ≡ Some s) (where-append (allocates key) (entries inside) (closing e t m ∷ entries rest)) h)) [
+    (subst (λ es. head_of es ≡ Some s) (where-append (allocates key) (entries inside) (end_entry e t m ∷ entries rest)) h)) [
       | inl k ↦ in-front (starts inside) (starts rest) s (match-starts key inside s k)
       | inr k ↦ in-back (starts inside) (starts rest) s (match-starts key rest s k)
     ])

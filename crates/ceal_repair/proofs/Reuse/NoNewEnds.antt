@@ -2,7 +2,7 @@
 use Rattle.std.proofs.Common.{◌≡◌, ℕ, inl, inr, Some, None, List, [], ◌∷◌, ◌++◌, refl, sym, subst}
 use Rattle.std.proofs.lemmas.Bool.{cases_Bool}
 use Rattle.ceal_repair.proofs.Nodes.NodeItems.{entries-joined}
-use Rattle.ceal_repair.specs.Entries.{closing, entries, CutTo}
+use Rattle.ceal_repair.specs.Entries.{end_entry, entries, CutTo}
 use Rattle.ceal_repair.specs.Moment.{Unfinished}
 use Rattle.ceal_repair.specs.Frames.{Frame, Begun, Taken, Kept as FrameKept}
 use Rattle.ceal_theory.specs.Groves.{Grove, Bare, Made, Put, Got, cut}
@@ -27,8 +27,8 @@ cut-end r Bare h = h
 cut-end r (Made t b k n rest) h = h
 cut-end r (Put t p v n rest) h = h
 cut-end r (Got t p v u x args n inside e m rest) h =
-    let k = end-append r (entries inside) (closing e t m ∷ entries rest) h in
-    let l = end-append r (closing e t m ∷ []) (entries rest) k.1 in
+    let k = end-append r (entries inside) (end_entry e t m ∷ entries rest) h in
+    let l = end-append r (end_entry e t m ∷ []) (entries rest) k.1 in
     subst (λ es. end_in r es ≡ None) (sym (entries-joined inside rest)) (append-end r (entries inside) (entries rest) k.0 l.1)
 
 pub cut-to-end : (r : ℕ) {s : ℕ} {g h : Grove} → CutTo s g h → end_in r (entries g) ≡ None → end_in r (entries h) ≡ None

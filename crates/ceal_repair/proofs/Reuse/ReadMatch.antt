@@ -10,7 +10,7 @@ use Rattle.ceal_memo.specs.declared.key.ReadKey.{ReadKey}
 use Rattle.ceal_order.specs.Stamps.{NotIn, Distinct, is_in, head_of}
 use Rattle.ceal_order.specs.declared.stamp.Stamp.{Stamp}
 use Rattle.ceal_repair.proofs.Nodes.NodeItems.{knots-entries, entries-joined}
-use Rattle.ceal_repair.specs.Entries.{CutTo, entries, closing, knots_of, first_stamp, starts}
+use Rattle.ceal_repair.specs.Entries.{CutTo, entries, end_entry, knots_of, first_stamp, starts}
 use Rattle.ceal_repair.proofs.Lists.PartedLists.{where-append}
 use Rattle.ceal_repair.specs.AsItems.{item_in}
 use Rattle.ceal_repair.specs.Lists.{recalls, stamps_where}
@@ -71,7 +71,7 @@ module _ (holds : Node → Bool) where
     | inl h ↦ h
     | inr h ↦
         let same : t ≡ s = cc in
-        let es = entries inside ++ closing c t m ∷ entries rest in
+        let es = entries inside ++ end_entry c t m ∷ entries rest in
         absurd (not-head s (stamps_where holds es) (not-where holds s es (subst (λ r. NotIn r (stamps_in es)) same d.0)) (rw h at e))
   ]
 
@@ -90,7 +90,7 @@ module _ (holds : Node → Bool) where
     where-cut (Put t p v n rest) h = rw h refl
     where-cut (Got t p v u x args n inside c m rest) h =
         ap (stamps_where holds) (entries-joined inside rest) ∙ (where-append holds (entries inside) (entries rest)
-        ∙ (rw (h, where-append holds (entries inside) (closing c t m ∷ entries rest), no_end (record { 0 = t })) refl))
+        ∙ (rw (h, where-append holds (entries inside) (end_entry c t m ∷ entries rest), no_end (record { 0 = t })) refl))
 
 pub distinct-cut : (g : Grove) → Distinct (stamps_in (entries g)) → Distinct (stamps_in (entries (cut g)))
 distinct-cut Bare d = tt
@@ -98,7 +98,7 @@ distinct-cut (Made t b k n rest) d = d.1
 distinct-cut (Put t p v n rest) d = d.1
 distinct-cut (Got t p v u x args n inside c m rest) d =
     subst Distinct (sym (ap stamps_in (entries-joined inside rest) ∙ stamps-append (entries inside) (entries rest)))
-    (distinct-without c (stamps_in (entries inside)) (stamps_in (entries rest)) (subst Distinct (stamps-append (entries inside) (closing c t m ∷ entries rest)) d.1))
+    (distinct-without c (stamps_in (entries inside)) (stamps_in (entries rest)) (subst Distinct (stamps-append (entries inside) (end_entry c t m ∷ entries rest)) d.1))
 
 in-either : (s : ℕ) (xs ys : List ℕ) → is_in s (xs ++ ys) ≡ true → (is_in s xs ≡ true) ⊎ (is_in s ys ≡ true)
 in-either s [] ys i = inr i
@@ -134,9 +134,10 @@ head-is-in s (x ∷ xs) e = let same : x ≡ s = cc in rw (eq-eqb x s same) refl
 module _ (holds : Node → Bool) (no_end : (r : Stamp) → holds (End r) ≡ false) where
   in-both : (s t c m : ℕ) (inside rest : Grove) → (is_in s (stamps_where holds (entries inside)) ≡ true → is_in s (starts inside) ≡ true)
       → (is_in s (stamps_where holds (entries rest)) ≡ true → is_in s (starts rest) ≡ true)
-      → is_in s (stamps_where holds (entries inside ++ closing c t m ∷ entries rest)) ≡ true → is_in s (starts inside ++ starts rest) ≡ true
+      → is_in s (stamps_where holds (entries inside ++ end_entry c t m ∷ entries rest)) ≡ true → is_in s (starts inside ++ starts rest) ≡ true
   in-both s t c m inside rest one two i =
-      elim (in-either s (stamps_where holds (entries inside)) (stamps_where holds (entries rest)) (rw (where-append holds (entries inside) (closing c t m ∷ entries rest), no_end (record { 0 = t })) at i)) [
+      elim (in-either s (stamps_where holds (entries inside)) (stamps_where holds (entries rest))
+          (rw (where-append holds (entries inside) (end_entry c t m ∷ entries rest), no_end (record { 0 = t })) at i)) [
         | inl k ↦ in-left s (starts inside) (starts rest) (one k)
         | inr k ↦ in-right s (starts inside) (starts rest) (two k)
       ]
@@ -154,7 +155,7 @@ module _ (holds : Node → Bool) (no_end : (r : Stamp) → holds (End r) ≡ fal
   ]
   in-starts s (Got t p v u x args n inside c m rest) i = elim (cases_Bool (holds (Read p v u x args))) [
     | inl h ↦
-        in-first s t (stamps_where holds (entries inside ++ closing c t m ∷ entries rest)) (starts inside ++ starts rest) (rw h at i)
+        in-first s t (stamps_where holds (entries inside ++ end_entry c t m ∷ entries rest)) (starts inside ++ starts rest) (rw h at i)
         (in-both s t c m inside rest (in-starts s inside) (in-starts s rest))
     | inr h ↦ in-later s t (starts inside ++ starts rest) (in-both s t c m inside rest (in-starts s inside) (in-starts s rest) (rw h at i))
   ]
@@ -169,11 +170,13 @@ bare-stepped zero g = refl
 bare-stepped (suc n) g = bare-stepped n g
 
 pub data TakesRead (key : ReadKey) (g : Grove) (s : ℕ) : Grove → Type 0 where
-  takes : (q : Place) (v : Word) (w : UnitId) (y : ℕ) (words : List Word) (n : ℕ) (inside : Grove) (e m : ℕ) (rest : Grove) (t : TakenRead) → same_read q w y words key.place key.unit key.var key.args ≡ true
+  takes : (q : Place) (v : Word) (w : UnitId) (y : ℕ) (words : List Word) (n : ℕ) (inside : Grove) (e m : ℕ) (rest : Grove) (t : TakenRead)
+      → same_read q w y words key.place key.unit key.var key.args ≡ true
       → take_read key.place key.unit key.var key.args (trace_in g) ≡ Some t → t.value ≡ v → t.inside ≡ stepped n (trace_in inside) → bare t.leftover ≡ bare (trace_in rest)
       → TakesRead key g s (Got s q v w y words n inside e m rest)
 
-read-same : (a b : Option TakenRead) (t : TakenRead) → bare_read a ≡ bare_read b → a ≡ Some t → (r : TakenRead) × (b ≡ Some r) × (r.value ≡ t.value) × (r.inside ≡ t.inside) × (bare r.leftover ≡ bare t.leftover)
+read-same : (a b : Option TakenRead) (t : TakenRead) → bare_read a ≡ bare_read b → a ≡ Some t
+    → (r : TakenRead) × (b ≡ Some r) × (r.value ≡ t.value) × (r.inside ≡ t.inside) × (bare r.leftover ≡ bare t.leftover)
 read-same a None t e k = absurd (let clash : Some (record t { leftover = bare t.leftover }) ≡ None = ap bare_read (sym k) ∙ e in cc)
 read-same a (Some r) t e k =
     let same : Some (record t { leftover = bare t.leftover }) ≡ Some (record r { leftover = bare r.leftover }) = ap bare_read (sym k) ∙ e in
@@ -199,7 +202,8 @@ module _ (laws : Takings) (key : ReadKey) where
 
   kept-read : (g h : Grove) (s : ℕ) → first_reads key.place key.unit key.var key.args g ≡ false → TakesRead key (cut g) s h → TakesRead key g s h
   kept-read g h s f (takes q v w y words n inside e m rest t same found is within left) =
-      let r = read-same (take_read key.place key.unit key.var key.args (trace_in (cut g))) (take_read key.place key.unit key.var key.args (trace_in g)) t (laws.read_kept key.place key.unit key.var key.args g f) found in
+      let r = read-same (take_read key.place key.unit key.var key.args (trace_in (cut g))) (take_read key.place key.unit key.var key.args (trace_in g)) t
+          (laws.read_kept key.place key.unit key.var key.args g f) found in
       takes q v w y words n inside e m rest r.0 same r.1 (r.2 ∙ is) (r.3 ∙ within) (r.4 ∙ left)
 
   -- the first read with the key is what is taken

@@ -32,12 +32,12 @@ use Rattle.ceal_repair.proofs.Reuse.AllocReuse.{bound-now, words-same, course-ba
 use Rattle.ceal_repair.specs.Around.{Tails, Passes, Inside}
 use Rattle.ceal_repair.proofs.Runs.FewNumbers.{given-same}
 use Rattle.ceal_repair.specs.Blocks.{HasBlocks, Given, KeepsReadable}
-use Rattle.ceal_repair.specs.Entries.{stamped, entry, closing, entries, CutTo, Lies}
+use Rattle.ceal_repair.specs.Entries.{stamp_of_number, entry, end_entry, entries, CutTo, Lies}
 use Rattle.ceal_repair.specs.Moment.{View, Start, Placed, RunningNow, PassingNow, through, state_at}
 use Rattle.ceal_repair.specs.Frames.{Taken}
 use Rattle.ceal_repair.specs.Words.{words_of}
 use Rattle.ceal_repair.specs.Covered.{contents_after}
-use Rattle.ceal_repair.specs.Kept.{Kept, Records, QueuedBehind, base_in, contents_at}
+use Rattle.ceal_repair.specs.Kept.{Kept, Records, QueuedAfter, base_in, contents_at}
 use Rattle.ceal_repair.specs.Lists.{recalls, stamps_where, before}
 use Rattle.ceal_repair.specs.declared.tables.Tables.{Tables}
 use Rattle.ceal_theory.proofs.Reuse.StepsBetween.{frames-self}
@@ -69,11 +69,11 @@ before-part e back (x ∷ xs) h = elim (eqb_tells x.stamp e.stamp) [
 ]
 
 -- the end of a read among nodes
-pub end-is : (t : Tables) → Kept t → (e r m : ℕ) (front inside later : List Entry) → t.trace.nodes ≡ front ++ (inside ++ closing e r m ∷ later) → end_in r t.trace.nodes ≡ Some e
+pub end-is : (t : Tables) → Kept t → (e r m : ℕ) (front inside later : List Entry) → t.trace.nodes ≡ front ++ (inside ++ end_entry e r m ∷ later) → end_in r t.trace.nodes ≡ Some e
 end-is t kept e r m front inside later h =
-    let all : t.trace.nodes ≡ (front ++ inside) ++ closing e r m ∷ later = h ∙ sym (append_assoc front inside (closing e r m ∷ later)) in
-    let none : has_node e (front ++ inside) ≡ false = not_before (front ++ inside) (closing e r m) later (subst (λ es. order.Distinct (stamps_in es)) all kept.step.whole.order.distinct) in
-    kept.step.whole.one_end e (stamped r) (ap (node_at e) all ∙ ap held_by (entry-part (closing e r m) later (front ++ inside) none))
+    let all : t.trace.nodes ≡ (front ++ inside) ++ end_entry e r m ∷ later = h ∙ sym (append_assoc front inside (end_entry e r m ∷ later)) in
+    let none : has_node e (front ++ inside) ≡ false = not_before (front ++ inside) (end_entry e r m) later (subst (λ es. order.Distinct (stamps_in es)) all kept.step.whole.order.distinct) in
+    kept.step.whole.one_end e (stamp_of_number r) (ap (node_at e) all ∙ ap held_by (entry-part (end_entry e r m) later (front ++ inside) none))
 
 -- ---- a read with another value
 
@@ -163,8 +163,8 @@ pub record CutDone (code : Code) (inputs : List Block) (cursor found : ℕ) (fro
   pub kept : Kept new
 
 -- the levels of what is in a read and after its end
-pub levels-behind : (g : Grove) (e r m : ℕ) (tail : List Entry) → around (levels (forest_of (entries g ++ closing e r m ∷ tail))) ≡ levels (ticks m ++ forest_of tail)
-levels-behind g e r m tail = around-left g (closing e r m ∷ tail)
+pub levels-behind : (g : Grove) (e r m : ℕ) (tail : List Entry) → around (levels (forest_of (entries g ++ end_entry e r m ∷ tail))) ≡ levels (ticks m ++ forest_of tail)
+levels-behind g e r m tail = around-left g (end_entry e r m ∷ tail)
 
 pub first-ticks : (n : ℕ) (is : List Item) → first (levels (ticks n ++ is)) ≡ stepped n (first (levels is))
 first-ticks zero is = refl
@@ -188,19 +188,19 @@ module _ (code : Code) (inputs : List Block) (start : Start) (st : Stack) (v : V
   the-match = match-read p u x args found.0 c.cuts left-distinct matches
 
   nodes-mid : t2.trace.nodes ≡ through now.placed.done (more now.placed.last)
-      ++ entry found.0 (Read p the-match.value u x args) the-match.steps ∷ (entries the-match.inside ++ closing the-match.end found.0 the-match.end_steps ∷ (entries the-match.behind ++ now.tail))
+      ++ entry found.0 (Read p the-match.value u x args) the-match.steps ∷ (entries the-match.inside ++ end_entry the-match.end found.0 the-match.end_steps ∷ (entries the-match.behind ++ now.tail))
   nodes-mid = c.lies.nodes ∙ (ap (λ g. through now.placed.done (more now.placed.last) ++ (entries g ++ now.tail)) the-match.is
       ∙ ap (λ es. through now.placed.done (more now.placed.last) ++ entry found.0 (Read p the-match.value u x args) the-match.steps ∷ es)
-      (append_assoc (entries the-match.inside) (closing the-match.end found.0 the-match.end_steps ∷ entries the-match.behind) now.tail))
+      (append_assoc (entries the-match.inside) (end_entry the-match.end found.0 the-match.end_steps ∷ entries the-match.behind) now.tail))
 
   found-not-front : has_node found.0 (through now.placed.done (more now.placed.last)) ≡ false
   found-not-front = not_before (through now.placed.done (more now.placed.last)) (entry found.0 (Read p the-match.value u x args) the-match.steps)
-      (entries the-match.inside ++ closing the-match.end found.0 the-match.end_steps ∷ (entries the-match.behind ++ now.tail))
+      (entries the-match.inside ++ end_entry the-match.end found.0 the-match.end_steps ∷ (entries the-match.behind ++ now.tail))
       (subst (λ es. order.Distinct (stamps_in es)) nodes-mid c.kept.step.whole.order.distinct)
 
   pub node-there : node_at found.0 t2.trace.nodes ≡ Some (Read p the-match.value u x args)
   node-there = ap (node_at found.0) nodes-mid ∙ ap held_by (entry-part (entry found.0 (Read p the-match.value u x args) the-match.steps)
-      (entries the-match.inside ++ closing the-match.end found.0 the-match.end_steps ∷ (entries the-match.behind ++ now.tail)) (through now.placed.done (more now.placed.last)) found-not-front)
+      (entries the-match.inside ++ end_entry the-match.end found.0 the-match.end_steps ∷ (entries the-match.behind ++ now.tail)) (through now.placed.done (more now.placed.last)) found-not-front)
 
   blocks-mid : HasBlocks code inputs heap t2
   blocks-mid = c.has (blocks-more code inputs v.heap v.tables t1 now.blocks v.cursor h)
@@ -211,7 +211,8 @@ module _ (code : Code) (inputs : List Block) (start : Start) (st : Stack) (v : V
   -- a read that has no end gets none
   no-end-mid : (r : ℕ) → end_in r t1.trace.nodes ≡ None → end_in r t2.trace.nodes ≡ None
   no-end-mid r e = ap (end_in r) c.lies.nodes
-      ∙ (let parts = end-append r (through now.placed.done (more now.placed.last)) (entries now.left ++ now.tail) (sym (ap (end_in r) (step-nodes start v now.reads (entries now.left ++ now.tail) now.placed t1 h)) ∙ e) in
+      ∙ (let parts = end-append r (through now.placed.done (more now.placed.last)) (entries now.left ++ now.tail)
+          (sym (ap (end_in r) (step-nodes start v now.reads (entries now.left ++ now.tail) now.placed t1 h)) ∙ e) in
       let back = end-append r (entries now.left) now.tail parts.1 in
       append-end r (through now.placed.done (more now.placed.last)) (entries rest ++ now.tail) parts.0 (append-end r (entries rest) now.tail (cut-to-end r c.cuts back.0) back.1))
 
@@ -226,7 +227,7 @@ module _ (code : Code) (inputs : List Block) (start : Start) (st : Stack) (v : V
   content-mid =
       ap (λ es. contents_after (base_in t2.mods) (before found.0 es) p) nodes-mid
       ∙ (ap (λ es. contents_after (base_in t2.mods) es p) (before-part (entry found.0 (Read p the-match.value u x args) the-match.steps)
-      (entries the-match.inside ++ closing the-match.end found.0 the-match.end_steps ∷ (entries the-match.behind ++ now.tail)) (through now.placed.done (more now.placed.last)) found-not-front)
+      (entries the-match.inside ++ end_entry the-match.end found.0 the-match.end_steps ∷ (entries the-match.behind ++ now.tail)) (through now.placed.done (more now.placed.last)) found-not-front)
       ∙ sym (same-next code inputs start st v now t2 bases-mid p place-known))
 
   is-left : first (levels (forest_of (entries now.left ++ now.tail))) ≡ trace_in now.left
@@ -236,7 +237,7 @@ module _ (code : Code) (inputs : List Block) (start : Start) (st : Stack) (v : V
   takes-left = ap (take_read p u x args) is-left ∙ the-match.takes_it
 
   frames-mid : BareFrames (AfterMend below the-match.taken.leftover (frames_at now.waits (around (levels (forest_of (entries now.left ++ now.tail))))))
-      (frames_at (Takes below ∷ now.waits) (around (levels (forest_of (entries the-match.inside ++ closing the-match.end found.0 the-match.end_steps ∷ (entries the-match.behind ++ now.tail))))))
+      (frames_at (Takes below ∷ now.waits) (around (levels (forest_of (entries the-match.inside ++ end_entry the-match.end found.0 the-match.end_steps ∷ (entries the-match.behind ++ now.tail))))))
   frames-mid = rw (
     levels-behind the-match.inside the-match.end found.0 the-match.end_steps (entries the-match.behind ++ now.tail),
     first-ticks the-match.end_steps (forest_of (entries the-match.behind ++ now.tail)),
@@ -245,12 +246,15 @@ module _ (code : Code) (inputs : List Block) (start : Start) (st : Stack) (v : V
     around-left the-match.behind now.tail,
     around-left now.left now.tail,
   )
-      (BareFrames.after_mend (the-match.left_is ∙ sym (bare-stepped the-match.end_steps (trace_in the-match.behind))) (frames-self code (λ k. 0) (frames_at now.waits (around (levels (forest_of now.tail))))))
+      (BareFrames.after_mend (the-match.left_is ∙ sym (bare-stepped the-match.end_steps (trace_in the-match.behind)))
+          (frames-self code (λ k. 0) (frames_at now.waits (around (levels (forest_of now.tail))))))
 
-  items-then : (w : Word) → forest_of (through now.placed.done (more now.placed.last)) ++ item_of (Read p w u x args) ≡ forest_of (through now.placed.done now.placed.last) ++ (item.Step ∷ item.Read p w u x args ∷ [])
+  items-then : (w : Word)
+      → forest_of (through now.placed.done (more now.placed.last)) ++ item_of (Read p w u x args) ≡ forest_of (through now.placed.done now.placed.last) ++ (item.Step ∷ item.Read p w u x args ∷ [])
   items-then w = sym (forest-put (through now.placed.done (more now.placed.last)) found.0 (Read p w u x args)) ∙ items-next code inputs start st v now found.0 (Read p w u x args)
 
-  known-then : (w : Word) → known_after [] (forest_of (through now.placed.done (more now.placed.last)) ++ item_of (Read p w u x args)) ≡ known_after [] (forest_of (through now.placed.done now.placed.last))
+  known-then : (w : Word)
+      → known_after [] (forest_of (through now.placed.done (more now.placed.last)) ++ item_of (Read p w u x args)) ≡ known_after [] (forest_of (through now.placed.done now.placed.last))
   known-then w = ap (known_after []) (items-then w) ∙ known-append [] (forest_of (through now.placed.done now.placed.last)) (item.Step ∷ item.Read p w u x args ∷ [])
 
   same-then : (t : Tables) → ((q : Place) → base_in t.mods q ≡ base_in t2.mods q) → (w : Word) (n : ℕ) (q : Place)
@@ -275,21 +279,24 @@ module _ (code : Code) (inputs : List Block) (start : Start) (st : Stack) (v : V
       ≡ Went (item.Step ∷ item.Read p w u x args ∷ []) (mid-running w)
   unfolding turn mid-running
   stale-turn w is other names =
-      subst (λ z. same_word z the-match.taken.value ≡ false → turn code names (running_at (state_at code inputs v now.course.store (start.chosen ++ now.course.made)) st now.waits (forest_of (entries now.left ++ now.tail)))
+      subst (λ z. same_word z the-match.taken.value ≡ false
+          → turn code names (running_at (state_at code inputs v now.course.store (start.chosen ++ now.course.made)) st now.waits (forest_of (entries now.left ++ now.tail)))
       ≡ Went (item.Step ∷ item.Read p z u x args ∷ []) (mid-running z)) is (λ differs. rw (does, takes-left, differs) refl) other
 
   state-then : works (state_at code inputs v now.course.store (start.chosen ++ now.course.made))
       ≡ record { store = now.course.store; plain = words_of code inputs heap; number = length (start.chosen ++ now.course.made); work = v.spent + 1 }
-  state-then = ap (λ (y : Plain). record { store = now.course.store; plain = y; number = length (start.chosen ++ now.course.made); work = v.spent + 1 }) (sym (words-same code inputs v.heap heap c.blocks))
+  state-then =
+      ap (λ (y : Plain). record { store = now.course.store; plain = y; number = length (start.chosen ++ now.course.made); work = v.spent + 1 }) (sym (words-same code inputs v.heap heap c.blocks))
 
   bare-running : (w : Word) → BareSame (mid-running w)
       (running_at (record { store = now.course.store; plain = words_of code inputs heap; number = length (start.chosen ++ now.course.made); work = v.spent + 1 })
-      (resumed code u x args w) (Takes below ∷ now.waits) (forest_of (entries the-match.inside ++ closing the-match.end found.0 the-match.end_steps ∷ (entries the-match.behind ++ now.tail))))
+      (resumed code u x args w) (Takes below ∷ now.waits) (forest_of (entries the-match.inside ++ end_entry the-match.end found.0 the-match.end_steps ∷ (entries the-match.behind ++ now.tail))))
   unfolding mid-running
   bare-running w = record {
     state = state-then;
     mode = BareMode.runs (ap bare the-match.inside_is ∙ (bare-stepped the-match.steps (trace_in the-match.inside)
-        ∙ ap bare (sym (first-left the-match.inside (Some (stamped the-match.end)) (closing the-match.end found.0 the-match.end_steps ∷ (entries the-match.behind ++ now.tail)) (found.0, the-match.end_steps, entries the-match.behind ++ now.tail, refl)))));
+        ∙ ap bare (sym (first-left the-match.inside (Some (stamp_of_number the-match.end)) (end_entry the-match.end found.0 the-match.end_steps ∷ (entries the-match.behind ++ now.tail))
+            (found.0, the-match.end_steps, entries the-match.behind ++ now.tail, refl)))));
     frames = frames-mid;
   }
 
@@ -301,23 +308,24 @@ module _ (code : Code) (inputs : List Block) (start : Start) (st : Stack) (v : V
 
   -- it has another value, and its steps are dropped
   module _ (w : Word) (t3 t : Tables) (seen : t3.trace.nodes ≡ with_value found.0 w t2.trace.nodes) (is-now : w ≡ contents_at found.0 t2 p) (differs : the-match.value ≢ w)
-      (cells : (q : Place) → base_in t3.mods q ≡ base_in t2.mods q) (late : QueuedBehind found.0 t3)
+      (cells : (q : Place) → base_in t3.mods q ≡ base_in t2.mods q) (late : QueuedAfter found.0 t3)
       (dropped : t.trace.nodes ≡ with_steps found.0 0 t3.trace.nodes) (mods : t.mods ≡ t3.mods) (queue : t.stale ≡ t3.stale) (kept : Kept t) where
     nodes-seen : t3.trace.nodes ≡ through now.placed.done (more now.placed.last)
-        ++ entry found.0 (Read p w u x args) the-match.steps ∷ (entries the-match.inside ++ closing the-match.end found.0 the-match.end_steps ∷ (entries the-match.behind ++ now.tail))
+        ++ entry found.0 (Read p w u x args) the-match.steps ∷ (entries the-match.inside ++ end_entry the-match.end found.0 the-match.end_steps ∷ (entries the-match.behind ++ now.tail))
     nodes-seen = seen ∙ (ap (with_value found.0 w) nodes-mid
-        ∙ changed-part (entry found.0 (Read p the-match.value u x args) the-match.steps) (entries the-match.inside ++ closing the-match.end found.0 the-match.end_steps ∷ (entries the-match.behind ++ now.tail))
+        ∙ changed-part (entry found.0 (Read p the-match.value u x args) the-match.steps)
+            (entries the-match.inside ++ end_entry the-match.end found.0 the-match.end_steps ∷ (entries the-match.behind ++ now.tail))
         (value_set w) (through now.placed.done (more now.placed.last)) found-not-front)
 
     nodes-then : t.trace.nodes ≡ through (through now.placed.done (more now.placed.last)) (entry found.0 (Read p w u x args) 0)
-        ++ (entries the-match.inside ++ closing the-match.end found.0 the-match.end_steps ∷ (entries the-match.behind ++ now.tail))
+        ++ (entries the-match.inside ++ end_entry the-match.end found.0 the-match.end_steps ∷ (entries the-match.behind ++ now.tail))
     nodes-then = dropped ∙ (ap (with_steps found.0 0) nodes-seen
-        ∙ (changed-part (entry found.0 (Read p w u x args) the-match.steps) (entries the-match.inside ++ closing the-match.end found.0 the-match.end_steps ∷ (entries the-match.behind ++ now.tail))
+        ∙ (changed-part (entry found.0 (Read p w u x args) the-match.steps) (entries the-match.inside ++ end_entry the-match.end found.0 the-match.end_steps ∷ (entries the-match.behind ++ now.tail))
         (steps_set 0) (through now.placed.done (more now.placed.last)) found-not-front
         ∙ sym (behind-all (through now.placed.done (more now.placed.last)) (entry found.0 (Read p w u x args) 0)
-        (entries the-match.inside ++ closing the-match.end found.0 the-match.end_steps ∷ (entries the-match.behind ++ now.tail)))))
+        (entries the-match.inside ++ end_entry the-match.end found.0 the-match.end_steps ∷ (entries the-match.behind ++ now.tail)))))
 
-    late-then : QueuedBehind found.0 t
+    late-then : QueuedAfter found.0 t
     late-then r i = subst (λ ss. place found.0 ss < place r ss) (sym (ap stamps_in dropped ∙ stamps-changed found.0 (steps_set 0) (λ e. refl) t3.trace.nodes))
         (late r (subst (λ (z : _). is_in r z.stamps ≡ true) queue i))
 
@@ -336,8 +344,8 @@ module _ (code : Code) (inputs : List Block) (start : Start) (st : Stack) (v : V
 
     pub node-then : node_at found.0 t.trace.nodes ≡ Some (Read p w u x args)
     node-then = ap (node_at found.0) (nodes-then ∙ behind-all (through now.placed.done (more now.placed.last)) (entry found.0 (Read p w u x args) 0)
-        (entries the-match.inside ++ closing the-match.end found.0 the-match.end_steps ∷ (entries the-match.behind ++ now.tail)))
-        ∙ ap held_by (entry-part (entry found.0 (Read p w u x args) 0) (entries the-match.inside ++ closing the-match.end found.0 the-match.end_steps ∷ (entries the-match.behind ++ now.tail))
+        (entries the-match.inside ++ end_entry the-match.end found.0 the-match.end_steps ∷ (entries the-match.behind ++ now.tail)))
+        ∙ ap held_by (entry-part (entry found.0 (Read p w u x args) 0) (entries the-match.inside ++ end_entry the-match.end found.0 the-match.end_steps ∷ (entries the-match.behind ++ now.tail))
         (through now.placed.done (more now.placed.last)) found-not-front)
 
     pub end-then : end_in found.0 t.trace.nodes ≡ Some the-match.end
@@ -347,12 +355,13 @@ module _ (code : Code) (inputs : List Block) (start : Start) (st : Stack) (v : V
     -- the read is in front, and its unit runs, with what is inside it left over; after its end is what is left over
     -- then
     pub now-retake : (until : Stamp) → v.limit ≡ Some until
-        → RunningNow code inputs start (resumed code u x args w) (record { tables = t; heap = heap; spent = v.spent + 1; cursor = found.0; limit = Some (stamped the-match.end); frames = Taken below until ∷ v.frames })
+        → RunningNow code inputs start (resumed code u x args w)
+            (record { tables = t; heap = heap; spent = v.spent + 1; cursor = found.0; limit = Some (stamp_of_number the-match.end); frames = Taken below until ∷ v.frames })
     now-retake until limit = record {
       reads = found.0 ∷ now.reads;
       left = the-match.inside;
       waits = Takes below ∷ now.waits;
-      tail = closing the-match.end found.0 the-match.end_steps ∷ (entries the-match.behind ++ now.tail);
+      tail = end_entry the-match.end found.0 the-match.end_steps ∷ (entries the-match.behind ++ now.tail);
       placed = record {
         kept = kept;
         done = through now.placed.done (more now.placed.last);
@@ -360,7 +369,8 @@ module _ (code : Code) (inputs : List Block) (start : Start) (st : Stack) (v : V
         nodes = nodes-then;
         cursor = refl;
         late = late-then;
-        opened = opened-put (through now.placed.done (more now.placed.last)) (now.reads ++ start.reads) (opened-step now.placed.done now.placed.last (Some []) ∙ now.placed.opened) (entry found.0 (Read p w u x args) 0);
+        opened = opened-put (through now.placed.done (more now.placed.last)) (now.reads ++ start.reads) (opened-step now.placed.done now.placed.last (Some []) ∙ now.placed.opened)
+            (entry found.0 (Read p w u x args) 0);
         began = began-put start (through now.placed.done (more now.placed.last)) (entry found.0 (Read p w u x args) 0) (began-step start now.placed.done now.placed.last now.placed.began);
         unfinished = unfinished-none v.frames t1.trace.nodes t.trace.nodes no-end-then placed-stepped.unfinished;
       };
@@ -368,13 +378,17 @@ module _ (code : Code) (inputs : List Block) (start : Start) (st : Stack) (v : V
       bare = λ none. absurd (cc);
       bounds = now.bounds;
       blocks = blocks-steps code inputs heap t3 t (blocks-look code inputs heap t2 t3 found.0 w seen cells blocks-mid) found.0 0 dropped mods;
-      course = course-bare code inputs start v (through now.placed.done now.placed.last) (forest_of (through now.placed.done now.placed.last)) (λ s. running_at s st now.waits (forest_of (entries now.left ++ now.tail))) now.course
-          (record { tables = t; heap = heap; spent = v.spent + 1; cursor = found.0; limit = Some (stamped the-match.end); frames = Taken below until ∷ v.frames })
-          (through (through now.placed.done (more now.placed.last)) (entry found.0 (Read p w u x args) 0)) (forest_of (through (through now.placed.done (more now.placed.last)) (entry found.0 (Read p w u x args) 0)))
-          (λ s. running_at s (resumed code u x args w) (Takes below ∷ now.waits) (forest_of (entries the-match.inside ++ closing the-match.end found.0 the-match.end_steps ∷ (entries the-match.behind ++ now.tail))))
+      course = course-bare code inputs start v (through now.placed.done now.placed.last) (forest_of (through now.placed.done now.placed.last))
+          (λ s. running_at s st now.waits (forest_of (entries now.left ++ now.tail))) now.course
+          (record { tables = t; heap = heap; spent = v.spent + 1; cursor = found.0; limit = Some (stamp_of_number the-match.end); frames = Taken below until ∷ v.frames })
+          (through (through now.placed.done (more now.placed.last)) (entry found.0 (Read p w u x args) 0))
+              (forest_of (through (through now.placed.done (more now.placed.last)) (entry found.0 (Read p w u x args) 0)))
+          (λ s. running_at s (resumed code u x args w) (Takes below ∷ now.waits)
+              (forest_of (entries the-match.inside ++ end_entry the-match.end found.0 the-match.end_steps ∷ (entries the-match.behind ++ now.tail))))
           (item.Step ∷ item.Read p w u x args ∷ []) now.course.store (mid-running w)
           (items-next code inputs start st v now found.0 (Read p w u x args)) (stale-turn w word-now other-word) (running-number w) (bare-running w)
-          (λ q k. same-then t bases-then w 0 q (subst (λ is. KnownBlock (length inputs) (known_after [] is) q.block) (forest-put (through now.placed.done (more now.placed.last)) found.0 (Read p w u x args)) k))
+          (λ q k. same-then t bases-then w 0 q
+              (subst (λ is. KnownBlock (length inputs) (known_after [] is) q.block) (forest-put (through now.placed.done (more now.placed.last)) found.0 (Read p w u x args)) k))
           (given-same start.first start.numbers (start.chosen ++ now.course.made) v.heap heap c.blocks now.course.given);
     }
 
@@ -392,19 +406,21 @@ module _ (code : Code) (inputs : List Block) (start : Start) (st : Stack) (v : V
       ≡ Went (item.Step ∷ item.Read p w u x args ∷ []) (mid-fixing w)
   unfolding turn mid-fixing
   honest-turn w is one names =
-      subst (λ z. same_word z the-match.taken.value ≡ true → turn code names (running_at (state_at code inputs v now.course.store (start.chosen ++ now.course.made)) st now.waits (forest_of (entries now.left ++ now.tail)))
+      subst (λ z. same_word z the-match.taken.value ≡ true
+          → turn code names (running_at (state_at code inputs v now.course.store (start.chosen ++ now.course.made)) st now.waits (forest_of (entries now.left ++ now.tail)))
       ≡ Went (item.Step ∷ item.Read p z u x args ∷ []) (mid-fixing z)) is (λ same. rw (does, takes-left, same) refl) one
 
   bare-fixing : (w : Word) → BareSame (mid-fixing w)
       (fixing_at (record { store = now.course.store; plain = words_of code inputs heap; number = length (start.chosen ++ now.course.made); work = v.spent + 1 })
-      (Takes below ∷ now.waits) (ticks the-match.steps ++ forest_of (entries the-match.inside ++ closing the-match.end found.0 the-match.end_steps ∷ (entries the-match.behind ++ now.tail))))
+      (Takes below ∷ now.waits) (ticks the-match.steps ++ forest_of (entries the-match.inside ++ end_entry the-match.end found.0 the-match.end_steps ∷ (entries the-match.behind ++ now.tail))))
   unfolding mid-fixing
   bare-fixing w = record {
     state = state-then;
     mode = subst (λ l. BareMode (Fixing the-match.taken.inside) (Fixing l))
-        (the-match.inside_is ∙ (ap (stepped the-match.steps) (sym (first-left the-match.inside (Some (stamped the-match.end)) (closing the-match.end found.0 the-match.end_steps ∷ (entries the-match.behind ++ now.tail)) (found.0, the-match.end_steps, entries the-match.behind ++ now.tail, refl)))
-        ∙ sym (first-ticks the-match.steps (forest_of (entries the-match.inside ++ closing the-match.end found.0 the-match.end_steps ∷ (entries the-match.behind ++ now.tail)))))) BareMode.fixes;
-    frames = rw (around-ticks the-match.steps (forest_of (entries the-match.inside ++ closing the-match.end found.0 the-match.end_steps ∷ (entries the-match.behind ++ now.tail)))) frames-mid;
+        (the-match.inside_is ∙ (ap (stepped the-match.steps) (sym (first-left the-match.inside (Some (stamp_of_number the-match.end))
+            (end_entry the-match.end found.0 the-match.end_steps ∷ (entries the-match.behind ++ now.tail)) (found.0, the-match.end_steps, entries the-match.behind ++ now.tail, refl)))
+        ∙ sym (first-ticks the-match.steps (forest_of (entries the-match.inside ++ end_entry the-match.end found.0 the-match.end_steps ∷ (entries the-match.behind ++ now.tail)))))) BareMode.fixes;
+    frames = rw (around-ticks the-match.steps (forest_of (entries the-match.inside ++ end_entry the-match.end found.0 the-match.end_steps ∷ (entries the-match.behind ++ now.tail)))) frames-mid;
   }
 
   fixing-number : (w : Word) → (mid-fixing w).state.number ≡ length (start.chosen ++ now.course.made)
@@ -412,12 +428,12 @@ module _ (code : Code) (inputs : List Block) (start : Start) (st : Stack) (v : V
   fixing-number w = refl
 
   module _ (t : Tables) (seen : t.trace ≡ t2.trace) (is-now : the-match.value ≡ contents_at found.0 t2 p) (cells : (q : Place) → base_in t.mods q ≡ base_in t2.mods q)
-      (late : QueuedBehind found.0 t) (kept : Kept t) where
+      (late : QueuedAfter found.0 t) (kept : Kept t) where
     nodes-same : t.trace.nodes ≡ through (through now.placed.done (more now.placed.last)) (entry found.0 (Read p the-match.value u x args) the-match.steps)
-        ++ (entries the-match.inside ++ closing the-match.end found.0 the-match.end_steps ∷ (entries the-match.behind ++ now.tail))
+        ++ (entries the-match.inside ++ end_entry the-match.end found.0 the-match.end_steps ∷ (entries the-match.behind ++ now.tail))
     nodes-same = ap (λ (l : Timeline). l.nodes) seen ∙ (nodes-mid
         ∙ sym (behind-all (through now.placed.done (more now.placed.last)) (entry found.0 (Read p the-match.value u x args) the-match.steps)
-        (entries the-match.inside ++ closing the-match.end found.0 the-match.end_steps ∷ (entries the-match.behind ++ now.tail))))
+        (entries the-match.inside ++ end_entry the-match.end found.0 the-match.end_steps ∷ (entries the-match.behind ++ now.tail))))
 
     no-end-same : (r : ℕ) → end_in r t1.trace.nodes ≡ None → end_in r t.trace.nodes ≡ None
     no-end-same r e = ap (λ (l : Timeline). end_in r l.nodes) seen ∙ no-end-mid r e
@@ -429,16 +445,18 @@ module _ (code : Code) (inputs : List Block) (start : Start) (st : Stack) (v : V
     same-value = ap (same_word the-match.value) the-match.value_is ∙ word-refl the-match.value
 
     pub end-same : end_in found.0 t.trace.nodes ≡ Some the-match.end
-    end-same = end-is t kept the-match.end found.0 the-match.end_steps (through (through now.placed.done (more now.placed.last)) (entry found.0 (Read p the-match.value u x args) the-match.steps)) (entries the-match.inside)
+    end-same = end-is t kept the-match.end found.0 the-match.end_steps (through (through now.placed.done (more now.placed.last)) (entry found.0 (Read p the-match.value u x args) the-match.steps))
+        (entries the-match.inside)
         (entries the-match.behind ++ now.tail) nodes-same
 
     -- the read is in front with its steps, and what is inside it must be passed, up to its end
     pub now-enter : (until : Stamp) → v.limit ≡ Some until
-        → PassingNow code inputs start (stamped the-match.end) (record { tables = t; heap = heap; spent = v.spent + 1; cursor = found.0; limit = Some (stamped the-match.end); frames = Taken below until ∷ v.frames })
+        → PassingNow code inputs start (stamp_of_number the-match.end)
+            (record { tables = t; heap = heap; spent = v.spent + 1; cursor = found.0; limit = Some (stamp_of_number the-match.end); frames = Taken below until ∷ v.frames })
     now-enter until limit = record {
       reads = found.0 ∷ now.reads;
       waits = Takes below ∷ now.waits;
-      behind = entries the-match.inside ++ closing the-match.end found.0 the-match.end_steps ∷ (entries the-match.behind ++ now.tail);
+      behind = entries the-match.inside ++ end_entry the-match.end found.0 the-match.end_steps ∷ (entries the-match.behind ++ now.tail);
       limit = refl;
       placed = record {
         kept = kept;
@@ -447,17 +465,23 @@ module _ (code : Code) (inputs : List Block) (start : Start) (st : Stack) (v : V
         nodes = nodes-same;
         cursor = refl;
         late = late;
-        opened = opened-put (through now.placed.done (more now.placed.last)) (now.reads ++ start.reads) (opened-step now.placed.done now.placed.last (Some []) ∙ now.placed.opened) (entry found.0 (Read p the-match.value u x args) the-match.steps);
-        began = began-put start (through now.placed.done (more now.placed.last)) (entry found.0 (Read p the-match.value u x args) the-match.steps) (began-step start now.placed.done now.placed.last now.placed.began);
+        opened = opened-put (through now.placed.done (more now.placed.last)) (now.reads ++ start.reads) (opened-step now.placed.done now.placed.last (Some []) ∙ now.placed.opened)
+            (entry found.0 (Read p the-match.value u x args) the-match.steps);
+        began = began-put start (through now.placed.done (more now.placed.last)) (entry found.0 (Read p the-match.value u x args) the-match.steps)
+            (began-step start now.placed.done now.placed.last now.placed.began);
         unfinished = unfinished-none v.frames t1.trace.nodes t.trace.nodes no-end-same placed-stepped.unfinished;
       };
-      passes = Passes.passes below the-match.end found.0 the-match.end_steps the-match.behind (Inside.level the-match.inside) (subst (λ o. Tails start.limit start.beyond o v.frames now.waits now.reads now.tail) limit now.tails);
+      passes = Passes.passes below the-match.end found.0 the-match.end_steps the-match.behind (Inside.level the-match.inside)
+          (subst (λ o. Tails start.limit start.beyond o v.frames now.waits now.reads now.tail) limit now.tails);
       bounds = now.bounds;
       blocks = blocks-as code inputs heap t2 t seen cells blocks-mid;
-      course = course-bare code inputs start v (through now.placed.done now.placed.last) (forest_of (through now.placed.done now.placed.last)) (λ s. running_at s st now.waits (forest_of (entries now.left ++ now.tail))) now.course
-          (record { tables = t; heap = heap; spent = v.spent + 1; cursor = found.0; limit = Some (stamped the-match.end); frames = Taken below until ∷ v.frames })
-          (through (through now.placed.done (more now.placed.last)) (entry found.0 (Read p the-match.value u x args) the-match.steps)) (forest_of (through now.placed.done (more now.placed.last)) ++ item_of (Read p the-match.value u x args))
-          (λ s. fixing_at s (Takes below ∷ now.waits) (ticks the-match.steps ++ forest_of (entries the-match.inside ++ closing the-match.end found.0 the-match.end_steps ∷ (entries the-match.behind ++ now.tail))))
+      course = course-bare code inputs start v (through now.placed.done now.placed.last) (forest_of (through now.placed.done now.placed.last))
+          (λ s. running_at s st now.waits (forest_of (entries now.left ++ now.tail))) now.course
+          (record { tables = t; heap = heap; spent = v.spent + 1; cursor = found.0; limit = Some (stamp_of_number the-match.end); frames = Taken below until ∷ v.frames })
+          (through (through now.placed.done (more now.placed.last)) (entry found.0 (Read p the-match.value u x args) the-match.steps))
+              (forest_of (through now.placed.done (more now.placed.last)) ++ item_of (Read p the-match.value u x args))
+          (λ s. fixing_at s (Takes below ∷ now.waits)
+              (ticks the-match.steps ++ forest_of (entries the-match.inside ++ end_entry the-match.end found.0 the-match.end_steps ∷ (entries the-match.behind ++ now.tail))))
           (item.Step ∷ item.Read p the-match.value u x args ∷ []) now.course.store (mid-fixing the-match.value)
           (items-then the-match.value) (honest-turn the-match.value value-now same-value) (fixing-number the-match.value) (bare-fixing the-match.value)
           (λ q k. same-then t cells the-match.value the-match.steps q k)

@@ -22,7 +22,7 @@ use Rattle.ceal_repair.proofs.Reuse.ReadReuse.{CutDone}
 use Rattle.ceal_repair.proofs.Reuse.AllocReuse.{bound-now, left-is}
 use Rattle.ceal_repair.proofs.Runs.RepairView.{IsStepped, cursor-kept, stepped-view}
 use Rattle.ceal_repair.specs.Blocks.{HasBlocks, KeepsReadable}
-use Rattle.ceal_repair.specs.Entries.{stamped, entries, CutTo, IsUntil, Lies}
+use Rattle.ceal_repair.specs.Entries.{stamp_of_number, entries, CutTo, IsUntil, Lies}
 use Rattle.ceal_repair.specs.Moment.{View, Start, PassingNow, through}
 use Rattle.ceal_repair.specs.Frames.{Frame}
 use Rattle.ceal_mods.specs.Mods.{Contents as Mods}
@@ -53,7 +53,8 @@ module _ (old new : Repair) (h : IsStepped old new) (start : Start) (st : Stack)
   }
 
   pub reads-left : head_of (stamps_where (recalls (record { place = p; unit = u; var = x; args = args })) (entries now.left)) ≡ Some found.0
-  reads-left = subst (λ es. head_of (stamps_where (recalls (record { place = p; unit = u; var = x; args = args })) es) ≡ Some found.0) (left-is (code_of old) (inputs_of old) start st (view old) now) matches
+  reads-left =
+      subst (λ es. head_of (stamps_where (recalls (record { place = p; unit = u; var = x; args = args })) es) ≡ Some found.0) (left-is (code_of old) (inputs_of old) start st (view old) now) matches
 
   pub until-read : IsUntil found.0 now.left now.tail
   until-read = inl (first-starts (recalls (record { place = p; unit = u; var = x; args = args })) (λ r. refl) found.0 now.left reads-left)
@@ -83,14 +84,16 @@ pub none-entered : (r : Repair) (start : Start) (st : Stack) (now : RunsAt start
     → take_read key.place key.unit key.var key.args (first (levels (forest_of (entries now.left ++ now.tail)))) ≡ None
 none-entered r start st now key h =
     ap (take_read key.place key.unit key.var key.args) (first-left now.left (view r).limit now.tail (bound-now (code_of r) (inputs_of r) start st (view r) now))
-    ∙ none-read taking-law key now.left (none-first (stamps_where (recalls key) (entries now.left)) (subst (λ es. head_of (stamps_where (recalls key) es) ≡ None) (left-is (code_of r) (inputs_of r) start st (view r) now) h))
+    ∙ none-read taking-law key now.left
+        (none-first (stamps_where (recalls key) (entries now.left)) (subst (λ es. head_of (stamps_where (recalls key) es) ≡ None) (left-is (code_of r) (inputs_of r) start st (view r) now) h))
   where
     none-first : (xs : List ℕ) → head_of xs ≡ None → xs ≡ []
     none-first [] e = refl
     none-first (x ∷ xs) e = absurd (cc)
 
 -- the view of a read that was entered
-pub entered-view : (old new : Repair) → IsStepped old new → (t : Tables) (heap : Contents) (n s : ℕ) (o o' : Option Stamp) (f : Frame) (fs : List Frame) → n ≡ new.running.now.spent → o ≡ o' → fs ≡ f ∷ (view new).frames
+pub entered-view : (old new : Repair) → IsStepped old new → (t : Tables) (heap : Contents) (n s : ℕ) (o o' : Option Stamp) (f : Frame) (fs : List Frame) → n ≡ new.running.now.spent → o ≡ o'
+    → fs ≡ f ∷ (view new).frames
     → ◌≡◌ {A = View} (record { tables = t; heap = heap; spent = n; cursor = s; limit = o; frames = fs })
     (record { tables = t; heap = heap; spent = (view old).spent + 1; cursor = s; limit = o'; frames = f ∷ (view old).frames })
 entered-view old new h t heap n s o o' f fs e k is =
@@ -105,9 +108,9 @@ passes-as code inputs start until v r now c i w =
     (subst (λ inputs. PassingNow code inputs start until (view r)) (sym i)
     (subst (λ v. PassingNow code inputs start until v) (sym w) now))
 
-pub limit-is : (o : Option Stamp) (e : ℕ) → option_map (λ s. s.0) o ≡ Some e → o ≡ Some (stamped e)
+pub limit-is : (o : Option Stamp) (e : ℕ) → option_map (λ s. s.0) o ≡ Some e → o ≡ Some (stamp_of_number e)
 limit-is None e h = absurd (cc)
-limit-is (Some s) e h = let same : s.0 ≡ e = cc in ap (λ k. Some (stamped k)) same
+limit-is (Some s) e h = let same : s.0 ≡ e = cc in ap (λ k. Some (stamp_of_number k)) same
 
 -- the place that a record of a read names
 pub same-place : (n : Option Node) (p q : Place) (v w : Word) (u : UnitId) (x : ℕ) (args : List Word) → n ≡ Some (Read p v u x args) → Records q w n → q ≡ p

@@ -19,8 +19,8 @@ use Rattle.ceal_repair.proofs.Reuse.ReadReuse.{CutDone, the-match, node-there, n
 use Rattle.ceal_repair.proofs.Reuse.ReadReuseInCode.{reads-left, cut-read, cut-done, read-first, same-place, same-value, bases-cells}
 use Rattle.ceal_repair.proofs.Runs.RepairView.{IsStepped}
 use Rattle.ceal_repair.specs.Blocks.{HasBlocks, KeepsReadable}
-use Rattle.ceal_repair.specs.Entries.{stamped, entries, CutTo, Lies}
-use Rattle.ceal_repair.specs.Kept.{Kept, IsStale, IsHonestRecord, Records, QueuedFrom, QueuedBehind, base_in, contents_at}
+use Rattle.ceal_repair.specs.Entries.{stamp_of_number, entries, CutTo, Lies}
+use Rattle.ceal_repair.specs.Kept.{Kept, IsStale, IsHonestRecord, Records, QueuedFrom, QueuedAfter, base_in, contents_at}
 use Rattle.ceal_repair.specs.Lists.{recalls, stamps_where}
 use Rattle.ceal_repair.specs.Moment.{Start, RunningNow, PassingNow, through}
 use Rattle.ceal_repair.specs.Reads.{key_in}
@@ -51,7 +51,7 @@ pub record IsRenewed (found : ℕ) (before seen after : Tables) : Type 0 where
   pub stale : IsStale found before
   pub value : (p : Place) × (v : Word) × Records p v (node_at found before.trace.nodes) × (seen.trace.nodes ≡ with_value found (contents_at found before p) before.trace.nodes)
   pub cells : seen.mods.cells ≡ before.mods.cells
-  pub late : QueuedBehind found seen
+  pub late : QueuedAfter found seen
   pub nodes : after.trace.nodes ≡ with_steps found 0 seen.trace.nodes
   pub mods : after.mods ≡ seen.mods
   pub queue : after.stale ≡ seen.stale
@@ -62,14 +62,16 @@ pub record IsHonestHere (found : ℕ) (before seen : Tables) : Type 0 where
   pub honest : IsHonestRecord found before
   pub same : seen.trace ≡ before.trace
   pub cells : seen.mods.cells ≡ before.mods.cells
-  pub late : QueuedBehind found seen
+  pub late : QueuedAfter found seen
   pub kept : Kept seen
 
-module _ (old new : Repair) (closure : Closure) (found : Stamp) (run : Running) (below : Stack) (cut : IsCut old new closure found run below) (start : Start) (a : Acts start (does.Reads closure) old) where
+module _ (old new : Repair) (closure : Closure) (found : Stamp) (run : Running) (below : Stack) (cut : IsCut old new closure found run below) (start : Start)
+    (a : Acts start (does.Reads closure) old) where
   abbrev pub lies : (rest : Grove) × CutTo found.0 a.now.left rest × Lies old.cursor.0 (through a.now.placed.done (more a.now.placed.last)) rest a.now.tail run.tables
   lies = cut-read old new cut.stepped start a.stack a.now closure.place closure.unit closure.var closure.args found cut.matches run.tables cut.kept cut.there
 
-  pub done : CutDone (code_of old) (inputs_of old) old.cursor.0 found.0 (through a.now.placed.done (more a.now.placed.last)) a.now.left lies.0 a.now.tail old.running.now.heap run.heap new.running.now.tables run.tables
+  pub done : CutDone (code_of old) (inputs_of old) old.cursor.0 found.0
+      (through a.now.placed.done (more a.now.placed.last)) a.now.left lies.0 a.now.tail old.running.now.heap run.heap new.running.now.tables run.tables
   done = cut-done old new cut.stepped start a.stack a.now closure.place closure.unit closure.var closure.args found cut.matches run.tables cut.kept cut.there run.heap cut.bases cut.blocks cut.has
 
   pub reads : next (code_of old) (words_of (code_of old) (inputs_of old) old.running.now.heap) a.stack ≡ Reads closure.place closure.unit closure.var closure.args below
@@ -80,10 +82,12 @@ module _ (old new : Repair) (closure : Closure) (found : Stamp) (run : Running) 
 
   -- the read, as it was found
   abbrev pub taken : MatchRead closure.place closure.unit closure.var closure.args found.0 a.now.left lies.0
-  taken = the-match (code_of old) (inputs_of old) start a.stack (view old) a.now closure.place closure.unit closure.var closure.args below found run.heap new.running.now.tables run.tables lies.0 reads cut.stepped.more done left
+  taken = the-match (code_of old) (inputs_of old) start a.stack
+      (view old) a.now closure.place closure.unit closure.var closure.args below found run.heap new.running.now.tables run.tables lies.0 reads cut.stepped.more done left
 
   pub is-there : node_at found.0 run.tables.trace.nodes ≡ Some (Read closure.place taken.value closure.unit closure.var closure.args)
-  is-there = node-there (code_of old) (inputs_of old) start a.stack (view old) a.now closure.place closure.unit closure.var closure.args below found run.heap new.running.now.tables run.tables lies.0 reads cut.stepped.more done left
+  is-there = node-there (code_of old) (inputs_of old) start a.stack
+      (view old) a.now closure.place closure.unit closure.var closure.args below found run.heap new.running.now.tables run.tables lies.0 reads cut.stepped.more done left
 
   pub comes-first : QueuedFrom found.0 run.tables
   comes-first = read-first old new cut.stepped start a.stack a.now closure.place closure.unit closure.var closure.args found cut.matches run.tables cut.kept cut.there
@@ -105,17 +109,20 @@ module _ (old new : Repair) (closure : Closure) (found : Stamp) (run : Running) 
         s.differs (value ∙ (e ∙ ap (λ o. contents_at found.0 run.tables o) (sym place)))
 
     pub records-now : node_at found.0 t.trace.nodes ≡ Some (Read closure.place word closure.unit closure.var closure.args)
-    records-now = node-then (code_of old) (inputs_of old) start a.stack (view old) a.now closure.place closure.unit closure.var closure.args below found run.heap new.running.now.tables run.tables lies.0 reads cut.stepped.more done left
+    records-now = node-then (code_of old) (inputs_of old) start a.stack
+        (view old) a.now closure.place closure.unit closure.var closure.args below found run.heap new.running.now.tables run.tables lies.0 reads cut.stepped.more done left
         word seen t valued refl differs (bases-cells seen.mods run.tables.mods renewed.cells) renewed.late renewed.nodes renewed.mods renewed.queue renewed.kept
 
     pub end-renewed : end_in found.0 t.trace.nodes ≡ Some taken.end
-    end-renewed = end-then (code_of old) (inputs_of old) start a.stack (view old) a.now closure.place closure.unit closure.var closure.args below found run.heap new.running.now.tables run.tables lies.0 reads cut.stepped.more done left
+    end-renewed = end-then (code_of old) (inputs_of old) start a.stack
+        (view old) a.now closure.place closure.unit closure.var closure.args below found run.heap new.running.now.tables run.tables lies.0 reads cut.stepped.more done left
         word seen t valued refl differs (bases-cells seen.mods run.tables.mods renewed.cells) renewed.late renewed.nodes renewed.mods renewed.queue renewed.kept
 
     pub retakes : (until : Stamp) → old.limit ≡ Some until
         → RunningNow (code_of old) (inputs_of old) start (resumed (code_of old) closure.unit closure.var closure.args word)
-        (record { tables = t; heap = run.heap; spent = (view old).spent + 1; cursor = found.0; limit = Some (stamped taken.end); frames = Taken below until ∷ (view old).frames })
-    retakes = now-retake (code_of old) (inputs_of old) start a.stack (view old) a.now closure.place closure.unit closure.var closure.args below found run.heap new.running.now.tables run.tables lies.0 reads cut.stepped.more done left
+        (record { tables = t; heap = run.heap; spent = (view old).spent + 1; cursor = found.0; limit = Some (stamp_of_number taken.end); frames = Taken below until ∷ (view old).frames })
+    retakes = now-retake (code_of old) (inputs_of old) start a.stack
+        (view old) a.now closure.place closure.unit closure.var closure.args below found run.heap new.running.now.tables run.tables lies.0 reads cut.stepped.more done left
         word seen t valued refl differs (bases-cells seen.mods run.tables.mods renewed.cells) renewed.late renewed.nodes renewed.mods renewed.queue renewed.kept
 
   module _ (seen : Tables) (h : IsHonestHere found.0 run.tables seen) where
@@ -123,11 +130,13 @@ module _ (old new : Repair) (closure : Closure) (found : Stamp) (run : Running) 
     right = h.honest closure.place taken.value (record { unit = closure.unit; var = closure.var; args = closure.args; is = is-there })
 
     pub end-honest : end_in found.0 seen.trace.nodes ≡ Some taken.end
-    end-honest = end-same (code_of old) (inputs_of old) start a.stack (view old) a.now closure.place closure.unit closure.var closure.args below found run.heap new.running.now.tables run.tables lies.0 reads cut.stepped.more done left
+    end-honest = end-same (code_of old) (inputs_of old) start a.stack
+        (view old) a.now closure.place closure.unit closure.var closure.args below found run.heap new.running.now.tables run.tables lies.0 reads cut.stepped.more done left
         seen h.same right (bases-cells seen.mods run.tables.mods h.cells) h.late h.kept
 
     pub enters : (until : Stamp) → old.limit ≡ Some until
-        → PassingNow (code_of old) (inputs_of old) start (stamped taken.end)
-        (record { tables = seen; heap = run.heap; spent = (view old).spent + 1; cursor = found.0; limit = Some (stamped taken.end); frames = Taken below until ∷ (view old).frames })
-    enters = now-enter (code_of old) (inputs_of old) start a.stack (view old) a.now closure.place closure.unit closure.var closure.args below found run.heap new.running.now.tables run.tables lies.0 reads cut.stepped.more done left
+        → PassingNow (code_of old) (inputs_of old) start (stamp_of_number taken.end)
+        (record { tables = seen; heap = run.heap; spent = (view old).spent + 1; cursor = found.0; limit = Some (stamp_of_number taken.end); frames = Taken below until ∷ (view old).frames })
+    enters = now-enter (code_of old) (inputs_of old) start a.stack
+        (view old) a.now closure.place closure.unit closure.var closure.args below found run.heap new.running.now.tables run.tables lies.0 reads cut.stepped.more done left
         seen h.same right (bases-cells seen.mods run.tables.mods h.cells) h.late h.kept

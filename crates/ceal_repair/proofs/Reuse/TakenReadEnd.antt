@@ -24,11 +24,11 @@ use Rattle.ceal_repair.proofs.Reuse.ReadReuse.{levels-behind, first-ticks, aroun
 use Rattle.ceal_repair.proofs.Reuse.AllocReuse.{words-same, course-bare}
 use Rattle.ceal_repair.specs.Around.{Tails}
 use Rattle.ceal_repair.specs.Blocks.{HasBlocks, KeepsReadable}
-use Rattle.ceal_repair.specs.Entries.{stamped, entry, closing, entries, first_in, Lies}
+use Rattle.ceal_repair.specs.Entries.{stamp_of_number, entry, end_entry, entries, first_in, Lies}
 use Rattle.ceal_repair.specs.Moment.{View, Start, RunningNow, through, state_at}
 use Rattle.ceal_repair.specs.Words.{words_of}
 use Rattle.ceal_repair.specs.Frames.{Frame, Taken}
-use Rattle.ceal_repair.specs.Kept.{Kept, QueuedBehind, base_in}
+use Rattle.ceal_repair.specs.Kept.{Kept, QueuedAfter, base_in}
 use Rattle.ceal_repair.specs.declared.tables.Tables.{Tables}
 use Rattle.ceal_theory.proofs.Reuse.StepsBetween.{frames-self}
 use Rattle.ceal_theory.proofs.Reuse.TakenAfterRevocation.{bare-stepped}
@@ -45,7 +45,8 @@ use Rattle.ceal_trace.specs.Nodes.{Entry, stamps_in, has_node, position, node_at
 use Rattle.ceal_trace.specs.declared.node.Node.TheVariants.{End}
 
 -- what the frame of a taken read says of what waits
-pub record WaitsTaken (limit : Option Stamp) (beyond : List Entry) (now : Option Stamp) (below : Stack) (until : Stamp) (fs : List Frame) (ws : List Wait) (rs : List ℕ) (tail : List Entry) : Type 0 where
+pub record WaitsTaken (limit : Option Stamp) (beyond : List Entry) (now : Option Stamp) (below : Stack) (until : Stamp) (fs : List Frame) (ws : List Wait) (rs : List ℕ)
+    (tail : List Entry) : Type 0 where
   pub end : ℕ
   pub read : ℕ
   pub steps : ℕ
@@ -53,10 +54,10 @@ pub record WaitsTaken (limit : Option Stamp) (beyond : List Entry) (now : Option
   pub waits : List Wait
   pub reads : List ℕ
   pub rest : List Entry
-  pub now_is : now ≡ Some (stamped end)
+  pub now_is : now ≡ Some (stamp_of_number end)
   pub waits_are : ws ≡ Takes below ∷ waits
   pub reads_are : rs ≡ read ∷ reads
-  pub tail_is : tail ≡ closing end read steps ∷ (entries behind ++ rest)
+  pub tail_is : tail ≡ end_entry end read steps ∷ (entries behind ++ rest)
   pub tails : Tails limit beyond (Some until) fs waits reads rest
 
 abbrev pub ComesTaken : Option Stamp → List Entry → Option Stamp → List Frame → List Wait → List ℕ → List Entry → Type 0
@@ -89,47 +90,47 @@ module _ (code : Code) (inputs : List Block) (start : Start) (st : Stack) (w : V
 
   pub end-there : (t1 : Tables) → Kept t1 → Lies w.cursor (through now.placed.done now.placed.last) Bare now.tail t1 → has_node next-taken.end t1.trace.nodes ≡ true
   end-there t1 kept1 l =
-      let mid : t1.trace.nodes ≡ through now.placed.done now.placed.last ++ closing next-taken.end next-taken.read next-taken.steps ∷ (entries next-taken.behind ++ next-taken.rest) =
+      let mid : t1.trace.nodes ≡ through now.placed.done now.placed.last ++ end_entry next-taken.end next-taken.read next-taken.steps ∷ (entries next-taken.behind ++ next-taken.rest) =
       l.nodes ∙ ap (λ es. through now.placed.done now.placed.last ++ es) next-taken.tail_is in
       let none : has_node next-taken.end (through now.placed.done now.placed.last) ≡ false =
-      not_before (through now.placed.done now.placed.last) (closing next-taken.end next-taken.read next-taken.steps) (entries next-taken.behind ++ next-taken.rest)
+      not_before (through now.placed.done now.placed.last) (end_entry next-taken.end next-taken.read next-taken.steps) (entries next-taken.behind ++ next-taken.rest)
       (subst (λ es. order.Distinct (stamps_in es)) mid kept1.step.whole.order.distinct) in
-      has-held next-taken.end (End (stamped next-taken.read)) t1.trace.nodes (ap (node_at next-taken.end) mid
-      ∙ ap held_by (entry-part (closing next-taken.end next-taken.read next-taken.steps) (entries next-taken.behind ++ next-taken.rest) (through now.placed.done now.placed.last) none))
+      has-held next-taken.end (End (stamp_of_number next-taken.read)) t1.trace.nodes (ap (node_at next-taken.end) mid
+      ∙ ap held_by (entry-part (end_entry next-taken.end next-taken.read next-taken.steps) (entries next-taken.behind ++ next-taken.rest) (through now.placed.done now.placed.last) none))
 
   module _ (t1 t : Tables) (heap : Contents) (over : next code (words_of code inputs w.heap) st ≡ Over)
       (l : Lies w.cursor (through now.placed.done now.placed.last) Bare now.tail t1) (bases : (p : Place) → base_in t1.mods p ≡ base_in w.tables.mods p)
       (blocks : KeepsReadable w.heap heap) (has : HasBlocks code inputs w.heap w.tables → HasBlocks code inputs heap t1) (kept1 : Kept t1)
       (dropped : t.trace.nodes ≡ with_steps next-taken.end 0 t1.trace.nodes) (mods : t.mods ≡ t1.mods) (queue : t.stale ≡ t1.stale) (kept : Kept t) where
-    nodes-mid : t1.trace.nodes ≡ through now.placed.done now.placed.last ++ closing next-taken.end next-taken.read next-taken.steps ∷ (entries next-taken.behind ++ next-taken.rest)
+    nodes-mid : t1.trace.nodes ≡ through now.placed.done now.placed.last ++ end_entry next-taken.end next-taken.read next-taken.steps ∷ (entries next-taken.behind ++ next-taken.rest)
     nodes-mid = l.nodes ∙ ap (λ es. through now.placed.done now.placed.last ++ es) next-taken.tail_is
 
     not-front : has_node next-taken.end (through now.placed.done now.placed.last) ≡ false
-    not-front = not_before (through now.placed.done now.placed.last) (closing next-taken.end next-taken.read next-taken.steps) (entries next-taken.behind ++ next-taken.rest)
+    not-front = not_before (through now.placed.done now.placed.last) (end_entry next-taken.end next-taken.read next-taken.steps) (entries next-taken.behind ++ next-taken.rest)
         (subst (λ es. order.Distinct (stamps_in es)) nodes-mid kept1.step.whole.order.distinct)
 
-    nodes-then : t.trace.nodes ≡ through (through now.placed.done now.placed.last) (entry next-taken.end (End (stamped next-taken.read)) 0) ++ (entries next-taken.behind ++ next-taken.rest)
+    nodes-then : t.trace.nodes ≡ through (through now.placed.done now.placed.last) (entry next-taken.end (End (stamp_of_number next-taken.read)) 0) ++ (entries next-taken.behind ++ next-taken.rest)
     nodes-then = dropped ∙ (ap (with_steps next-taken.end 0) nodes-mid
-        ∙ (changed-part (closing next-taken.end next-taken.read next-taken.steps) (entries next-taken.behind ++ next-taken.rest) (steps_set 0) (through now.placed.done now.placed.last) not-front
-        ∙ sym (behind-all (through now.placed.done now.placed.last) (entry next-taken.end (End (stamped next-taken.read)) 0) (entries next-taken.behind ++ next-taken.rest))))
+        ∙ (changed-part (end_entry next-taken.end next-taken.read next-taken.steps) (entries next-taken.behind ++ next-taken.rest) (steps_set 0) (through now.placed.done now.placed.last) not-front
+        ∙ sym (behind-all (through now.placed.done now.placed.last) (entry next-taken.end (End (stamp_of_number next-taken.read)) 0) (entries next-taken.behind ++ next-taken.rest))))
 
-    node-there : node_at next-taken.end t1.trace.nodes ≡ Some (End (stamped next-taken.read))
+    node-there : node_at next-taken.end t1.trace.nodes ≡ Some (End (stamp_of_number next-taken.read))
     node-there = ap (node_at next-taken.end) nodes-mid
-        ∙ ap held_by (entry-part (closing next-taken.end next-taken.read next-taken.steps) (entries next-taken.behind ++ next-taken.rest) (through now.placed.done now.placed.last) not-front)
+        ∙ ap held_by (entry-part (end_entry next-taken.end next-taken.read next-taken.steps) (entries next-taken.behind ++ next-taken.rest) (through now.placed.done now.placed.last) not-front)
 
     -- nothing is queued up to the end
-    late-then : QueuedBehind next-taken.end t
+    late-then : QueuedAfter next-taken.end t
     late-then r i =
         let q : is_in r t1.stale.stamps ≡ true = subst (λ (z : _). is_in r z.stamps ≡ true) queue i in
         let reads : is_read (node_at r t1.trace.nodes) ≡ true = kept1.step.queued r q in
         let there : has_node r t1.trace.nodes ≡ true = has-read r t1.trace.nodes reads in
-        let own : has_node next-taken.end t1.trace.nodes ≡ true = has-held next-taken.end (End (stamped next-taken.read)) t1.trace.nodes node-there in
+        let own : has_node next-taken.end t1.trace.nodes ≡ true = has-held next-taken.end (End (stamp_of_number next-taken.read)) t1.trace.nodes node-there in
         let other : position r t1.trace.nodes ≢ position next-taken.end t1.trace.nodes = λ e.
         let same : r ≡ next-taken.end = place_tells r next-taken.end (stamps_in t1.trace.nodes) there own e in
-        absurd (let bad : is_read (Some (End (stamped next-taken.read))) ≡ true = subst (λ o. is_read o ≡ true) (ap (λ z. node_at z t1.trace.nodes) same ∙ node-there) reads in cc) in
+        absurd (let bad : is_read (Some (End (stamp_of_number next-taken.read))) ≡ true = subst (λ o. is_read o ≡ true) (ap (λ z. node_at z t1.trace.nodes) same ∙ node-there) reads in cc) in
         let first : position next-taken.end t1.trace.nodes ≡ length (through now.placed.done now.placed.last) =
         ap (position next-taken.end) nodes-mid
-        ∙ position-part (closing next-taken.end next-taken.read next-taken.steps) (entries next-taken.behind ++ next-taken.rest) (through now.placed.done now.placed.last) not-front in
+        ∙ position-part (end_entry next-taken.end next-taken.read next-taken.steps) (entries next-taken.behind ++ next-taken.rest) (through now.placed.done now.placed.last) not-front in
         let less : position next-taken.end t1.trace.nodes < position r t1.trace.nodes = omega (
           arith,
           first,
@@ -156,19 +157,23 @@ module _ (code : Code) (inputs : List Block) (start : Start) (st : Stack) (w : V
 
     mid-machine : Machine
     mid-machine = record {
-      state = state_at code inputs (record { tables = w.tables; heap = w.heap; spent = w.spent; cursor = w.cursor; limit = w.limit; frames = Taken below until ∷ w.frames }) now.course.store (start.chosen ++ now.course.made);
+      state = state_at code inputs (record { tables = w.tables; heap = w.heap; spent = w.spent; cursor = w.cursor; limit = w.limit; frames = Taken below until ∷ w.frames }) now.course.store
+          (start.chosen ++ now.course.made);
       mode = Running below (first (around (levels (forest_of (entries now.left ++ now.tail)))));
       frames = frames_at next-taken.waits (around (around (levels (forest_of (entries now.left ++ now.tail)))));
     }
 
     left-turn : (names : ℕ → ℕ)
-        → turn code names (running_at (state_at code inputs (record { tables = w.tables; heap = w.heap; spent = w.spent; cursor = w.cursor; limit = w.limit; frames = Taken below until ∷ w.frames }) now.course.store (start.chosen ++ now.course.made)) st now.waits (forest_of (entries now.left ++ now.tail)))
+        → turn code names (running_at (state_at code inputs (record { tables = w.tables; heap = w.heap; spent = w.spent; cursor = w.cursor; limit = w.limit; frames =
+            Taken below until ∷ w.frames }) now.course.store (start.chosen ++ now.course.made)) st now.waits (forest_of (entries now.left ++ now.tail)))
         ≡ Went (item.End ∷ []) mid-machine
     unfolding mid-machine
-    left-turn names = leave-turn code names (state_at code inputs (record { tables = w.tables; heap = w.heap; spent = w.spent; cursor = w.cursor; limit = w.limit; frames = Taken below until ∷ w.frames }) now.course.store (start.chosen ++ now.course.made))
+    left-turn names = leave-turn code names (state_at code inputs
+        (record { tables = w.tables; heap = w.heap; spent = w.spent; cursor = w.cursor; limit = w.limit; frames = Taken below until ∷ w.frames }) now.course.store (start.chosen ++ now.course.made))
         st below now.waits next-taken.waits (forest_of (entries now.left ++ now.tail)) next-taken.waits_are over
 
-    state-then : state_at code inputs (record { tables = w.tables; heap = w.heap; spent = w.spent; cursor = w.cursor; limit = w.limit; frames = Taken below until ∷ w.frames }) now.course.store (start.chosen ++ now.course.made)
+    state-then : state_at code inputs (record { tables = w.tables; heap = w.heap; spent = w.spent; cursor = w.cursor; limit = w.limit; frames = Taken below until ∷ w.frames }) now.course.store
+        (start.chosen ++ now.course.made)
         ≡ record { store = now.course.store; plain = words_of code inputs heap; number = length (start.chosen ++ now.course.made); work = w.spent }
     state-then = ap (λ (y : Plain). record { store = now.course.store; plain = y; number = length (start.chosen ++ now.course.made); work = w.spent }) (sym (words-same code inputs w.heap heap blocks))
 
@@ -189,10 +194,12 @@ module _ (code : Code) (inputs : List Block) (start : Start) (st : Stack) (w : V
     unfolding mid-machine
     mid-number = refl
 
-    known-before : (q : Place) → KnownBlock (length inputs) (known_after [] (forest_of (through (through now.placed.done now.placed.last) (entry next-taken.end (End (stamped next-taken.read)) 0)))) q.block
+    known-before : (q : Place)
+        → KnownBlock (length inputs) (known_after [] (forest_of (through (through now.placed.done now.placed.last) (entry next-taken.end (End (stamp_of_number next-taken.read)) 0)))) q.block
         → KnownBlock (length inputs) (known_after [] (forest_of (through now.placed.done now.placed.last))) q.block
     known-before q c = subst (λ bs. KnownBlock (length inputs) bs q.block)
-        (ap (known_after []) (forest-put (through now.placed.done now.placed.last) next-taken.end (End (stamped next-taken.read))) ∙ known-append [] (forest_of (through now.placed.done now.placed.last)) (item.End ∷ [])) c
+        (ap (known_after []) (forest-put (through now.placed.done now.placed.last) next-taken.end (End (stamp_of_number next-taken.read)))
+        ∙ known-append [] (forest_of (through now.placed.done now.placed.last)) (item.End ∷ [])) c
 
     -- what is left over inside the read is revoked, its end is in front, and the units below run with what is after it
     pub now-leave : RunningNow code inputs start below (record { tables = t; heap = heap; spent = w.spent; cursor = next-taken.end; limit = Some until; frames = w.frames })
@@ -204,29 +211,31 @@ module _ (code : Code) (inputs : List Block) (start : Start) (st : Stack) (w : V
       placed = record {
         kept = kept;
         done = through now.placed.done now.placed.last;
-        last = entry next-taken.end (End (stamped next-taken.read)) 0;
+        last = entry next-taken.end (End (stamp_of_number next-taken.read)) 0;
         nodes = nodes-then;
         cursor = refl;
         late = late-then;
-        opened = opened-put (through now.placed.done now.placed.last) (now.reads ++ start.reads) now.placed.opened (entry next-taken.end (End (stamped next-taken.read)) 0)
-            ∙ subst (λ rs. unclosed (unclosed_after next-taken.end (End (stamped next-taken.read)) (rs ++ start.reads)) [] ≡ Some (next-taken.reads ++ start.reads)) (sym next-taken.reads_are)
-            (closed-last (stamped next-taken.read) (next-taken.reads ++ start.reads) next-taken.end);
-        began = began-put start (through now.placed.done now.placed.last) (entry next-taken.end (End (stamped next-taken.read)) 0) now.placed.began;
+        opened = opened-put (through now.placed.done now.placed.last) (now.reads ++ start.reads) now.placed.opened (entry next-taken.end (End (stamp_of_number next-taken.read)) 0)
+            ∙ subst (λ rs. unclosed (unclosed_after next-taken.end (End (stamp_of_number next-taken.read)) (rs ++ start.reads)) [] ≡ Some (next-taken.reads ++ start.reads)) (sym next-taken.reads_are)
+            (closed-last (stamp_of_number next-taken.read) (next-taken.reads ++ start.reads) next-taken.end);
+        began = began-put start (through now.placed.done now.placed.last) (entry next-taken.end (End (stamp_of_number next-taken.read)) 0) now.placed.began;
         unfinished = unfinished-none w.frames w.tables.trace.nodes t.trace.nodes no-end-then now.placed.unfinished;
       };
       tails = next-taken.tails;
       bare = λ none. absurd (cc);
       bounds = now.bounds;
       blocks = blocks-steps code inputs heap t1 t (has now.blocks) next-taken.end 0 dropped mods;
-      course = course-bare code inputs start (record { tables = w.tables; heap = w.heap; spent = w.spent; cursor = w.cursor; limit = w.limit; frames = Taken below until ∷ w.frames }) (through now.placed.done now.placed.last) (forest_of (through now.placed.done now.placed.last))
+      course = course-bare code inputs start (record { tables = w.tables; heap = w.heap; spent = w.spent; cursor = w.cursor; limit = w.limit; frames = Taken below until ∷ w.frames })
+          (through now.placed.done now.placed.last) (forest_of (through now.placed.done now.placed.last))
           (λ s. running_at s st now.waits (forest_of (entries now.left ++ now.tail))) now.course
           (record { tables = t; heap = heap; spent = w.spent; cursor = next-taken.end; limit = Some until; frames = w.frames })
-          (through (through now.placed.done now.placed.last) (entry next-taken.end (End (stamped next-taken.read)) 0)) (forest_of (through (through now.placed.done now.placed.last) (entry next-taken.end (End (stamped next-taken.read)) 0)))
+          (through (through now.placed.done now.placed.last) (entry next-taken.end (End (stamp_of_number next-taken.read)) 0))
+              (forest_of (through (through now.placed.done now.placed.last) (entry next-taken.end (End (stamp_of_number next-taken.read)) 0)))
           (λ s. running_at s below next-taken.waits (forest_of (entries next-taken.behind ++ next-taken.rest)))
-          (item.End ∷ []) now.course.store mid-machine (forest-put (through now.placed.done now.placed.last) next-taken.end (End (stamped next-taken.read)))
+          (item.End ∷ []) now.course.store mid-machine (forest-put (through now.placed.done now.placed.last) next-taken.end (End (stamp_of_number next-taken.read)))
           left-turn mid-number bare-then
           (λ q c. now.course.same q (known-before q c)
           ∙ (contents-base (base_in w.tables.mods) (base_in t.mods) q (sym (bases-then q)) (through now.placed.done now.placed.last)
-          ∙ sym (ap (λ (f : Store). f q) (contents-put (base_in t.mods) (through now.placed.done now.placed.last) next-taken.end (End (stamped next-taken.read))))))
+          ∙ sym (ap (λ (f : Store). f q) (contents-put (base_in t.mods) (through now.placed.done now.placed.last) next-taken.end (End (stamp_of_number next-taken.read))))))
           (given-same start.first start.numbers (start.chosen ++ now.course.made) w.heap heap blocks now.course.given);
     }

@@ -19,7 +19,7 @@ use Rattle.ceal_code.specs.Value.{Plain}
 use Rattle.ceal_heap.specs.Heap.{Contents, Known, Standing, Unused, Live, Revoked, Released, IsLive, ReleasesRevoked, known, plain_block, released, standing, plain_of as heap_words}
 use Rattle.ceal_repair.proofs.Nodes.NodeItems.{allocs-append}
 use Rattle.ceal_repair.specs.Blocks.{There, HasBlocks}
-use Rattle.ceal_repair.specs.Words.{words_of, default_of}
+use Rattle.ceal_repair.specs.Words.{words_of, default_by_standing}
 use Rattle.ceal_repair.specs.declared.tables.Tables.{Tables}
 use Rattle.ceal_repair.specs.Kept.{Records}
 use Rattle.ceal_theory.specs.Known.{KnownItems}
@@ -109,12 +109,14 @@ module _ (code : Code) where
   plain-out Nothing x b out e = e
   plain-out (Stepped rest) x b out e = plain-out rest x b out e
   plain-out (Allocated (Core c) key rest) x b out e =
-      plain-out rest (learnt x (Core c) (made code x key)) b (λ i. out (there i)) (learnt-away x (Core c) (made code x key) b (λ k. let same : b ≡ c = cc in out (subst (λ d. In b (d ∷ allocs (flat rest))) same here)) e)
+      plain-out rest (learnt x (Core c) (made code x key)) b (λ i. out (there i))
+          (learnt-away x (Core c) (made code x key) b (λ k. let same : b ≡ c = cc in out (subst (λ d. In b (d ∷ allocs (flat rest))) same here)) e)
   plain-out (Allocated (Input c) key rest) x b out e = plain-out rest (learnt x (Input c) (made code x key)) b out (learnt-away x (Input c) (made code x key) b (λ k. let clash = k in cc) e)
   plain-out (Wrote p value rest) x b out e = plain-out rest x b out e
   plain-out (WasRead p value u v args inside rest) x b out e =
       let all : ¬ In b (allocs (flat inside) ++ allocs (flat rest)) = λ i. out (subst (λ bs. In b bs) (sym (allocs-append (flat inside) (item.End ∷ flat rest))) i) in
-      plain-out rest (plain_after code x inside) b (λ i. all (in-back b (allocs (flat inside)) (allocs (flat rest)) i)) (plain-out inside x b (λ i. all (in-front b (allocs (flat inside)) (allocs (flat rest)) i)) e)
+      plain-out rest (plain_after code x inside) b (λ i. all (in-back b (allocs (flat inside)) (allocs (flat rest)) i))
+          (plain-out inside x b (λ i. all (in-front b (allocs (flat inside)) (allocs (flat rest)) i)) e)
 
 -- ---- the place of a read is that of an input, or of a block that the items allocate
 
@@ -155,12 +157,14 @@ module _ (n : ℕ) (p : Place) (v : Word) where
   known-node (Alloc (Input i) key) is bs cs k h = absurd (elim k [ ])
   known-node (Write q w) is bs cs k (inl r) = absurd (let clash = r.is in cc)
   known-node (Write q w) is bs cs (KnownItems.write a b k) (inr h) = h bs k
-  known-node (Read q w u x args) is bs cs (KnownItems.read a b c k) (inl r) = let clash = r.is in let same : q ≡ p = cc in subst (λ (o : Place). Among n bs (allocs is) o.block) same (among-known n bs (allocs is) q.block a)
+  known-node (Read q w u x args) is bs cs (KnownItems.read a b c k) (inl r) = let clash = r.is in let same : q ≡ p =
+      cc in subst (λ (o : Place). Among n bs (allocs is) o.block) same (among-known n bs (allocs is) q.block a)
   known-node (Read q w u x args) is bs cs (KnownItems.read a b c k) (inr h) = h bs k
   known-node (End r) is bs cs k (inl d) = absurd (let clash = d.is in cc)
   known-node (End r) is bs cs (KnownItems.close k) (inr h) = h bs k
 
-  read-or-later : (s : ℕ) (e : Entry) (es : List Entry) (cs : List ℕ) → Records p v (node_at s (e ∷ es)) → (Records p v (node_at s es) → Later cs (forest_of es)) → Records p v (Some e.node) ⊎ Later cs (ticks e.steps ++ forest_of es)
+  read-or-later : (s : ℕ) (e : Entry) (es : List Entry) (cs : List ℕ) → Records p v (node_at s (e ∷ es)) → (Records p v (node_at s es) → Later cs (forest_of es))
+      → Records p v (Some e.node) ⊎ Later cs (ticks e.steps ++ forest_of es)
   read-or-later s e es cs r later = go (e.stamp == s) r
     where
       go : (b : Bool) → Records p v (held_by (if b then Some e else entry_at s es)) → Records p v (Some e.node) ⊎ Later cs (ticks e.steps ++ forest_of es)
@@ -188,14 +192,15 @@ released-none (Live b) block e = cc
 released-none (Revoked b) block e = cc
 released-none (Released shape) block e = cc
 
-default-released : (structs : List StructInfo) (st : Standing) (field : ℕ) → default_of structs (released st) field ≡ default_of structs st field
+default-released : (structs : List StructInfo) (st : Standing) (field : ℕ) → default_by_standing structs (released st) field ≡ default_by_standing structs st field
 default-released structs Unused field = refl
 default-released structs (Live b) field = refl
 default-released structs (Revoked b) field = refl
 default-released structs (Released shape) field = refl
 
 -- A run whose nodes have the items of a trace of these inputs; the revoked blocks of its heap are taken away.
-module _ (code : Code) (inputs : List Block) (l : Trace) (t : Tables) (heap after : Contents) (has : HasBlocks code inputs heap t) (items : forest_of t.trace.nodes ≡ flat l) (rel : ReleasesRevoked heap after) where
+module _ (code : Code) (inputs : List Block) (l : Trace) (t : Tables) (heap after : Contents) (has : HasBlocks code inputs heap t) (items : forest_of t.trace.nodes ≡ flat l)
+    (rel : ReleasesRevoked heap after) where
   lives-in : (b : ℕ) → IsLive heap (Core b) → In b (allocs (flat l))
   lives-in b i = subst (λ is. In b (allocs is)) items ((has.lives.live b).0 i)
 
@@ -240,7 +245,7 @@ module _ (code : Code) (inputs : List Block) (l : Trace) (t : Tables) (heap afte
   pub blocks-released : KnownItems (length inputs) [] (flat l) (known_after [] (flat l)) → HasBlocks code inputs after t
   blocks-released mentions = record {
     bases = record {
-      of_cores = λ b field. has.bases.of_cores b field ∙ (sym (default-released code.structs (standing heap (Core b)) field) ∙ ap (λ s. default_of code.structs s field) (sym (rel (Core b))));
+      of_cores = λ b field. has.bases.of_cores b field ∙ (sym (default-released code.structs (standing heap (Core b)) field) ∙ ap (λ s. default_by_standing code.structs s field) (sym (rel (Core b))));
       of_inputs = has.bases.of_inputs;
     };
     lives = record {
@@ -248,7 +253,8 @@ module _ (code : Code) (inputs : List Block) (l : Trace) (t : Tables) (heap afte
       once = has.lives.once;
       cores = has.lives.cores;
     };
-    reads = λ s p w r. there-now p.block (known-read (length inputs) p w s t.trace.nodes (known_after [] (flat l)) r [] (subst (λ is. KnownItems (length inputs) [] is (known_after [] (flat l))) (sym items) mentions));
+    reads = λ s p w r. there-now p.block
+        (known-read (length inputs) p w s t.trace.nodes (known_after [] (flat l)) r [] (subst (λ is. KnownItems (length inputs) [] is (known_after [] (flat l))) (sym items) mentions));
   }
     where
       there-now : (b : BlockId) → Among (length inputs) [] (allocs (forest_of t.trace.nodes)) b → There (length inputs) after b

@@ -1,5 +1,6 @@
 -- The first node of what is left over is revoked.
-use Rattle.std.proofs.Common.{◌≡◌, ◌≢◌, ℕ, inl, inr, ◌⊎◌, ◌+◌, ◌<◌, ◌≤◌, ◌==◌, if◌then◌else◌, true, false, Option, Some, None, List, [], ◌∷◌, ◌++◌, length, refl, sym, ap, subst, ◌∙◌, arith, append_assoc}
+use Rattle.std.proofs.Common.{◌≡◌, ◌≢◌, ℕ, inl, inr, ◌⊎◌, ◌+◌, ◌<◌, ◌≤◌, ◌==◌, if◌then◌else◌, true, false, Option, Some, None, List, [], ◌∷◌, ◌++◌, length, refl, sym, ap, subst, ◌∙◌, arith}
+use Rattle.std.proofs.Common.{append_assoc}
 use Rattle.std.specs.Prelude.{◌↔◌, IsSome}
 use Rattle.std.proofs.lemmas.Bool.{cases_Bool, eq-eqb}
 use Rattle.std.proofs.lemmas.Bool.Decides.{eqb_tells}
@@ -21,9 +22,9 @@ use Rattle.ceal_repair.proofs.Runs.FewNumbers.{known-revoked}
 use Rattle.ceal_repair.proofs.Runs.NewBlock.{in-count, count-in, node-count}
 use Rattle.ceal_repair.proofs.Nodes.NodeBlocks.{node_blocks, blocks_at, allocs-nodes}
 use Rattle.ceal_repair.specs.Blocks.{There, Lives, HasBlocks}
-use Rattle.ceal_repair.specs.Entries.{stamped, entry, closing, entries, first_stamp, first_in, starts, CutTo, there, more, IsUntil, Lies}
-use Rattle.ceal_repair.specs.Words.{default_of}
-use Rattle.ceal_repair.specs.Kept.{Kept, QueuedBehind, QueuedFrom, Records, base_in}
+use Rattle.ceal_repair.specs.Entries.{stamp_of_number, entry, end_entry, entries, first_stamp, first_in, starts, CutTo, there, more, IsUntil, Lies}
+use Rattle.ceal_repair.specs.Words.{default_by_standing}
+use Rattle.ceal_repair.specs.Kept.{Kept, QueuedAfter, QueuedFrom, Records, base_in}
 use Rattle.ceal_repair.specs.declared.tables.Tables.{Tables}
 use Rattle.ceal_theory.specs.Groves.{Grove, Bare, Made, Put, Got, joined, cut}
 use Rattle.ceal_trace.proofs.Entries.{has-held, entry-left}
@@ -74,8 +75,8 @@ begins-with (Put t p v n rest) s h tail = record {
 begins-with (Got t p v u x args n inside e m rest) s h tail = record {
   node = Read p v u x args;
   steps = n;
-  back = (entries inside ++ closing e t m ∷ entries rest) ++ tail;
-  is = let same : t ≡ s = cc in ap (λ k. entry k (Read p v u x args) n ∷ ((entries inside ++ closing e t m ∷ entries rest) ++ tail)) same;
+  back = (entries inside ++ end_entry e t m ∷ entries rest) ++ tail;
+  is = let same : t ≡ s = cc in ap (λ k. entry k (Read p v u x args) n ∷ ((entries inside ++ end_entry e t m ∷ entries rest) ++ tail)) same;
   plain = refl;
 }
 
@@ -131,12 +132,12 @@ module _ (cursor : ℕ) (front : List Entry) (left : Grove) (tail : List Entry) 
   ]
 
   -- so nothing else is, where fewer nodes are after it
-  pub late-fewer : (new : Tables) (back : List Entry) → new.trace.nodes ≡ front ++ back → ((r : ℕ) → is_in r new.stale.stamps ≡ true → is_in r t.stale.stamps ≡ true) → QueuedBehind cursor new
+  pub late-fewer : (new : Tables) (back : List Entry) → new.trace.nodes ≡ front ++ back → ((r : ℕ) → is_in r new.stale.stamps ≡ true → is_in r t.stale.stamps ≡ true) → QueuedAfter cursor new
   late-fewer new back e only r i =
       subst (λ es. position cursor es < position r es) (sym e)
       (omega (arith, cursor-position back, front-long, position-behind r front back (queued-behind r (only r i))))
 
-  pub lies-now : (new : Tables) (rest : Grove) → new.trace.nodes ≡ front ++ (entries rest ++ tail) → QueuedBehind cursor new → Lies cursor front rest tail new
+  pub lies-now : (new : Tables) (rest : Grove) → new.trace.nodes ≡ front ++ (entries rest ++ tail) → QueuedAfter cursor new → Lies cursor front rest tail new
   lies-now new rest e late = record { done = l.done; last = l.last; ends = l.ends; is_at = l.is_at; nodes = e; late = late }
 
 -- ---- one node less
@@ -169,7 +170,7 @@ pub record ReadFirst (s : ℕ) (g : Grove) (tail back : List Entry) : Type 0 whe
   pub end : ℕ
   pub steps : ℕ
   pub rest : List Entry
-  pub back_is : back ≡ inside ++ closing end s steps ∷ rest
+  pub back_is : back ≡ inside ++ end_entry end s steps ∷ rest
   pub cut_is : entries (cut g) ++ tail ≡ inside ++ rest
 
 pub back-read : (g : Grove) (s : ℕ) (h : first_stamp g ≡ Some s) (tail : List Entry) → is_read (Some (begins-with g s h tail).node) ≡ true → ReadFirst s g tail (begins-with g s h tail).back
@@ -182,7 +183,7 @@ back-read (Got t p v u x args n inside e m rest) s h tail k = record {
   end = e;
   steps = m;
   rest = entries rest ++ tail;
-  back_is = let same : t ≡ s = cc in append_assoc (entries inside) (closing e t m ∷ entries rest) tail ∙ ap (λ z. entries inside ++ closing e z m ∷ (entries rest ++ tail)) same;
+  back_is = let same : t ≡ s = cc in append_assoc (entries inside) (end_entry e t m ∷ entries rest) tail ∙ ap (λ z. entries inside ++ end_entry e z m ∷ (entries rest ++ tail)) same;
   cut_is = ap (λ es. es ++ tail) (entries-joined inside rest) ∙ append_assoc (entries inside) (entries rest) tail;
 }
 
@@ -212,17 +213,18 @@ module _ (cursor s : ℕ) (front : List Entry) (left : Grove) (tail : List Entry
     begun : Entry
     begun = entry s (begins-with left s f tail).node (begins-with left s f tail).steps
 
-    read-nodes : t.trace.nodes ≡ (front ++ begun ∷ the-read.inside) ++ closing the-read.end s the-read.steps ∷ the-read.rest
+    read-nodes : t.trace.nodes ≡ (front ++ begun ∷ the-read.inside) ++ end_entry the-read.end s the-read.steps ∷ the-read.rest
     unfolding begun
     read-nodes = first-nodes cursor s front left tail t kept l f ∙ (ap (λ es. front ++ begun ∷ es) the-read.back_is
-        ∙ sym (append_assoc front (begun ∷ the-read.inside) (closing the-read.end s the-read.steps ∷ the-read.rest)))
+        ∙ sym (append_assoc front (begun ∷ the-read.inside) (end_entry the-read.end s the-read.steps ∷ the-read.rest)))
 
     end-not-before : has_node the-read.end (front ++ begun ∷ the-read.inside) ≡ false
-    end-not-before = not_before (front ++ begun ∷ the-read.inside) (closing the-read.end s the-read.steps) the-read.rest (subst (λ es. order.Distinct (stamps_in es)) read-nodes kept.step.whole.order.distinct)
+    end-not-before =
+        not_before (front ++ begun ∷ the-read.inside) (end_entry the-read.end s the-read.steps) the-read.rest (subst (λ es. order.Distinct (stamps_in es)) read-nodes kept.step.whole.order.distinct)
 
     pub end-there : end_in s t.trace.nodes ≡ Some the-read.end
-    end-there = kept.step.whole.one_end the-read.end (stamped s)
-        (ap (node_at the-read.end) read-nodes ∙ ap held_by (entry-part (closing the-read.end s the-read.steps) the-read.rest (front ++ begun ∷ the-read.inside) end-not-before))
+    end-there = kept.step.whole.one_end the-read.end (stamp_of_number s)
+        (ap (node_at the-read.end) read-nodes ∙ ap held_by (entry-part (end_entry the-read.end s the-read.steps) the-read.rest (front ++ begun ∷ the-read.inside) end-not-before))
 
     pub end-some : IsSome (end_in s t.trace.nodes)
     end-some = subst (λ o. IsSome o) (sym end-there) refl
@@ -232,8 +234,9 @@ module _ (cursor s : ℕ) (front : List Entry) (left : Grove) (tail : List Entry
         let same : Some the-read.end ≡ Some e = sym end-there ∙ h in
         let is : the-read.end ≡ e = cc in
         subst (λ z. without_entry z (without_entry s t.trace.nodes) ≡ front ++ (entries (cut left) ++ tail)) is
-        (ap (without_entry the-read.end) (without-first cursor s front left tail t kept l f ∙ (ap (λ es. front ++ es) the-read.back_is ∙ sym (append_assoc front the-read.inside (closing the-read.end s the-read.steps ∷ the-read.rest))))
-        ∙ (without-part (closing the-read.end s the-read.steps) the-read.rest (front ++ the-read.inside) (has-fewer the-read.end front begun the-read.inside end-not-before)
+        (ap (without_entry the-read.end) (without-first cursor s front left tail t kept l f
+        ∙ (ap (λ es. front ++ es) the-read.back_is ∙ sym (append_assoc front the-read.inside (end_entry the-read.end s the-read.steps ∷ the-read.rest))))
+        ∙ (without-part (end_entry the-read.end s the-read.steps) the-read.rest (front ++ the-read.inside) (has-fewer the-read.end front begun the-read.inside end-not-before)
         ∙ (append_assoc front the-read.inside the-read.rest ∙ ap (λ es. front ++ es) (sym the-read.cut_is))))
 
 -- ---- the blocks
@@ -270,7 +273,8 @@ node-left s u n es d h = elim (eqb_tells u s) [
   | inr p ↦ ap held_by (sym (entry-left s u es p.1)) ∙ h
 ]
 
-pub records-was : (new old : List Entry) → ((u : ℕ) (n : Node) → node_at u new ≡ Some n → node_at u old ≡ Some n) → (u : ℕ) (p : Place) (v : Word) → Records p v (node_at u new) → Records p v (node_at u old)
+pub records-was : (new old : List Entry) → ((u : ℕ) (n : Node) → node_at u new ≡ Some n → node_at u old ≡ Some n) → (u : ℕ) (p : Place) (v : Word) → Records p v (node_at u new)
+    → Records p v (node_at u old)
 records-was new old h u p v r = record { unit = r.unit; var = r.var; args = r.args; is = h u (Read p v r.unit r.var r.args) r.is }
 
 -- other nodes allocate the live blocks still
@@ -285,14 +289,15 @@ lives-still heap old new same was l = record {
   cores = λ s i key e. l.cores s i key (was s (Alloc (Input i) key) e);
 }
 
-default-revoked : (structs : _) (s : Standing) (field : ℕ) → default_of structs (revoked s) field ≡ default_of structs s field
+default-revoked : (structs : _) (s : Standing) (field : ℕ) → default_by_standing structs (revoked s) field ≡ default_by_standing structs s field
 default-revoked structs Unused field = refl
 default-revoked structs (Live block) field = refl
 default-revoked structs (Revoked block) field = refl
 default-revoked structs (Released shape) field = refl
 
 -- the block of an allocation that is taken out is revoked
-module _ (b : ℕ) (key : Key) (s : ℕ) (heap heap' : Contents) (old new : List Entry) (d : order.Distinct (stamps_in old)) (at-node : node_at s old ≡ Some (Alloc (Core b) key)) (nodes : new ≡ without_entry s old)
+module _ (b : ℕ) (key : Key) (s : ℕ) (heap heap' : Contents) (old new : List Entry) (d : order.Distinct (stamps_in old)) (at-node : node_at s old ≡ Some (Alloc (Core b) key))
+    (nodes : new ≡ without_entry s old)
     (gone : standing heap' (Core b) ≡ revoked (standing heap (Core b))) (others : KeepsBlocks (Core b) heap heap') (l : Lives heap old) where
   counted : (c : ℕ) → count c (blocks_at old) ≡ (if b == c then 1 else 0) + count c (blocks_at new)
   counted c = blocks-without s (Alloc (Core b) key) c old at-node ∙ (one ∙ ap (λ es. (if b == c then 1 else 0) + count c (blocks_at es)) (sym nodes))
@@ -351,10 +356,10 @@ module _ (b : ℕ) (key : Key) (s : ℕ) (heap heap' : Contents) (old new : List
   block-same (Input i) = refl
   block-same (Core c) = elim (standing-as c) [ inl e ↦ ap known e | inr e ↦ ap known e ∙ known-revoked (standing heap (Core c)) ]
 
-  pub default-same : (structs : _) (c field : ℕ) → default_of structs (standing heap' (Core c)) field ≡ default_of structs (standing heap (Core c)) field
+  pub default-same : (structs : _) (c field : ℕ) → default_by_standing structs (standing heap' (Core c)) field ≡ default_by_standing structs (standing heap (Core c)) field
   default-same structs c field = elim (standing-as c) [
-    | inl e ↦ ap (λ z. default_of structs z field) e
-    | inr e ↦ ap (λ z. default_of structs z field) e ∙ default-revoked structs (standing heap (Core c)) field
+    | inl e ↦ ap (λ z. default_by_standing structs z field) e
+    | inr e ↦ ap (λ z. default_by_standing structs z field) e ∙ default-revoked structs (standing heap (Core c)) field
   ]
 
 there-same : (inputs : ℕ) (heap heap' : Contents) → ((c : BlockId) → block_of heap' c ≡ block_of heap c) → (c : BlockId) → There inputs heap c → There inputs heap' c
@@ -363,7 +368,8 @@ there-same inputs heap heap' h (Core c) k = subst (λ o. IsSome o) (sym (h (Core
 
 -- fewer nodes, where the live blocks are theirs
 pub has-fewer-nodes : (code : Code) (inputs : List Block) (heap heap' : Contents) (old new : Tables) → ((p : Place) → base_in new.mods p ≡ base_in old.mods p)
-    → ((c field : ℕ) → default_of code.structs (standing heap' (Core c)) field ≡ default_of code.structs (standing heap (Core c)) field) → ((c : BlockId) → block_of heap' c ≡ block_of heap c)
+    → ((c field : ℕ) → default_by_standing code.structs (standing heap' (Core c)) field ≡ default_by_standing code.structs (standing heap (Core c)) field)
+    → ((c : BlockId) → block_of heap' c ≡ block_of heap c)
     → ((u : ℕ) (n : Node) → node_at u new.trace.nodes ≡ Some n → node_at u old.trace.nodes ≡ Some n) → Lives heap' new.trace.nodes → HasBlocks code inputs heap old → HasBlocks code inputs heap' new
 has-fewer-nodes code inputs heap heap' old new b default same was lives h = record {
   bases = record {
@@ -380,7 +386,7 @@ has-fewer-nodes code inputs heap heap' old new b default same was lives h = reco
 pub record RevokedOne (structs : List StructInfo) (heap heap' : Contents) (new : List Entry) : Type 0 where
   pub lives : Lives heap' new
   pub same : (c : BlockId) → block_of heap' c ≡ block_of heap c
-  pub default : (c field : ℕ) → default_of structs (standing heap' (Core c)) field ≡ default_of structs (standing heap (Core c)) field
+  pub default : (c field : ℕ) → default_by_standing structs (standing heap' (Core c)) field ≡ default_by_standing structs (standing heap (Core c)) field
 
 pub alloc-live : (c : BlockId) (key : Key) (s : ℕ) (heap : Contents) (old : List Entry) → node_at s old ≡ Some (Alloc c key) → Lives heap old → IsLive heap c
 alloc-live (Input i) key s heap old n l = absurd (l.cores s i key n)
@@ -399,7 +405,8 @@ alloc-revoked structs (Core b) key s heap heap' old new d n e gone others l = re
 }
 
 module _ (cursor s : ℕ) (front : List Entry) (left : Grove) (tail : List Entry) (t : Tables) (kept : Kept t) (l : Lies cursor front left tail t) (f : first_stamp left ≡ Some s) where
-  pub cut-alloc-lies : (new : Tables) (c : BlockId) (key : Key) → node_at s t.trace.nodes ≡ Some (Alloc c key) → new.trace.nodes ≡ without_entry s t.trace.nodes → new.stale ≡ t.stale → Lies cursor front (cut left) tail new
+  pub cut-alloc-lies : (new : Tables) (c : BlockId) (key : Key) → node_at s t.trace.nodes ≡ Some (Alloc c key) → new.trace.nodes ≡ without_entry s t.trace.nodes → new.stale ≡ t.stale
+      → Lies cursor front (cut left) tail new
   cut-alloc-lies new c key n e q =
       let nodes = e ∙ one-less cursor s front left tail t kept l f (ap is_read n) in
       lies-now cursor front left tail t kept l new (cut left) nodes
@@ -409,12 +416,12 @@ module _ (cursor s : ℕ) (front : List Entry) (left : Grove) (tail : List Entry
   before-it = omega (arith, cursor-before cursor s front left tail t kept l f)
 
   pub cut-write-lies : (new : Tables) (p : Place) (v : Word) → node_at s t.trace.nodes ≡ Some (Write p v) → new.trace.nodes ≡ without_entry s t.trace.nodes
-      → ((c : ℕ) → position c t.trace.nodes < position s t.trace.nodes → QueuedBehind c t → QueuedBehind c new) → Lies cursor front (cut left) tail new
+      → ((c : ℕ) → position c t.trace.nodes < position s t.trace.nodes → QueuedAfter c t → QueuedAfter c new) → Lies cursor front (cut left) tail new
   cut-write-lies new p v n e late =
       lies-now cursor front left tail t kept l new (cut left) (e ∙ one-less cursor s front left tail t kept l f (ap is_read n)) (late cursor before-it l.late)
 
   pub cut-read-lies : (new : Tables) (e : ℕ) → is_read (node_at s t.trace.nodes) ≡ true → end_in s t.trace.nodes ≡ Some e → new.trace.nodes ≡ without_entry e (without_entry s t.trace.nodes)
-      → ((c : ℕ) → position c t.trace.nodes < position s t.trace.nodes → QueuedBehind c new) → Lies cursor front (cut left) tail new
+      → ((c : ℕ) → position c t.trace.nodes < position s t.trace.nodes → QueuedAfter c new) → Lies cursor front (cut left) tail new
   cut-read-lies new e k h nodes late = lies-now cursor front left tail t kept l new (cut left) (nodes ∙ both-less cursor s front left tail t kept l f k e h) (late cursor before-it)
 
 distinct-without : (s : ℕ) (es : List Entry) → order.Distinct (stamps_in es) → order.Distinct (stamps_in (without_entry s es))
@@ -432,7 +439,8 @@ count-plain : (n : Node) (c : ℕ) → ((bs : List ℕ) → node_blocks n bs ≡
 count-plain n c h = ap (count c) (h [])
 
 -- a write is taken out, or a read with its end
-pub write-has : (code : Code) (inputs : List Block) (heap : Contents) (old new : Tables) (s : ℕ) (p : Place) (v : Word) → order.Distinct (stamps_in old.trace.nodes) → node_at s old.trace.nodes ≡ Some (Write p v)
+pub write-has : (code : Code) (inputs : List Block) (heap : Contents) (old new : Tables) (s : ℕ) (p : Place) (v : Word) → order.Distinct (stamps_in old.trace.nodes)
+    → node_at s old.trace.nodes ≡ Some (Write p v)
     → new.trace.nodes ≡ without_entry s old.trace.nodes → ((p : Place) → base_in new.mods p ≡ base_in old.mods p) → HasBlocks code inputs heap old → HasBlocks code inputs heap new
 write-has code inputs heap old new s p v d n e b h =
     has-fewer-nodes code inputs heap heap old new b (λ c field. refl) (λ c. refl) was
@@ -458,13 +466,13 @@ read-has code inputs heap old new s e kept r found nodes b h =
     d : order.Distinct (stamps_in old.trace.nodes)
     d = kept.step.whole.order.distinct
 
-    end-node : node_at e old.trace.nodes ≡ Some (End (stamped s))
+    end-node : node_at e old.trace.nodes ≡ Some (End (stamp_of_number s))
     end-node = kept.step.whole.end_node e s found
 
     differs : e ≢ s
-    differs k = let no : is_read (Some (End (stamped s))) ≡ true = subst (λ o. is_read o ≡ true) (ap (λ z. node_at z old.trace.nodes) (sym k) ∙ end-node) r in absurd (cc)
+    differs k = let no : is_read (Some (End (stamp_of_number s))) ≡ true = subst (λ o. is_read o ≡ true) (ap (λ z. node_at z old.trace.nodes) (sym k) ∙ end-node) r in absurd (cc)
 
-    end-left : node_at e (without_entry s old.trace.nodes) ≡ Some (End (stamped s))
+    end-left : node_at e (without_entry s old.trace.nodes) ≡ Some (End (stamp_of_number s))
     end-left = ap held_by (entry-left s e old.trace.nodes differs) ∙ end-node
 
     was : (u : ℕ) (m : Node) → node_at u new.trace.nodes ≡ Some m → node_at u old.trace.nodes ≡ Some m
@@ -475,10 +483,12 @@ read-has code inputs heap old new s e kept r found nodes b h =
         let q = read-counts (node_at s old.trace.nodes) r in
         let one = blocks-without s q.0 c old.trace.nodes q.1 in
         let zero = count-plain q.0 c q.2 in
-        let two = blocks-without e (End (stamped s)) c (without_entry s old.trace.nodes) end-left in
-        ap (λ es. count c (blocks_at es)) nodes ∙ (let n : count c (blocks_at (without_entry e (without_entry s old.trace.nodes))) ≡ count c (blocks_at old.trace.nodes) = omega (arith, one, zero, two) in n)
+        let two = blocks-without e (End (stamp_of_number s)) c (without_entry s old.trace.nodes) end-left in
+        ap (λ es. count c (blocks_at es)) nodes
+            ∙ (let n : count c (blocks_at (without_entry e (without_entry s old.trace.nodes))) ≡ count c (blocks_at old.trace.nodes) = omega (arith, one, zero, two) in n)
 
-pub alloc-has : (code : Code) (inputs : List Block) (heap heap' : Contents) (old new : Tables) (s : ℕ) (c : BlockId) (key : Key) → order.Distinct (stamps_in old.trace.nodes) → node_at s old.trace.nodes ≡ Some (Alloc c key)
+pub alloc-has : (code : Code) (inputs : List Block) (heap heap' : Contents) (old new : Tables) (s : ℕ) (c : BlockId) (key : Key) → order.Distinct (stamps_in old.trace.nodes)
+    → node_at s old.trace.nodes ≡ Some (Alloc c key)
     → new.trace.nodes ≡ without_entry s old.trace.nodes → ((p : Place) → base_in new.mods p ≡ base_in old.mods p) → standing heap' c ≡ revoked (standing heap c) → KeepsBlocks c heap heap'
     → HasBlocks code inputs heap old → HasBlocks code inputs heap' new
 alloc-has code inputs heap heap' old new s c key d n e b gone others h =
@@ -509,7 +519,8 @@ starts-cut : (g : Grove) (until s : ℕ) → first_stamp g ≡ Some s → s ≢ 
 starts-cut Bare until s f other h = absurd (cc)
 starts-cut (Made t b key n rest) until s f other h = later-in until t s (starts rest) f other h
 starts-cut (Put t p v n rest) until s f other h = later-in until t s (starts rest) f other h
-starts-cut (Got t p v u x args n inside e m rest) until s f other h = subst (λ ss. is_in until ss ≡ true) (sym (starts-joined inside rest)) (later-in until t s (starts inside ++ starts rest) f other h)
+starts-cut (Got t p v u x args n inside e m rest) until s f other h =
+    subst (λ ss. is_in until ss ≡ true) (sym (starts-joined inside rest)) (later-in until t s (starts inside ++ starts rest) f other h)
 
 successor-part : (e : Entry) (back front : List Entry) → has_node e.stamp front ≡ false → order.successor e.stamp (stamps_in (front ++ e ∷ back)) ≡ first_in back
 successor-part e back [] h = rw (eq-eqb e.stamp e.stamp refl) (go back)
@@ -522,7 +533,8 @@ successor-part e back (x ∷ xs) h = elim (eqb_tells x.stamp e.stamp) [
   | inr p ↦ rw p.0 (successor-part e back xs (rw p.0 at h))
 ]
 
-pub next-is : (cursor : ℕ) (front : List Entry) (left : Grove) (tail : List Entry) (t : Tables) → Kept t → Lies cursor front left tail t → order.successor cursor (stamps_in t.trace.nodes) ≡ first_in (entries left ++ tail)
+pub next-is : (cursor : ℕ) (front : List Entry) (left : Grove) (tail : List Entry) (t : Tables) → Kept t → Lies cursor front left tail t
+    → order.successor cursor (stamps_in t.trace.nodes) ≡ first_in (entries left ++ tail)
 next-is cursor front left tail t kept l =
     ap (λ es. order.successor cursor (stamps_in es)) (front-nodes cursor front left tail t kept l)
     ∙ (ap (λ k. order.successor k (stamps_in (l.done ++ l.last ∷ (entries left ++ tail)))) (sym l.is_at)
@@ -541,7 +553,8 @@ pub record LeftOf (cursor until : ℕ) (front : List Entry) (left : Grove) (tail
   pub cuts : (h : Grove) → CutTo until rest h → CutTo until left h
   pub there : is_in until (starts left) ≡ true → is_in until (starts rest) ≡ true
 
-pub until-still : (cursor until : ℕ) (front : List Entry) (left : Grove) (tail : List Entry) (t : Tables) (r : LeftOf cursor until front left tail t) → IsUntil until left tail → IsUntil until r.rest tail
+pub until-still : (cursor until : ℕ) (front : List Entry) (left : Grove) (tail : List Entry) (t : Tables) (r : LeftOf cursor until front left tail t) → IsUntil until left tail
+    → IsUntil until r.rest tail
 until-still cursor until front left tail t r (inl h) = inl (r.there h)
 until-still cursor until front left tail t r (inr h) = inr h
 
@@ -590,7 +603,7 @@ unfolding begins-with
 back-tail Bare s f tail u h = absurd (cc)
 back-tail (Made t b key n rest) s f tail u h = in-later u (entries rest) tail h
 back-tail (Put t p v n rest) s f tail u h = in-later u (entries rest) tail h
-back-tail (Got t p v x y args n inside e m rest) s f tail u h = in-later u (entries inside ++ closing e t m ∷ entries rest) tail h
+back-tail (Got t p v x y args n inside e m rest) s f tail u h = in-later u (entries inside ++ end_entry e t m ∷ entries rest) tail h
 
 -- the node up to which nodes are revoked is after the cursor: it is the first of them, or all were revoked
 module _ (cursor until : ℕ) (front : List Entry) (left : Grove) (tail : List Entry) (t : Tables) (kept : Kept t) (r : LeftOf cursor until front left tail t) where

@@ -38,7 +38,8 @@ module _ (cursor until : ℕ) (old now : Running) (r : Revoking cursor until old
   pub one-revoked : (s : ℕ) (new : Running) → successor cursor (stamps_in now.tables.trace.nodes) ≡ Some s → s ≢ until
       → ((front : List Entry) (left : Grove) (tail : List Entry) → Lies cursor front left tail now.tables → first_stamp left ≡ Some s → Lies cursor front (cut left) tail new.tables)
       → ((p : Place) → base_in new.tables.mods p ≡ base_in now.tables.mods p) → KeepsReadable now.heap new.heap
-      → ((code : Code) (inputs : List Block) → HasBlocks code inputs now.heap now.tables → HasBlocks code inputs new.heap new.tables) → new.spent ≡ now.spent → due new.tables ≤ due now.tables → NoneDiffers now.tables new.tables → Kept new.tables
+      → ((code : Code) (inputs : List Block) → HasBlocks code inputs now.heap now.tables → HasBlocks code inputs new.heap new.tables) → new.spent ≡ now.spent → due new.tables ≤ due now.tables
+      → NoneDiffers now.tables new.tables → Kept new.tables
       → Revoking cursor until old new
   one-revoked s new n other lies bases blocks has spent looks differed kept = record {
     kept = kept;

@@ -12,12 +12,13 @@ use Rattle.ceal_base.specs.declared.word.BlockId.TheVariants.{Input, Core}
 use Rattle.ceal_base.specs.declared.word.Word.{Word}
 use Rattle.ceal_code.specs.Program.{Code}
 use Rattle.ceal_code.specs.Replay.{In, here, there, core_numbers}
-use Rattle.ceal_heap.specs.Heap.{Contents, Standing, Unused, Live, Revoked, Released, IsFree, IsLive, IsMade, IsNew, KeepsBlocks, NoneReleased, ReleasesRevoked, block_of, known, next, number_standing, released, revoked, standing, state_standing}
+use Rattle.ceal_heap.specs.Heap.{Contents, Standing, Unused, Live, Revoked, Released, IsFree, IsLive, IsMade, IsNew, KeepsBlocks, NoneReleased, ReleasesRevoked, block_of, known, next}
+use Rattle.ceal_heap.specs.Heap.{number_standing, released, revoked, standing, state_standing}
 use Rattle.ceal_heap.specs.declared.number.State.{State}
 use Rattle.ceal_heap.specs.declared.number.State.TheVariants.{Live as LiveState, Revoked as RevokedState, Released as ReleasedState}
 use Rattle.ceal_words.specs.SizeClass.{SizeClass}
 use Rattle.ceal_repair.proofs.Nodes.NodeItems.{blocks-allocs}
-use Rattle.ceal_repair.specs.Answers.{Stands, IsKeptRun}
+use Rattle.ceal_repair.specs.Answers.{StandsForTrace, IsKeptRun}
 use Rattle.ceal_repair.specs.Blocks.{KeepsReadable, GivesOne, HasFew, Given}
 use Rattle.ceal_repair.specs.declared.running.Running.{Running}
 use Rattle.ceal_theory.proofs.Work.ItemCounts.{count-law}

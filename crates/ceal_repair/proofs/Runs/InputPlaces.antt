@@ -49,7 +49,8 @@ touched-either (Ok x) old mods p v bare ok err q = touched-cells old mods p v ba
 touched-either (Err x) old mods p v bare ok err q = ap (λ (m : Contents). cell_of m q) err
 
 -- nothing was looked up
-pub touched-looks : {A E : Type 0} (r : Result A E) (old mods : Contents) (p : Place) (c : Cell) → OnOk r (Changes old mods p c) → OnErr r (mods ≡ old) → (mods.looked ≡ old.looked) × (mods.differed ≡ old.differed)
+pub touched-looks : {A E : Type 0} (r : Result A E) (old mods : Contents) (p : Place) (c : Cell) → OnOk r (Changes old mods p c) → OnErr r (mods ≡ old)
+    → (mods.looked ≡ old.looked) × (mods.differed ≡ old.differed)
 touched-looks (Ok x) old mods p c ok err = (ok.looked, ok.differed)
 touched-looks (Err x) old mods p c ok err = (ap (λ (m : Contents). m.looked) err, ap (λ (m : Contents). m.differed) err)
 
@@ -58,7 +59,8 @@ pub looks-then : (a b c : Tables) → LooksAtNothing a b → LooksAtNothing b c 
 looks-then a b c h k = record { looked = k.looked ∙ h.looked; differed = k.differed ∙ h.differed; queue = k.queue ∙ h.queue }
 
 -- tables whose cells are as they were
-pub kept-cells : (old : Tables) → Kept old → (mods : Contents) → ((p : Place) → cell_of mods p ≡ cell_of old.mods p) → Mods_follow (stamps_in old.trace.nodes) mods → Kept (tables old.trace mods old.stale old.memo)
+pub kept-cells : (old : Tables) → Kept old → (mods : Contents) → ((p : Place) → cell_of mods p ≡ cell_of old.mods p) → Mods_follow (stamps_in old.trace.nodes) mods
+    → Kept (tables old.trace mods old.stale old.memo)
 kept-cells old k mods cells follows = record {
   step = record {
     whole = k.step.whole;
@@ -103,7 +105,8 @@ module _ (structs : List StructInfo) (input : ℕ) (shape : Shape) where
         | inr q ↦ s.touched field (omega (arith, l, q.1)) c
       ]
 
-  pub touching-more : (old t t' : Tables) (n : ℕ) → Touching old t n → t'.trace ≡ t.trace → ((p : Place) → cell_of t'.mods p ≡ cell_of t.mods p) → HasCell t'.mods (record { block = Input input; field = n })
+  pub touching-more : (old t t' : Tables) (n : ℕ) → Touching old t n → t'.trace ≡ t.trace → ((p : Place) → cell_of t'.mods p ≡ cell_of t.mods p)
+      → HasCell t'.mods (record { block = Input input; field = n })
       → ((p : Place) → HasCell t.mods p → HasCell t'.mods p) → LooksAtNothing t t' → Kept t' → Touching old t' (n + 1)
   touching-more old t t' n s trace cells here others looks kept = record {
     looks = looks-then old t t' s.looks looks;
@@ -145,7 +148,8 @@ unread-kept old k p v mods change unread follows = record {
     go [] e = rw e tt
     go (x ∷ xs) e =
         let first : head_of (stamps_in old.trace.nodes) ≡ Some x.stamp = rw e refl in
-        (edit-kept old k p v mods change x.stamp first (k.step.whole.first_root x.stamp first) old.stale (λ t i. i) (λ t a b. absurd (let no : true ≡ false = sym b ∙ a in cc)) (awake x.stamp) follows k.step.stale).chained
+        (edit-kept old k p v mods change x.stamp first (k.step.whole.first_root x.stamp first) old.stale (λ t i. i) (λ t a b. absurd (let no : true ≡ false = sym b ∙ a in cc))
+            (awake x.stamp) follows k.step.stale).chained
 
 -- how far the bases are set
 pub record Placing (structs : List StructInfo) (input : ℕ) (shape : Shape) (words : List Word) (old t : Tables) (n : ℕ) : Type 0 where
@@ -163,13 +167,15 @@ module _ (structs : List StructInfo) (input : ℕ) (shape : Shape) (words : List
   placing-plain old t n s kind is not_cell =
       record { setting = setting-plain structs (Input input) shape (field-word structs shape words) old t n s.setting kind is not_cell; touched = s.touched; unread = s.unread; queue = s.queue }
 
-  pub placing-more : (old t t' : Tables) (n : ℕ) (value : Word) → Kept old → Placing structs input shape words old t n → (kind : FieldKind) → Some kind ≡ field_kind structs shape n → is_cell (Some kind) ≡ true
+  pub placing-more : (old t t' : Tables) (n : ℕ) (value : Word) → Kept old → Placing structs input shape words old t n → (kind : FieldKind) → Some kind ≡ field_kind structs shape n
+      → is_cell (Some kind) ≡ true
       → value ≡ unwrap_or (slice_get words n) (default_of_field kind)
       → t'.trace ≡ t.trace → t'.memo ≡ t.memo → t'.mods.looked ≡ t.mods.looked → t'.mods.differed ≡ t.mods.differed → t'.stale ≡ t.stale
       → ((p : Place) → base_in t'.mods p ≡ stored (base_in t.mods) (record { block = Input input; field = n }) value p)
       → ((p : Place) → HasCell t.mods p → HasCell t'.mods p) → Kept t' → Placing structs input shape words old t' (n + 1)
   placing-more old t t' n value ko s kind is cell is_value trace memo looked differed queue base others kept = record {
-    setting = setting-more structs (Input input) shape (field-word structs shape words) old t t' n value ko s.setting kind is cell (set-word structs shape words n kind value is is_value) trace memo looked differed base
+    setting = setting-more structs (Input input) shape (field-word structs shape words) old t t' n value ko s.setting kind is cell
+        (set-word structs shape words n kind value is is_value) trace memo looked differed base
         (λ r a b. absurd (let no : true ≡ false = sym a ∙ (ap (λ (q : Waiting). is_in r q.stamps) queue ∙ b) in cc)) kept;
     touched = λ field c. others (record { block = Input input; field = field }) (s.touched field c);
     unread = λ field. reads-same t t' s.setting.kept kept trace (record { block = Input input; field = field }) ∙ s.unread field;

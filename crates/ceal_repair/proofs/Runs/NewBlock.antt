@@ -1,5 +1,6 @@
 -- A new block is made.
-use Rattle.std.proofs.Common.{◌≡◌, ◌≢◌, ℕ, zero, suc, inl, inr, ◌⊎◌, ◌+◌, ◌<◌, ◌≤◌, ◌==◌, if◌then◌else◌, Bool, true, false, Option, Some, None, List, [], ◌∷◌, ◌++◌, length, refl, sym, ap, ap₂, subst, ◌∙◌, arith, append_assoc}
+use Rattle.std.proofs.Common.{◌≡◌, ◌≢◌, ℕ, zero, suc, inl, inr, ◌⊎◌, ◌+◌, ◌<◌, ◌≤◌, ◌==◌, if◌then◌else◌, Bool, true, false, Option, Some, None, List, [], ◌∷◌, ◌++◌, length, refl, sym, ap, ap₂}
+use Rattle.std.proofs.Common.{subst, ◌∙◌, arith, append_assoc}
 use Rattle.std.specs.Prelude.{◌↔◌, IsSome, option_map}
 use Rattle.std.proofs.Math.Path.{fun_ext}
 use Rattle.std.proofs.lemmas.Bool.{cases_Bool}
@@ -35,10 +36,10 @@ use Rattle.ceal_repair.proofs.Runs.FewNumbers.{few-made}
 use Rattle.ceal_repair.specs.Blocks.{There, HasBlocks, Given, GivesOne}
 use Rattle.ceal_repair.specs.Entries.{entries}
 use Rattle.ceal_repair.specs.Moment.{View, Start, Placed, CourseNow, RunningNow, Unfinished, through, state_at, items_before}
-use Rattle.ceal_repair.specs.Words.{HasBases, words_of, default_of}
+use Rattle.ceal_repair.specs.Words.{HasBases, words_of, default_by_standing}
 use Rattle.ceal_repair.proofs.Lists.PartedLists.{where-holds}
 use Rattle.ceal_repair.specs.Covered.{content_after, contents_after}
-use Rattle.ceal_repair.specs.Kept.{Kept, QueuedBehind, Records, base_in}
+use Rattle.ceal_repair.specs.Kept.{Kept, QueuedAfter, Records, base_in}
 use Rattle.ceal_repair.specs.Lists.{reads_at}
 use Rattle.ceal_repair.specs.declared.tables.Tables.{Tables}
 use Rattle.ceal_theory.proofs.TurnMachine.ChosenNumbers.{chosen-law}
@@ -112,7 +113,8 @@ blocks-added : (after s b : ℕ) (key : Key) (c : ℕ) (es : List Entry) → has
 blocks-added after s b key c [] h = absurd (cc)
 blocks-added after s b key c (e ∷ es) h = elim (eqb_tells e.stamp after) [
   | inl p ↦ rw p.0 (node-count c (if b == c then 1 else 0) e.node (b ∷ blocks_at es) (blocks_at es) refl)
-  | inr p ↦ rw p.0 (node-count c (if b == c then 1 else 0) e.node (blocks_at (with_entry_after after (new_entry s (Alloc (Core b) key)) es)) (blocks_at es) (blocks-added after s b key c es (rw p.0 at h)))
+  | inr p ↦ rw p.0
+      (node-count c (if b == c then 1 else 0) e.node (blocks_at (with_entry_after after (new_entry s (Alloc (Core b) key)) es)) (blocks_at es) (blocks-added after s b key c es (rw p.0 at h)))
 ]
 
 -- ---- the heap and the tables after a block was made
@@ -207,7 +209,7 @@ module _ (code : Code) (inputs : List Block) (b : ℕ) (key : Key) (heap heap' :
   default-there has p e =
       ap (λ o. base_in new.mods (record { block = o; field = p.field })) e
       ∙ ((h.bases has).of_cores b p.field
-      ∙ (ap (λ s. default_of code.structs s p.field) h.live.1
+      ∙ (ap (λ s. default_by_standing code.structs s p.field) h.live.1
       ∙ ap (λ s. cell_default (field_kind code.structs s p.field)) shape))
     where
       same : Some (plain_block h.live.0) ≡ Some (made code (words_of code inputs heap) key)
@@ -264,7 +266,8 @@ module _ (code : Code) (inputs : List Block) (b : ℕ) (key : Key) (heap heap' :
     cores-new : (u i : ℕ) (key' : Key) → node_at u t.trace.nodes ≡ Some (Alloc (Input i) key') → ⊥
     cores-new u i key' e = elim (eqb_tells u s) [
       | inl p ↦ let no : Some (Alloc (Core b) key) ≡ Some (Alloc (Input i) key') = sym (ap (λ k. node_at k t.trace.nodes) p.1 ∙ k.inserted.node) ∙ e in absurd (cc)
-      | inr p ↦ has.lives.cores u i key' (sym (ap (node_at u) k.nodes ∙ (ap held_by (entry-old cursor (new_entry s (Alloc (Core b) key)) u new.trace.nodes p.1) ∙ ap (λ (z : _). node_at u z.nodes) h.trace)) ∙ e)
+      | inr p ↦ has.lives.cores u i key'
+          (sym (ap (node_at u) k.nodes ∙ (ap held_by (entry-old cursor (new_entry s (Alloc (Core b) key)) u new.trace.nodes p.1) ∙ ap (λ (z : _). node_at u z.nodes) h.trace)) ∙ e)
     ]
 
     pub blocks-made : HasBlocks code inputs heap' t
@@ -302,7 +305,7 @@ module _ (code : Code) (inputs : List Block) (b : ℕ) (key : Key) (heap heap' :
           let w = where-holds (reads_at p) old.trace.nodes r kept.step.whole.order.distinct (subst (λ rs. is_in r rs ≡ true) (kept.step.tabled.reads p) j) in
           reads-one p w.0 w.2 w.1 own
 
-  pub late-made : HasBlocks code inputs heap old → (cursor : ℕ) → Kept old → QueuedBehind cursor old → QueuedBehind cursor new
+  pub late-made : HasBlocks code inputs heap old → (cursor : ℕ) → Kept old → QueuedAfter cursor old → QueuedAfter cursor new
   late-made has cursor kept late r i = subst (λ (z : _). position cursor z.nodes < position r z.nodes) (sym h.trace) (late r (none-made has kept r i))
 
   -- the numbers that were chosen
@@ -373,7 +376,7 @@ unwritten (KnownItems.read a c d k) p b e fresh w = unwritten k p b e fresh w
 -- ---- the moment after it
 
 unfoldable pub placed-as : (start : Start) (v : View) (reads : List ℕ) (behind : List Entry) (p : Placed start v reads behind) (t : Tables)
-    → t.trace ≡ v.tables.trace → Kept t → QueuedBehind v.cursor t → Placed start (record v { tables = t }) reads behind
+    → t.trace ≡ v.tables.trace → Kept t → QueuedAfter v.cursor t → Placed start (record v { tables = t }) reads behind
 placed-as start v reads behind p t same kept late = record {
   kept = kept;
   done = p.done;
@@ -403,7 +406,8 @@ module _ (code : Code) (inputs : List Block) (start : Start) (v : View) (front :
   course-made v' front' items' m' w store' b e unused t number same given =
       let old : Machine = m (state_at code inputs v c.store (start.chosen ++ c.made)) in
       let new : Machine = m' (state_at code inputs v' store' (start.chosen ++ (c.made ++ b ∷ []))) in
-      let g : GoesKnowing code (length inputs) start.old (known_after [] items) w new = (knowing-law code).turns (λ k. b) (length inputs) start.old (known_after [] items) old new w c.knows (t (λ k. b) refl) (inr unused) in
+      let g : GoesKnowing code (length inputs) start.old (known_after [] items) w new =
+          (knowing-law code).turns (λ k. b) (length inputs) start.old (known_after [] items) old new w c.knows (t (λ k. b) refl) (inr unused) in
       let k : KnownItems (length inputs) [] (items ++ w) g.known = known-items-append c.mentions g.items in
       let after : g.known ≡ known_after [] (items ++ w) = known-items-after k in
       record {
@@ -436,7 +440,8 @@ module _ (code : Code) (inputs : List Block) (start : Start) (st : Stack) (v : V
   -- a block that was known is another one
   known-other : (c : BlockId) → KnownBlock (length inputs) (known_after [] (forest_of (through now.placed.done now.placed.last))) c → c ≢ Core b
   known-other (Input i) j e = absurd (cc)
-  known-other (Core c) j e = another code inputs b key v.heap heap t1 t2 k (Core c) (known-there code inputs v.heap (known_after [] (forest_of (through now.placed.done now.placed.last))) now.course.knows.plain (Core c) j) e
+  known-other (Core c) j e =
+      another code inputs b key v.heap heap t1 t2 k (Core c) (known-there code inputs v.heap (known_after [] (forest_of (through now.placed.done now.placed.last))) now.course.knows.plain (Core c) j) e
 
   fresh-number : In b (known_after [] (forest_of (through now.placed.done now.placed.last))) → ⊥
   fresh-number i = known-other (Core b) i refl
@@ -446,15 +451,18 @@ module _ (code : Code) (inputs : List Block) (start : Start) (st : Stack) (v : V
   unused-number = ap (λ o. option_map plain_block o) k.unused
 
   grown : grows code (λ n. b) (works (state_at code inputs v now.course.store (start.chosen ++ now.course.made))) key
-      ≡ state_at code inputs (record { tables = t; heap = heap; spent = v.spent + 1; cursor = s; limit = v.limit; frames = v.frames }) (cleared code now.course.store (Core b) key) (start.chosen ++ (now.course.made ++ b ∷ []))
+      ≡ state_at code inputs (record { tables = t; heap = heap; spent = v.spent + 1; cursor = s; limit = v.limit; frames = v.frames }) (cleared code now.course.store (Core b) key)
+          (start.chosen ++ (now.course.made ++ b ∷ []))
   grown = ap₂ (λ (x : Plain) (n : ℕ). record { store = cleared code now.course.store (Core b) key; plain = x; number = n; work = v.spent + 1 })
       (sym (words-learnt code inputs b key v.heap heap t1 t2 k))
       (sym (ap length (sym (append_assoc start.chosen now.course.made (b ∷ []))) ∙ length-last (start.chosen ++ now.course.made) b))
 
-  made-turn : take_alloc key (first (levels (forest_of (entries now.left ++ now.tail)))) ≡ None → (x u i : ℕ) (env : Variables) (below : Stack) → next code (words_of code inputs v.heap) st ≡ Makes key x u i env below
+  made-turn : take_alloc key (first (levels (forest_of (entries now.left ++ now.tail)))) ≡ None → (x u i : ℕ) (env : Variables) (below : Stack)
+      → next code (words_of code inputs v.heap) st ≡ Makes key x u i env below
       → (names : ℕ → ℕ) → names (length (start.chosen ++ now.course.made)) ≡ b
       → turn code names (running_at (state_at code inputs v now.course.store (start.chosen ++ now.course.made)) st now.waits (forest_of (entries now.left ++ now.tail)))
-      ≡ Went (item.Step ∷ item.Alloc (Core b) key ∷ []) (running_at (state_at code inputs (record { tables = t; heap = heap; spent = v.spent + 1; cursor = s; limit = v.limit; frames = v.frames }) (cleared code now.course.store (Core b) key) (start.chosen ++ (now.course.made ++ b ∷ [])))
+      ≡ Went (item.Step ∷ item.Alloc (Core b) key ∷ []) (running_at (state_at code inputs (record { tables = t; heap = heap; spent = v.spent + 1; cursor = s; limit = v.limit; frames = v.frames })
+          (cleared code now.course.store (Core b) key) (start.chosen ++ (now.course.made ++ b ∷ [])))
       (Run u i (set env x (pointer key (Core b))) below) now.waits (forest_of (entries now.left ++ now.tail)))
   unfolding turn
   made-turn none x u i env below does names e =
@@ -491,13 +499,16 @@ module _ (code : Code) (inputs : List Block) (start : Start) (st : Stack) (v : V
   same-made : (p : Place) → KnownBlock (length inputs) (known_after [] (forest_of (through (through now.placed.done (more now.placed.last)) (new_entry s (Alloc (Core b) key))))) p.block
       → cleared code now.course.store (Core b) key p ≡ contents_after (base_in t.mods) (through (through now.placed.done (more now.placed.last)) (new_entry s (Alloc (Core b) key))) p
   same-made p j = go p.block refl (subst (λ bs. KnownBlock (length inputs) bs p.block)
-      (ap (known_after []) (items-next code inputs start st v now s (Alloc (Core b) key)) ∙ known-append [] (forest_of (through now.placed.done now.placed.last)) (item.Step ∷ item.Alloc (Core b) key ∷ [])) j)
+      (ap (known_after []) (items-next code inputs start st v now s (Alloc (Core b) key))
+      ∙ known-append [] (forest_of (through now.placed.done now.placed.last)) (item.Step ∷ item.Alloc (Core b) key ∷ [])) j)
     where
       go : (c : BlockId) → p.block ≡ c → KnownBlock (length inputs) (b ∷ known_after [] (forest_of (through now.placed.done now.placed.last))) p.block
           → cleared code now.course.store (Core b) key p ≡ contents_after (base_in t.mods) (through (through now.placed.done (more now.placed.last)) (new_entry s (Alloc (Core b) key))) p
       go (Input i) e j = same-other p (subst (KnownBlock (length inputs) (known_after [] (forest_of (through now.placed.done now.placed.last)))) (sym e)
-          (let n : KnownBlock (length inputs) (b ∷ known_after [] (forest_of (through now.placed.done now.placed.last))) (Input i) = subst (KnownBlock (length inputs) (b ∷ known_after [] (forest_of (through now.placed.done now.placed.last)))) e j in n))
-      go (Core c) e j = elim (in-case c b (known_after [] (forest_of (through now.placed.done now.placed.last))) (subst (KnownBlock (length inputs) (b ∷ known_after [] (forest_of (through now.placed.done now.placed.last)))) e j)) [
+          (let n : KnownBlock (length inputs) (b ∷ known_after [] (forest_of (through now.placed.done now.placed.last))) (Input i) =
+              subst (KnownBlock (length inputs) (b ∷ known_after [] (forest_of (through now.placed.done now.placed.last)))) e j in n))
+      go (Core c) e j = elim (in-case c b (known_after [] (forest_of (through now.placed.done now.placed.last)))
+          (subst (KnownBlock (length inputs) (b ∷ known_after [] (forest_of (through now.placed.done now.placed.last)))) e j)) [
         | inl q ↦ same-own p (e ∙ ap Core q)
         | inr i ↦ same-other p (subst (KnownBlock (length inputs) (known_after [] (forest_of (through now.placed.done now.placed.last)))) (sym e) i)
       ]
@@ -508,7 +519,7 @@ module _ (code : Code) (inputs : List Block) (start : Start) (st : Stack) (v : V
   blocks-stepped : HasBlocks code inputs v.heap t1
   blocks-stepped = blocks-more code inputs v.heap v.tables t1 now.blocks v.cursor h
 
-  late-stepped : QueuedBehind v.cursor t2
+  late-stepped : QueuedAfter v.cursor t2
   late-stepped = late-made code inputs b key v.heap heap t1 t2 k blocks-stepped v.cursor h.kept placed-stepped.late
 
   pub here-made : has_node v.cursor t2.trace.nodes ≡ true
@@ -516,7 +527,8 @@ module _ (code : Code) (inputs : List Block) (start : Start) (st : Stack) (v : V
       (cursor-here start (record { tables = t1; heap = v.heap; spent = v.spent + 1; cursor = v.cursor; limit = v.limit; frames = v.frames }) now.reads (entries now.left ++ now.tail) placed-stepped)
 
   -- a new block: its node is after the cursor
-  pub now-make : take_alloc key (first (levels (forest_of (entries now.left ++ now.tail)))) ≡ None → (x u i : ℕ) (env : Variables) (below : Stack) → next code (words_of code inputs v.heap) st ≡ Makes key x u i env below
+  pub now-make : take_alloc key (first (levels (forest_of (entries now.left ++ now.tail)))) ≡ None → (x u i : ℕ) (env : Variables) (below : Stack)
+      → next code (words_of code inputs v.heap) st ≡ Makes key x u i env below
       → RunningNow code inputs start (Run u i (set env x (pointer key (Core b))) below) (record { tables = t; heap = heap; spent = v.spent + 1; cursor = s; limit = v.limit; frames = v.frames })
   unfolding placed-step placed-put placed-as placed-stepped
   now-make none x u i env below does = record {
@@ -535,16 +547,19 @@ module _ (code : Code) (inputs : List Block) (start : Start) (st : Stack) (v : V
     bare = now.bare;
     bounds = now.bounds;
     blocks = blocks-made code inputs b key v.heap heap t1 t2 k blocks-stepped v.cursor s t l here-made;
-    course = course-made code inputs start v (through now.placed.done now.placed.last) (forest_of (through now.placed.done now.placed.last)) (λ s. running_at s st now.waits (forest_of (entries now.left ++ now.tail))) now.course
+    course = course-made code inputs start v (through now.placed.done now.placed.last) (forest_of (through now.placed.done now.placed.last))
+        (λ s. running_at s st now.waits (forest_of (entries now.left ++ now.tail))) now.course
         (record { tables = t; heap = heap; spent = v.spent + 1; cursor = s; limit = v.limit; frames = v.frames })
-        (through (through now.placed.done (more now.placed.last)) (new_entry s (Alloc (Core b) key))) (forest_of (through (through now.placed.done (more now.placed.last)) (new_entry s (Alloc (Core b) key))))
+        (through (through now.placed.done (more now.placed.last)) (new_entry s (Alloc (Core b) key)))
+            (forest_of (through (through now.placed.done (more now.placed.last)) (new_entry s (Alloc (Core b) key))))
         (λ s. running_at s (Run u i (set env x (pointer key (Core b))) below) now.waits (forest_of (entries now.left ++ now.tail)))
         (item.Step ∷ item.Alloc (Core b) key ∷ []) (cleared code now.course.store (Core b) key) b (items-next code inputs start st v now s (Alloc (Core b) key))
         unused-number
         (made-turn none x u i env below does)
         (ap length (sym (append_assoc start.chosen now.course.made (b ∷ []))) ∙ length-last (start.chosen ++ now.course.made) b)
         same-made
-        (subst (λ bs. Given start.first start.numbers bs heap) (append_assoc start.chosen now.course.made (b ∷ [])) (given-made code inputs b key v.heap heap t1 t2 k start.first start.numbers (start.chosen ++ now.course.made) now.course.given));
+        (subst (λ bs. Given start.first start.numbers bs heap) (append_assoc start.chosen now.course.made (b ∷ []))
+            (given-made code inputs b key v.heap heap t1 t2 k start.first start.numbers (start.chosen ++ now.course.made) now.course.given));
   }
 
 -- ---- the same, in code

@@ -44,7 +44,8 @@ some-block : (o : Option Known) (block : Block) → option_map plain_block o ≡
 some-block None block h = absurd (cc)
 some-block (Some known) block h = refl
 
-pub known-there : (code : Code) (inputs : List Block) (heap : Contents) (bs : List ℕ) → Holds (length inputs) bs (words_of code inputs heap) → (b : BlockId) → KnownBlock (length inputs) bs b → There (length inputs) heap b
+pub known-there : (code : Code) (inputs : List Block) (heap : Contents) (bs : List ℕ) → Holds (length inputs) bs (words_of code inputs heap) → (b : BlockId) → KnownBlock (length inputs) bs b
+    → There (length inputs) heap b
 unfolding words_of with_inputs
 known-there code inputs heap bs h (Input i) k = k
 known-there code inputs heap bs h (Core b) k = some-block (block_of heap (Core b)) (h (Core b) k).block (h (Core b) k).there
@@ -65,14 +66,17 @@ module _ (code : Code) (inputs : List Block) (start : Start) (st : Stack) (v : V
       (placed-step start v now.reads (entries now.left ++ now.tail) now.placed t1 (v.spent + 1) h)))
       ∙ sym is)
 
-  begun-turn : (p : Place) (u : UnitId) (x : ℕ) (args : List Word) (below : Stack) (word : Word) → take_read p u x args (first (levels (forest_of (entries now.left ++ now.tail)))) ≡ None → next code (words_of code inputs v.heap) st ≡ Reads p u x args below
+  begun-turn : (p : Place) (u : UnitId) (x : ℕ) (args : List Word) (below : Stack) (word : Word) → take_read p u x args (first (levels (forest_of (entries now.left ++ now.tail)))) ≡ None
+      → next code (words_of code inputs v.heap) st ≡ Reads p u x args below
       → now.course.store p ≡ word → (names : ℕ → ℕ)
       → turn code names (running_at (state_at code inputs v now.course.store (start.chosen ++ now.course.made)) st now.waits (forest_of (entries now.left ++ now.tail)))
-      ≡ Went (item.Step ∷ item.Read p word u x args ∷ []) (running_at (works (state_at code inputs v now.course.store (start.chosen ++ now.course.made))) (resumed code u x args word) (Begins below ∷ now.waits) (forest_of (entries now.left ++ now.tail)))
+      ≡ Went (item.Step ∷ item.Read p word u x args ∷ []) (running_at (works (state_at code inputs v now.course.store (start.chosen ++ now.course.made))) (resumed code u x args word)
+          (Begins below ∷ now.waits) (forest_of (entries now.left ++ now.tail)))
   unfolding turn
   begun-turn p u x args below word none does is names =
       subst (λ w. turn code names (running_at (state_at code inputs v now.course.store (start.chosen ++ now.course.made)) st now.waits (forest_of (entries now.left ++ now.tail)))
-      ≡ Went (item.Step ∷ item.Read p w u x args ∷ []) (running_at (works (state_at code inputs v now.course.store (start.chosen ++ now.course.made))) (resumed code u x args w) (Begins below ∷ now.waits) (forest_of (entries now.left ++ now.tail))))
+      ≡ Went (item.Step ∷ item.Read p w u x args ∷ []) (running_at (works (state_at code inputs v now.course.store (start.chosen ++ now.course.made))) (resumed code u x args w)
+          (Begins below ∷ now.waits) (forest_of (entries now.left ++ now.tail))))
       is (rw (does, none) refl)
 
   -- a new read begins, where none that is left over is taken: its unit runs on what its place holds, and shares what is
@@ -88,7 +92,8 @@ module _ (code : Code) (inputs : List Block) (start : Start) (st : Stack) (v : V
     waits = Begins below ∷ now.waits;
     tail = now.tail;
     placed = placed-put start (record { tables = t1; heap = v.heap; spent = v.spent + 1; cursor = v.cursor; limit = v.limit; frames = v.frames }) now.reads (entries now.left ++ now.tail)
-        (placed-step start v now.reads (entries now.left ++ now.tail) now.placed t1 (v.spent + 1) h) t read.0 (Read p word u x args) v.heap v.limit (Begun below read ∷ v.frames) (read.0 ∷ now.reads) k refl (
+        (placed-step start v now.reads (entries now.left ++ now.tail) now.placed t1 (v.spent + 1) h) t read.0 (Read p word u x args) v.heap v.limit (Begun below read ∷ v.frames)
+            (read.0 ∷ now.reads) k refl (
           unended,
           unfinished-ends v.frames t1.trace.nodes t.trace.nodes (λ r. ap (end_in r) k.nodes ∙ ends-after v.cursor (new_entry read.0 (Read p word u x args)) r t1.trace.nodes refl)
               (placed-step start v now.reads (entries now.left ++ now.tail) now.placed t1 (v.spent + 1) h).unfinished,
@@ -96,10 +101,13 @@ module _ (code : Code) (inputs : List Block) (start : Start) (st : Stack) (v : V
     tails = Tails.begun below read now.tails;
     bare = now.bare;
     bounds = now.bounds;
-    blocks = blocks-node code inputs v.heap t1 t (blocks-more code inputs v.heap v.tables t1 now.blocks v.cursor h) v.cursor read.0 (Read p word u x args) k (λ bs. refl) there (λ i key e. absurd (cc));
-    course = course-turn code inputs start v (through now.placed.done now.placed.last) (forest_of (through now.placed.done now.placed.last)) (λ s. running_at s st now.waits (forest_of (entries now.left ++ now.tail))) now.course
+    blocks =
+        blocks-node code inputs v.heap t1 t (blocks-more code inputs v.heap v.tables t1 now.blocks v.cursor h) v.cursor read.0 (Read p word u x args) k (λ bs. refl) there (λ i key e. absurd (cc));
+    course = course-turn code inputs start v (through now.placed.done now.placed.last) (forest_of (through now.placed.done now.placed.last))
+        (λ s. running_at s st now.waits (forest_of (entries now.left ++ now.tail))) now.course
         (record { tables = t; heap = v.heap; spent = v.spent + 1; cursor = read.0; limit = v.limit; frames = Begun below read ∷ v.frames })
-        (through (through now.placed.done (more now.placed.last)) (new_entry read.0 (Read p word u x args))) (forest_of (through (through now.placed.done (more now.placed.last)) (new_entry read.0 (Read p word u x args))))
+        (through (through now.placed.done (more now.placed.last)) (new_entry read.0 (Read p word u x args)))
+            (forest_of (through (through now.placed.done (more now.placed.last)) (new_entry read.0 (Read p word u x args))))
         (λ s. running_at s (resumed code u x args word) (Begins below ∷ now.waits) (forest_of (entries now.left ++ now.tail)))
         (item.Step ∷ item.Read p word u x args ∷ []) now.course.store (items-next code inputs start st v now read.0 (Read p word u x args))
         (begun-turn p u x args below word none does (value-there t1 h p word is place-known)) refl
@@ -121,9 +129,12 @@ module _ (code : Code) (inputs : List Block) (start : Start) (st : Stack) (v : V
       known-before : (q : Place) → KnownBlock (length inputs) (known_after [] (forest_of (through (through now.placed.done (more now.placed.last)) (new_entry read.0 (Read p word u x args))))) q.block
           → KnownBlock (length inputs) (known_after [] (forest_of (through now.placed.done now.placed.last))) q.block
       known-before q c = subst (λ bs. KnownBlock (length inputs) bs q.block)
-          (ap (known_after []) (items-next code inputs start st v now read.0 (Read p word u x args)) ∙ known-append [] (forest_of (through now.placed.done now.placed.last)) (item.Step ∷ item.Read p word u x args ∷ [])) c
+          (ap (known_after []) (items-next code inputs start st v now read.0 (Read p word u x args))
+          ∙ known-append [] (forest_of (through now.placed.done now.placed.last)) (item.Step ∷ item.Read p word u x args ∷ [])) c
 
 -- the unit of a closure by itself, as the code makes its stack
-pub resumed-as : (code' code : Code) → code' ≡ code → (u : UnitId) (x : ℕ) (args : List Word) (word : Word) (st none : Stack) → none ≡ Empty → st ≡ entered code' u.0 (words_after_read code' u.0 x args word) none
+pub resumed-as : (code' code : Code) → code' ≡ code → (u : UnitId) (x : ℕ) (args : List Word) (word : Word) (st none : Stack) → none ≡ Empty
+    → st ≡ entered code' u.0 (words_after_read code' u.0 x args word) none
     → st ≡ resumed code u x args word
-resumed-as code' code c u x args word st none e is = is ∙ (ap (λ s. entered code' u.0 (words_after_read code' u.0 x args word) s) e ∙ ap (λ c. entered c u.0 (words_after_read c u.0 x args word) Empty) c)
+resumed-as code' code c u x args word st none e is =
+    is ∙ (ap (λ s. entered code' u.0 (words_after_read code' u.0 x args word) s) e ∙ ap (λ c. entered c u.0 (words_after_read c u.0 x args word) Empty) c)

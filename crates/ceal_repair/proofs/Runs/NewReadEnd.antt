@@ -10,7 +10,8 @@ use Rattle.ceal_code.specs.Replay.{Store, KnownBlock}
 use Rattle.ceal_code.specs.Step.{Stack, Over, next}
 use Rattle.ceal_order.specs.Stamps.{Distinct, is_in}
 use Rattle.ceal_order.specs.declared.stamp.Stamp.{Stamp}
-use Rattle.ceal_repair.proofs.Nodes.NodeItems.{forest-put, contents-put, contents-base, closed-last, known-append, unclosed-reads, not-in-is, entry-front, position-front, position-there, unfinished-waiting, waiting, waiting-open, comes-next, distinct-front}
+use Rattle.ceal_repair.proofs.Nodes.NodeItems.{forest-put, contents-put, contents-base, closed-last, known-append, unclosed-reads, not-in-is, entry-front, position-front, position-there}
+use Rattle.ceal_repair.proofs.Nodes.NodeItems.{unfinished-waiting, waiting, waiting-open, comes-next, distinct-front}
 use Rattle.ceal_repair.proofs.Runs.UnitSteps.{NodeMore, nodes-distinct, placed-put, blocks-node, course-turn}
 use Rattle.ceal_repair.specs.Entries.{entries}
 use Rattle.ceal_repair.specs.Moment.{View, Start, Placed, RunningNow, through, state_at}
@@ -70,9 +71,11 @@ module _ (code : Code) (inputs : List Block) (start : Start) (st : Stack) (w : V
   among = subst (λ rs. is_in read.0 rs ≡ true) (sym (comes-next now.tails).reads_are) (in_head read.0 (comes-next now.tails).reads)
 
   ended-turn : next code (words_of code inputs w.heap) st ≡ Over → (names : ℕ → ℕ)
-      → turn code names (running_at (state_at code inputs (record { tables = w.tables; heap = w.heap; spent = w.spent; cursor = w.cursor; limit = w.limit; frames = Begun below read ∷ w.frames }) now.course.store (start.chosen ++ now.course.made)) st now.waits (forest_of (entries now.left ++ now.tail)))
+      → turn code names (running_at (state_at code inputs (record { tables = w.tables; heap = w.heap; spent = w.spent; cursor = w.cursor; limit = w.limit; frames =
+          Begun below read ∷ w.frames }) now.course.store (start.chosen ++ now.course.made)) st now.waits (forest_of (entries now.left ++ now.tail)))
       ≡ Went (item.End ∷ []) (running_at (state_at code inputs w now.course.store (start.chosen ++ now.course.made)) below (comes-next now.tails).waits (forest_of (entries now.left ++ now.tail)))
-  ended-turn over names = end-turn code names (state_at code inputs w now.course.store (start.chosen ++ now.course.made)) st below now.waits (comes-next now.tails).waits (forest_of (entries now.left ++ now.tail)) (comes-next now.tails).waits_are over
+  ended-turn over names = end-turn code names (state_at code inputs w now.course.store (start.chosen ++ now.course.made)) st below now.waits (comes-next now.tails).waits
+      (forest_of (entries now.left ++ now.tail)) (comes-next now.tails).waits_are over
 
   -- the reads that wait are others
   others-kept : (t : Tables) (s : ℕ) → NodeMore w.cursor s (End read) w.tables t → (r : ℕ) → is_in r (waiting w.frames) ≡ true → end_in r t.trace.nodes ≡ end_in r w.tables.trace.nodes
@@ -80,7 +83,8 @@ module _ (code : Code) (inputs : List Block) (start : Start) (st : Stack) (w : V
     where
       differs : r ≢ read.0
       differs e =
-          let all : Distinct (now.reads ++ start.reads) = open-distinct start (record { tables = w.tables; heap = w.heap; spent = w.spent; cursor = w.cursor; limit = w.limit; frames = Begun below read ∷ w.frames }) now.reads (entries now.left ++ now.tail) now.placed read.0 among in
+          let all : Distinct (now.reads ++ start.reads) = open-distinct start (record { tables = w.tables; heap = w.heap; spent = w.spent; cursor = w.cursor; limit = w.limit; frames =
+              Begun below read ∷ w.frames }) now.reads (entries now.left ++ now.tail) now.placed read.0 among in
           let parts : Distinct (read.0 ∷ ((comes-next now.tails).reads ++ start.reads)) = subst (λ rs. Distinct (rs ++ start.reads)) (comes-next now.tails).reads_are all in
           let there : is_in r ((comes-next now.tails).reads ++ start.reads) ≡ true = is-in-front r (comes-next now.tails).reads start.reads (waiting-open (comes-next now.tails).tails r i) in
           let none : is_in read.0 ((comes-next now.tails).reads ++ start.reads) ≡ false = not-in-is read.0 ((comes-next now.tails).reads ++ start.reads) parts.0 in
@@ -95,15 +99,18 @@ module _ (code : Code) (inputs : List Block) (start : Start) (st : Stack) (w : V
     left = now.left;
     waits = (comes-next now.tails).waits;
     tail = now.tail;
-    placed = placed-put start (record { tables = w.tables; heap = w.heap; spent = w.spent; cursor = w.cursor; limit = w.limit; frames = Begun below read ∷ w.frames }) now.reads (entries now.left ++ now.tail)
+    placed = placed-put start (record { tables = w.tables; heap = w.heap; spent = w.spent; cursor = w.cursor; limit = w.limit; frames = Begun below read ∷ w.frames }) now.reads
+        (entries now.left ++ now.tail)
         now.placed t s (End read) w.heap w.limit w.frames (comes-next now.tails).reads k
-        (subst (λ rs. unclosed (unclosed_after s (End read) (rs ++ start.reads)) [] ≡ Some ((comes-next now.tails).reads ++ start.reads)) (sym (comes-next now.tails).reads_are) (closed-last read ((comes-next now.tails).reads ++ start.reads) s))
+        (subst (λ rs. unclosed (unclosed_after s (End read) (rs ++ start.reads)) [] ≡ Some ((comes-next now.tails).reads ++ start.reads)) (sym (comes-next now.tails).reads_are)
+            (closed-last read ((comes-next now.tails).reads ++ start.reads) s))
         (unfinished-waiting w.frames w.tables.trace.nodes t.trace.nodes (others-kept t s k) now.placed.unfinished.1);
     tails = (comes-next now.tails).tails;
     bare = now.bare;
     bounds = now.bounds;
     blocks = blocks-node code inputs w.heap w.tables t now.blocks w.cursor s (End read) k (λ bs. refl) (λ q x r. absurd (cc)) (λ i key e. absurd (cc));
-    course = course-turn code inputs start (record { tables = w.tables; heap = w.heap; spent = w.spent; cursor = w.cursor; limit = w.limit; frames = Begun below read ∷ w.frames }) (through now.placed.done now.placed.last) (forest_of (through now.placed.done now.placed.last))
+    course = course-turn code inputs start (record { tables = w.tables; heap = w.heap; spent = w.spent; cursor = w.cursor; limit = w.limit; frames = Begun below read ∷ w.frames })
+        (through now.placed.done now.placed.last) (forest_of (through now.placed.done now.placed.last))
         (λ s. running_at s st now.waits (forest_of (entries now.left ++ now.tail))) now.course
         (record { tables = t; heap = w.heap; spent = w.spent; cursor = s; limit = w.limit; frames = w.frames })
         (through (through now.placed.done now.placed.last) (new_entry s (End read))) (forest_of (through (through now.placed.done now.placed.last) (new_entry s (End read))))

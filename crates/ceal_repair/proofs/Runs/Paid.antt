@@ -9,7 +9,7 @@ use Rattle.ceal_order.proofs.Places.{in_head, in_tail, length-without, other_lef
 use Rattle.ceal_order.specs.Rising.{IsRising, IsBeforeAll}
 use Rattle.ceal_order.specs.Stamps.{is_in, place, without}
 use Rattle.ceal_repair.proofs.TableCalls.FewLooks.{owed-same}
-use Rattle.ceal_repair.specs.Looks.{owed, due, NoneDiffers, OneDiffers, writes_at, write_count, PaysBut, Pays, PaysFirst, LooksNever}
+use Rattle.ceal_repair.specs.Looks.{looks_owed, due, NoneDiffers, OneDiffers, writes_at, write_count, PaysBut, Pays, PaysFirst, LooksNever}
 use Rattle.ceal_repair.specs.Propagation.{Concludes}
 use Rattle.ceal_repair.specs.declared.advance.Progress.{Progress}
 use Rattle.ceal_repair.specs.declared.advance.Progress.TheVariants.{More, Done, Spent, OutOfFuel}
@@ -49,16 +49,17 @@ due-steps a b s n nodes mods stale =
     let o = owed-same a b mods stale in
     let k = ap write_count nodes ∙ count-changed s (steps_set n) a.trace.nodes (λ e. refl) in omega (arith, o, k)
 
-pub due-value : (a b : Tables) (s : ℕ) (w : Word) (n : ℕ) → b.trace.nodes ≡ with_value s w a.trace.nodes → owed b ≤ owed a + n → due b ≤ due a + n
+pub due-value : (a b : Tables) (s : ℕ) (w : Word) (n : ℕ) → b.trace.nodes ≡ with_value s w a.trace.nodes → looks_owed b ≤ looks_owed a + n → due b ≤ due a + n
 due-value a b s w n nodes o =
     let k = ap write_count nodes ∙ count-changed s (value_set w) a.trace.nodes (λ e. valued-same w e.node) in omega (arith, o, k)
 
-pub due-put : (a b : Tables) (s z : ℕ) (node : Node) (n : ℕ) → b.trace.nodes ≡ with_entry_after s (new_entry z node) a.trace.nodes → owed b ≤ owed a + n → due b ≤ due a + n + 3 * writes_at node
+pub due-put : (a b : Tables) (s z : ℕ) (node : Node) (n : ℕ) → b.trace.nodes ≡ with_entry_after s (new_entry z node) a.trace.nodes → looks_owed b ≤ looks_owed a + n
+    → due b ≤ due a + n + 3 * writes_at node
 due-put a b s z node n nodes o =
     let k = ap write_count nodes in
     let m = count-put s (new_entry z node) a.trace.nodes in omega (arith, o, k, m)
 
-pub due-same : (a b : Tables) → b.trace ≡ a.trace → owed b ≤ owed a → due b ≤ due a
+pub due-same : (a b : Tables) → b.trace ≡ a.trace → looks_owed b ≤ looks_owed a → due b ≤ due a
 due-same a b e o = let k = ap (λ t. write_count t.nodes) e in omega (arith, o, k)
 
 -- ---- what is paid
@@ -66,7 +67,8 @@ due-same a b e o = let k = ap (λ t. write_count t.nodes) e in omega (arith, o, 
 pub stays : (a b : Running) → due b.tables ≤ due a.tables → b.spent ≡ a.spent → NoneDiffers a.tables b.tables → Pays a b
 stays a b d s n = λ l. (omega (arith, n), omega (arith, d, s, n))
 
-pub step-pays : (a b : Running) (s n : ℕ) → b.tables.trace.nodes ≡ with_steps s n a.tables.trace.nodes → b.tables.mods ≡ a.tables.mods → b.tables.stale ≡ a.tables.stale → b.spent ≡ a.spent + 1 → PaysBut 5 a b
+pub step-pays : (a b : Running) (s n : ℕ) → b.tables.trace.nodes ≡ with_steps s n a.tables.trace.nodes → b.tables.mods ≡ a.tables.mods → b.tables.stale ≡ a.tables.stale → b.spent ≡ a.spent + 1
+    → PaysBut 5 a b
 step-pays a b s n nodes mods stale spent =
     let d = due-steps a.tables b.tables s n nodes mods stale in
     let m = ap (λ (c : Contents). c.differed) mods in
@@ -120,7 +122,8 @@ no-longer order (x ∷ xs) ys r h =
     let long = length-without x ys (h x (in_head x xs)) in omega (arith, rest, long)
 
 -- a block is made
-pub due-made : (a b : Tables) → b.trace ≡ a.trace → b.mods.looked ≡ a.mods.looked → (order : List ℕ) → IsRising order b.stale.stamps → ((r : ℕ) → is_in r b.stale.stamps ≡ true → is_in r a.stale.stamps ≡ true) → due b ≤ due a
+pub due-made : (a b : Tables) → b.trace ≡ a.trace → b.mods.looked ≡ a.mods.looked → (order : List ℕ) → IsRising order b.stale.stamps
+    → ((r : ℕ) → is_in r b.stale.stamps ≡ true → is_in r a.stale.stamps ≡ true) → due b ≤ due a
 due-made a b e l order r h =
     let k = ap (λ t. write_count t.nodes) e in
     let n = no-longer order b.stale.stamps a.stale.stamps r h in omega (arith, k, l, n)
@@ -130,7 +133,8 @@ pub pays-as : (a a' b b' : Running) → a.tables ≡ a'.tables → a.spent ≡ a
 pays-as a a' b b' t s u v h = rw (← t, ← s, ← u, ← v) h
 
 -- a run from nothing
-pub first-pays : (a : Running) → a.tables.trace.nodes ≡ new_entry 0 Root ∷ [] → a.tables.stale.stamps ≡ [] → LooksNever a.tables → a.spent ≡ 0 → (b c a' : Running) → a'.tables ≡ a.tables → a'.spent ≡ a.spent → c.tables ≡ b.tables → c.spent ≡ b.spent
+pub first-pays : (a : Running) → a.tables.trace.nodes ≡ new_entry 0 Root ∷ [] → a.tables.stale.stamps ≡ [] → LooksNever a.tables → a.spent ≡ 0 → (b c a' : Running) → a'.tables ≡ a.tables
+    → a'.spent ≡ a.spent → c.tables ≡ b.tables → c.spent ≡ b.spent
     → Pays a' b → PaysFirst c
 first-pays a nodes queue looks spent b c a' t s u v pays = λ l.
     let p = (pays-as a' a b c t s (sym u) (sym v) pays) l in
@@ -140,7 +144,7 @@ first-pays a nodes queue looks spent b c a' t s u v pays = λ l.
 
 -- ---- turns, of each of which one look is left over
 
-pub due-one : (a b : Tables) → b.trace ≡ a.trace → owed b ≤ owed a + 1 → due b ≤ due a + 1
+pub due-one : (a b : Tables) → b.trace ≡ a.trace → looks_owed b ≤ looks_owed a + 1 → due b ≤ due a + 1
 due-one a b e o = let k = ap (λ t. write_count t.nodes) e in omega (arith, o, k)
 
 -- a turn more

@@ -12,7 +12,7 @@ use Rattle.ceal_code.specs.declared.waits.Floor.{Floor}
 use Rattle.ceal_heap.specs.Heap.{Contents}
 use Rattle.ceal_repair.proofs.Runs.UnitSteps.{StepMore, NodeMore, cursor-here, here-next, late-next}
 use Rattle.ceal_repair.specs.Entries.{entries}
-use Rattle.ceal_repair.specs.Kept.{QueuedBehind}
+use Rattle.ceal_repair.specs.Kept.{QueuedAfter}
 use Rattle.ceal_repair.specs.Moment.{View, Start, RunningNow}
 use Rattle.ceal_repair.specs.Repairs.{code_of, inputs_of, view, RunsAt}
 use Rattle.ceal_order.specs.declared.stamp.Stamp.{Stamp}
@@ -55,7 +55,8 @@ pub record IsStepped (old new : Repair) : Type 0 where
 pub stepped-view : (old new : Repair) → IsStepped old new
     → view new ≡ record { tables = new.running.now.tables; heap = (view old).heap; spent = (view old).spent + 1; cursor = (view old).cursor; limit = (view old).limit; frames = (view old).frames }
 stepped-view old new h = ap view h.rest
-    ∙ ap₂ (λ (heap : Contents) (n : ℕ). record { tables = new.running.now.tables; heap = heap; spent = n; cursor = (view old).cursor; limit = (view old).limit; frames = (view old).frames }) h.heap h.spent
+    ∙ ap₂ (λ (heap : Contents)
+        (n : ℕ). record { tables = new.running.now.tables; heap = heap; spent = n; cursor = (view old).cursor; limit = (view old).limit; frames = (view old).frames }) h.heap h.spent
 
 pub cursor-kept : (old new : Repair) → IsStepped old new → new.cursor.0 ≡ old.cursor.0
 cursor-kept old new h = ap (λ (r : Repair). r.cursor.0) h.rest
@@ -65,13 +66,14 @@ stepped-here start st old new now h =
     subst (λ s. has_node s new.running.now.tables.trace.nodes ≡ true) (sym (cursor-kept old new h))
     (here-next (code_of old) (inputs_of old) start st (view old) now new.running.now.tables h.more)
 
-pub stepped-late : (start : Start) (st : Stack) (old new : Repair) → RunsAt start st old → IsStepped old new → QueuedBehind new.cursor.0 new.running.now.tables
+pub stepped-late : (start : Start) (st : Stack) (old new : Repair) → RunsAt start st old → IsStepped old new → QueuedAfter new.cursor.0 new.running.now.tables
 stepped-late start st old new now h =
-    subst (λ s. QueuedBehind s new.running.now.tables) (sym (cursor-kept old new h))
+    subst (λ s. QueuedAfter s new.running.now.tables) (sym (cursor-kept old new h))
     (late-next (code_of old) (inputs_of old) start st (view old) now new.running.now.tables h.more)
 
 -- a node that was put in after the cursor
-pub node-behind : (old new : Repair) → IsStepped old new → (s : ℕ) (node : Node) (t : Tables) → NodeMore new.cursor.0 s node new.running.now.tables t → NodeMore old.cursor.0 s node new.running.now.tables t
+pub node-behind : (old new : Repair) → IsStepped old new → (s : ℕ) (node : Node) (t : Tables) → NodeMore new.cursor.0 s node new.running.now.tables t
+    → NodeMore old.cursor.0 s node new.running.now.tables t
 node-behind old new h s node t k = subst (λ c. NodeMore c s node new.running.now.tables t) (cursor-kept old new h) k
 
 pub put-view : (old new : Repair) → IsStepped old new → (t : Tables) (s : ℕ)

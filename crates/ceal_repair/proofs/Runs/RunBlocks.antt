@@ -1,5 +1,6 @@
 -- A run begins, and makes blocks.
-use Rattle.std.proofs.Common.{◌≡◌, ◌≢◌, ◌<◌, ◌≤◌, ℕ, zero, suc, ◌==◌, nat_le, pos, inl, inr, Bool, true, false, if◌then◌else◌, Option, Some, None, List, [], ◌∷◌, length, refl, sym, ap, ap₂, subst, ◌∙◌, slice_get, arith}
+use Rattle.std.proofs.Common.{◌≡◌, ◌≢◌, ◌<◌, ◌≤◌, ℕ, zero, suc, ◌==◌, nat_le, pos, inl, inr, Bool, true, false, if◌then◌else◌, Option, Some, None, List, [], ◌∷◌, length, refl, sym, ap, ap₂, subst}
+use Rattle.std.proofs.Common.{◌∙◌, slice_get, arith}
 use Rattle.std.proofs.lemmas.Bool.Decides.{eqb_tells}
 use Rattle.ceal_base.specs.Block.{Block}
 use Rattle.ceal_base.specs.Operators.{same_block}
@@ -21,7 +22,7 @@ use Rattle.ceal_heap.specs.Heap.{Contents, IsFree, IsMade, IsNew, KeepsBlocks, s
 use Rattle.ceal_mods.specs.Mods.{Contents as Mods, IsUntouched}
 use Rattle.ceal_mods.specs.declared.cell.Cell.{Cell}
 use Rattle.ceal_order.specs.Stamps.{is_in}
-use Rattle.ceal_repair.specs.Words.{HasBases, default_of, base_of, cleared}
+use Rattle.ceal_repair.specs.Words.{HasBases, default_by_standing, base_of, base_cleared}
 use Rattle.ceal_repair.specs.Kept.{Kept, base_in}
 use Rattle.ceal_repair.specs.declared.tables.Tables.{Tables}
 use Rattle.ceal_trace.specs.Nodes.{new_entry, is_read, held_by}
@@ -45,7 +46,8 @@ pub first-bases : (structs : List StructInfo) (inputs : List Block) (heap : Cont
     → ((p : Place) → ((i : ℕ) → i < length inputs → same_block p.block (Input i) ≡ false) → base_in new p ≡ base_in old p)
     → HasBases structs inputs heap new
 first-bases structs inputs heap old new empty fresh of_inputs others = record {
-  of_cores = λ b field. others (record { block = Core b; field = field }) (λ i h. refl) ∙ (ap (λ (c : Cell). c.base) (fresh (record { block = Core b; field = field })) ∙ rw (empty.blocks (Core b)) refl);
+  of_cores =
+      λ b field. others (record { block = Core b; field = field }) (λ i h. refl) ∙ (ap (λ (c : Cell). c.base) (fresh (record { block = Core b; field = field })) ∙ rw (empty.blocks (Core b)) refl);
   of_inputs = λ i field. go i field (nat_le (length inputs) i) refl;
 }
   where
@@ -80,7 +82,7 @@ past-last (x ∷ xs) = past-last xs
 
 -- where the modifiables of the last block are set back, each base of a number that is free is 0
 free-bare : (structs : List StructInfo) (heap : Contents) (id : BlockId) (before : Option Shape) (field : ℕ) → IsFree heap id before
-    → cleared structs before field (default_of structs (standing heap id) field) ≡ Num (pos 0)
+    → base_cleared structs before field (default_by_standing structs (standing heap id) field) ≡ Num (pos 0)
 free-bare structs heap id None field free = rw (free.0, past-last heap.numbers) refl
 free-bare structs heap id (Some shape) field free = rw free (go (is_cell (field_kind structs shape field)))
   where
@@ -90,7 +92,7 @@ free-bare structs heap id (Some shape) field free = rw free (go (is_cell (field_
 
 module _ (structs : List StructInfo) (inputs : List Block) (heap heap' : Contents) (mods mods' : Mods) (id : BlockId) (shape : Shape) (words : List Word) where
   pub made-bases : (before : Option Shape) → IsFree heap id before → IsMade heap' id shape words → KeepsBlocks id heap heap'
-      → ((p : Place) → same_block p.block id ≡ true → base_in mods' p ≡ base_of structs shape [] p.field (cleared structs before p.field (base_in mods p)))
+      → ((p : Place) → same_block p.block id ≡ true → base_in mods' p ≡ base_of structs shape [] p.field (base_cleared structs before p.field (base_in mods p)))
       → ((p : Place) → same_block p.block id ≡ false → base_in mods' p ≡ base_in mods p)
       → HasBases structs inputs heap mods → HasBases structs inputs heap' mods'
   made-bases before free new_one kept here others h = record { of_cores = cores; of_inputs = of_inputs }
@@ -98,16 +100,17 @@ module _ (structs : List StructInfo) (inputs : List Block) (heap heap' : Content
       default-here : (field : ℕ) (now : Word) → now ≡ Num (pos 0) → base_of structs shape [] field now ≡ cell_default (field_kind structs shape field)
       default-here field now bare = rw bare refl
 
-      cores : (b field : ℕ) → base_in mods' (record { block = Core b; field = field }) ≡ default_of structs (standing heap' (Core b)) field
+      cores : (b field : ℕ) → base_in mods' (record { block = Core b; field = field }) ≡ default_by_standing structs (standing heap' (Core b)) field
       cores b field = go (same_block (Core b) id) refl
         where
-          go : (same : Bool) → same_block (Core b) id ≡ same → base_in mods' (record { block = Core b; field = field }) ≡ default_of structs (standing heap' (Core b)) field
+          go : (same : Bool) → same_block (Core b) id ≡ same → base_in mods' (record { block = Core b; field = field }) ≡ default_by_standing structs (standing heap' (Core b)) field
           go true e =
               let is : Core b ≡ id = block-same (Core b) id e in
               here (record { block = Core b; field = field }) e
-              ∙ (default-here field (cleared structs before field (base_in mods (record { block = Core b; field = field })))
-              (ap (λ w. cleared structs before field w) (h.of_cores b field) ∙ subst (λ i. cleared structs before field (default_of structs (standing heap i) field) ≡ Num (pos 0)) (sym is) (free-bare structs heap id before field free))
-              ∙ subst (λ i. cell_default (field_kind structs shape field) ≡ default_of structs (standing heap' i) field) (sym is) (rw new_one.1 refl))
+              ∙ (default-here field (base_cleared structs before field (base_in mods (record { block = Core b; field = field })))
+              (ap (λ w. base_cleared structs before field w) (h.of_cores b field)
+              ∙ subst (λ i. base_cleared structs before field (default_by_standing structs (standing heap i) field) ≡ Num (pos 0)) (sym is) (free-bare structs heap id before field free))
+              ∙ subst (λ i. cell_default (field_kind structs shape field) ≡ default_by_standing structs (standing heap' i) field) (sym is) (rw new_one.1 refl))
           go false e =
               let away : Core b ≢ id = λ same. let clash : true ≡ false = sym (block-refl (Core b)) ∙ (rw (← same) at e) in cc in
               others (record { block = Core b; field = field }) e ∙ (h.of_cores b field ∙ rw (kept (Core b) away) refl)

@@ -17,7 +17,8 @@ use Rattle.ceal_code.specs.Step.{Stack, Quiet, Writes, next}
 use Rattle.ceal_heap.specs.Heap.{Contents, IsLive}
 use Rattle.ceal_order.specs.Stamps.{Distinct, is_in, place}
 use Rattle.ceal_order.specs.declared.stamp.Stamp.{Stamp}
-use Rattle.ceal_repair.proofs.Nodes.NodeItems.{more, forest-step, forest-put, nodes-step, nodes-put, steps-there, has-last, opened-step, opened-put, began-step, began-put, contents-put, contents-step, contents-base, stored-base, known-append, known-items-append, known-items-after}
+use Rattle.ceal_repair.proofs.Nodes.NodeItems.{more, forest-step, forest-put, nodes-step, nodes-put, steps-there, has-last, opened-step, opened-put, began-step, began-put, contents-put}
+use Rattle.ceal_repair.proofs.Nodes.NodeItems.{contents-step, contents-base, stored-base, known-append, known-items-append, known-items-after}
 use Rattle.ceal_repair.proofs.Nodes.NodeBlocks.{node_blocks, blocks_at, allocs-nodes, blocks-step, blocks-put, node-step, unfinished-ends}
 use Rattle.ceal_repair.specs.Blocks.{There, HasBlocks, Given}
 use Rattle.ceal_repair.specs.Entries.{entries}
@@ -25,7 +26,7 @@ use Rattle.ceal_repair.specs.Moment.{View, Start, Placed, CourseNow, RunningNow,
 use Rattle.ceal_repair.specs.Words.{words_of}
 use Rattle.ceal_repair.specs.Frames.{Frame}
 use Rattle.ceal_repair.specs.Covered.{contents_after}
-use Rattle.ceal_repair.specs.Kept.{Kept, QueuedBehind, Records, base_in}
+use Rattle.ceal_repair.specs.Kept.{Kept, QueuedAfter, Records, base_in}
 use Rattle.ceal_repair.specs.declared.tables.Tables.{Tables}
 use Rattle.ceal_theory.proofs.TurnMachine.ChosenNumbers.{chosen-law}
 use Rattle.ceal_theory.proofs.Store.KnownBlocks.{knowing-law}
@@ -54,7 +55,7 @@ pub record NodeMore (cursor s : ℕ) (node : Node) (old new : Tables) : Type 0 w
   pub nodes : new.trace.nodes ≡ with_entry_after cursor (new_entry s node) old.trace.nodes
   pub inserted : Inserted cursor s node old.trace.nodes new.trace.nodes
   pub bases : (p : Place) → base_in new.mods p ≡ base_in old.mods p
-  pub behind : QueuedBehind cursor old → QueuedBehind s new
+  pub behind : QueuedAfter cursor old → QueuedAfter s new
   pub kept : Kept new
 
 -- ---- the nodes
@@ -76,7 +77,7 @@ module _ (start : Start) (v : View) (reads : List ℕ) (behind : List Entry) (p 
   pub step-stamps : (t : Tables) → StepMore v.cursor v.tables t → stamps_in t.trace.nodes ≡ stamps_in v.tables.trace.nodes
   step-stamps t h = ap stamps_in h.nodes ∙ stamps-changed v.cursor (steps_set (steps_at v.cursor v.tables.trace.nodes + 1)) (λ e. refl) v.tables.trace.nodes
 
-  pub step-late : (t : Tables) → StepMore v.cursor v.tables t → QueuedBehind v.cursor t
+  pub step-late : (t : Tables) → StepMore v.cursor v.tables t → QueuedAfter v.cursor t
   step-late t h r i = subst (λ ss. place v.cursor ss < place r ss) (sym (step-stamps t h)) (p.late r (subst (λ (q : _). is_in r q.stamps ≡ true) h.queue i))
 
   unfoldable pub placed-step : (t : Tables) (n : ℕ) → StepMore v.cursor v.tables t → Placed start (record v { tables = t; spent = n }) reads behind
@@ -169,7 +170,8 @@ module _ (code : Code) (inputs : List Block) (start : Start) (v : View) (front :
   course-turn v' front' items' m' w store' e t number same given =
       let old : Machine = m (state_at code inputs v c.store (start.chosen ++ c.made)) in
       let new : Machine = m' (state_at code inputs v' store' (start.chosen ++ c.made)) in
-      let g : GoesKnowing code (length inputs) start.old (known_after [] items) w new = (knowing-law code).turns (λ k. 0) (length inputs) start.old (known_after [] items) old new w c.knows (t (λ k. 0)) (inl number) in
+      let g : GoesKnowing code (length inputs) start.old (known_after [] items) w new =
+          (knowing-law code).turns (λ k. 0) (length inputs) start.old (known_after [] items) old new w c.knows (t (λ k. 0)) (inl number) in
       let k : KnownItems (length inputs) [] (items ++ w) g.known = known-items-append c.mentions g.items in
       let after : g.known ≡ known_after [] (items ++ w) = known-items-after k in
       record {
@@ -201,24 +203,29 @@ module _ (code : Code) (inputs : List Block) (start : Start) (st : Stack) (v : V
     bare = now.bare;
     bounds = now.bounds;
     blocks = blocks-more code inputs v.heap v.tables t now.blocks v.cursor h;
-    course = course-turn code inputs start v (through now.placed.done now.placed.last) (forest_of (through now.placed.done now.placed.last)) (λ s. running_at s st now.waits (forest_of (entries now.left ++ now.tail))) now.course
+    course = course-turn code inputs start v (through now.placed.done now.placed.last) (forest_of (through now.placed.done now.placed.last))
+        (λ s. running_at s st now.waits (forest_of (entries now.left ++ now.tail))) now.course
         (record { tables = t; heap = v.heap; spent = v.spent + 1; cursor = v.cursor; limit = v.limit; frames = v.frames })
         (through now.placed.done (more now.placed.last)) (forest_of (through now.placed.done (more now.placed.last))) (λ s. running_at s after now.waits (forest_of (entries now.left ++ now.tail)))
         (item.Step ∷ []) now.course.store (forest-step now.placed.done now.placed.last)
         (λ names. rw does refl) refl
-        (λ p k. now.course.same p (subst (λ bs. KnownBlock (length inputs) bs p.block) (ap (known_after []) (forest-step now.placed.done now.placed.last) ∙ known-append [] (forest_of (through now.placed.done now.placed.last)) (item.Step ∷ [])) k)
-        ∙ (sym (ap (λ (f : Store). f p) (contents-step (base_in v.tables.mods) now.placed.done now.placed.last)) ∙ ap (λ d. contents_after (base_in d) (through now.placed.done (more now.placed.last)) p) (sym h.mods)))
+        (λ p k. now.course.same p (subst (λ bs. KnownBlock (length inputs) bs p.block)
+            (ap (known_after []) (forest-step now.placed.done now.placed.last) ∙ known-append [] (forest_of (through now.placed.done now.placed.last)) (item.Step ∷ [])) k)
+        ∙ (sym (ap (λ (f : Store). f p) (contents-step (base_in v.tables.mods) now.placed.done now.placed.last))
+        ∙ ap (λ d. contents_after (base_in d) (through now.placed.done (more now.placed.last)) p) (sym h.mods)))
         now.course.given;
   }
 
   pub here-next : (t : Tables) → StepMore v.cursor v.tables t → has_node v.cursor t.trace.nodes ≡ true
-  here-next t h = cursor-here start (record v { tables = t; spent = v.spent + 1 }) now.reads (entries now.left ++ now.tail) (placed-step start v now.reads (entries now.left ++ now.tail) now.placed t (v.spent + 1) h)
+  here-next t h = cursor-here start (record v { tables = t; spent = v.spent + 1 }) now.reads (entries now.left ++ now.tail)
+      (placed-step start v now.reads (entries now.left ++ now.tail) now.placed t (v.spent + 1) h)
 
-  pub late-next : (t : Tables) → StepMore v.cursor v.tables t → QueuedBehind v.cursor t
+  pub late-next : (t : Tables) → StepMore v.cursor v.tables t → QueuedAfter v.cursor t
   late-next t h = step-late start v now.reads (entries now.left ++ now.tail) now.placed t h
 
   -- a step and a node after all in front
-  pub items-next : (s : ℕ) (node : Node) → forest_of (through (through now.placed.done (more now.placed.last)) (new_entry s node)) ≡ forest_of (through now.placed.done now.placed.last) ++ (item.Step ∷ item_of node)
+  pub items-next : (s : ℕ) (node : Node)
+      → forest_of (through (through now.placed.done (more now.placed.last)) (new_entry s node)) ≡ forest_of (through now.placed.done now.placed.last) ++ (item.Step ∷ item_of node)
   items-next s node = forest-put (through now.placed.done (more now.placed.last)) s node
       ∙ (ap (λ is. is ++ item_of node) (forest-step now.placed.done now.placed.last) ∙ append_assoc (forest_of (through now.placed.done now.placed.last)) (item.Step ∷ []) (item_of node))
 
@@ -232,7 +239,8 @@ module _ (code : Code) (inputs : List Block) (start : Start) (st : Stack) (v : V
 
   -- the next act names only known blocks
   pub knows-act : KnownAct (length inputs) (known_after [] (forest_of (through now.placed.done now.placed.last))) (next code (words_of code inputs v.heap) st)
-  knows-act = next-known (length inputs) (known_after [] (forest_of (through now.placed.done now.placed.last))) (words_of code inputs v.heap) now.course.knows.plain (words_of code inputs v.heap) (λ b k. refl) code st now.course.knows.mode.0
+  knows-act = next-known (length inputs) (known_after [] (forest_of (through now.placed.done now.placed.last))) (words_of code inputs v.heap) now.course.knows.plain (words_of code inputs v.heap)
+      (λ b k. refl) code st now.course.knows.mode.0
 
   -- a write: its node is after the cursor
   pub now-write : (after : Stack) (p : Place) (value : Word) (t1 t : Tables) (s : ℕ) → next code (words_of code inputs v.heap) st ≡ Writes p value after
@@ -251,8 +259,10 @@ module _ (code : Code) (inputs : List Block) (start : Start) (st : Stack) (v : V
     tails = now.tails;
     bare = now.bare;
     bounds = now.bounds;
-    blocks = blocks-node code inputs v.heap t1 t (blocks-more code inputs v.heap v.tables t1 now.blocks v.cursor h) v.cursor s (Write p value) k (λ bs. refl) (λ q w r. absurd (cc)) (λ i key e. absurd (cc));
-    course = course-turn code inputs start v (through now.placed.done now.placed.last) (forest_of (through now.placed.done now.placed.last)) (λ s. running_at s st now.waits (forest_of (entries now.left ++ now.tail))) now.course
+    blocks = blocks-node code inputs v.heap t1 t (blocks-more code inputs v.heap v.tables t1 now.blocks v.cursor h) v.cursor s (Write p value) k (λ bs. refl) (λ q w r. absurd (cc))
+        (λ i key e. absurd (cc));
+    course = course-turn code inputs start v (through now.placed.done now.placed.last) (forest_of (through now.placed.done now.placed.last))
+        (λ s. running_at s st now.waits (forest_of (entries now.left ++ now.tail))) now.course
         (record { tables = t; heap = v.heap; spent = v.spent + 1; cursor = s; limit = v.limit; frames = v.frames })
         (through (through now.placed.done (more now.placed.last)) (new_entry s (Write p value))) (forest_of (through (through now.placed.done (more now.placed.last)) (new_entry s (Write p value))))
         (λ s. running_at s after now.waits (forest_of (entries now.left ++ now.tail)))
@@ -264,7 +274,8 @@ module _ (code : Code) (inputs : List Block) (start : Start) (st : Stack) (v : V
         now.course.given;
   }
     where
-      known-there : (s : ℕ) (node : Node) (q : Place) → KnownBlock (length inputs) (known_after [] (forest_of (through (through now.placed.done (more now.placed.last)) (new_entry s (Write p value))))) q.block
+      known-there : (s : ℕ) (node : Node) (q : Place)
+          → KnownBlock (length inputs) (known_after [] (forest_of (through (through now.placed.done (more now.placed.last)) (new_entry s (Write p value))))) q.block
           → KnownBlock (length inputs) (known_after [] (forest_of (through now.placed.done now.placed.last))) q.block
       known-there s node q c = subst (λ bs. KnownBlock (length inputs) bs q.block)
           (ap (known_after []) (items-next s (Write p value)) ∙ known-append [] (forest_of (through now.placed.done now.placed.last)) (item.Step ∷ item.Write p value ∷ [])) c

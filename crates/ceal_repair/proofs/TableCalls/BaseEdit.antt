@@ -25,9 +25,9 @@ use Rattle.ceal_repair.proofs.QueueCover.ChainChanges.{base-edited}
 use Rattle.ceal_repair.proofs.TableCalls.CallsKeepCover.{awake-behind}
 use Rattle.ceal_repair.proofs.Lists.ListsOfNodes.{other-place}
 use Rattle.ceal_repair.specs.Covered.{queue_of, and_one}
-use Rattle.ceal_repair.specs.Kept.{InStep, Kept, ChainedBy, IsAwake, IsStale, IsHonestRecord, QueuedBehind, Records, base_in, contents_at}
+use Rattle.ceal_repair.specs.Kept.{InStep, Kept, ChainedBy, IsAwake, IsStale, IsHonestRecord, QueuedAfter, Records, base_in, contents_at}
 use Rattle.ceal_repair.specs.Lists.{IsTabled}
-use Rattle.ceal_repair.specs.Looks.{owed, NoneDiffers}
+use Rattle.ceal_repair.specs.Looks.{looks_owed, NoneDiffers}
 use Rattle.ceal_repair.specs.declared.tables.Tables.{Tables}
 use Rattle.ceal_trace.specs.Nodes.{Entry, Timeline, stamps_in, node_at, position, is_read, with_value}
 use Rattle.ceal_trace.specs.declared.node.Node.TheVariants.{Root}
@@ -63,7 +63,8 @@ module _ (old : Tables) (k : Kept old) (p : Place) (v : Word) (mods : Contents) 
   pub edit-tabled : IsTabled old.trace.nodes mods
   edit-tabled = record { writes = λ q. writes-same q ∙ k.step.tabled.writes q; reads = λ q. edit-reads q ∙ k.step.tabled.reads q }
 
-  pub edit-kept : (root : ℕ) → head_of (stamps_in old.trace.nodes) ≡ Some root → node_at root old.trace.nodes ≡ Some Root → (stale : Waiting) → ((t : ℕ) → is_in t old.stale.stamps ≡ true → is_in t stale.stamps ≡ true)
+  pub edit-kept : (root : ℕ) → head_of (stamps_in old.trace.nodes) ≡ Some root → node_at root old.trace.nodes ≡ Some Root → (stale : Waiting)
+      → ((t : ℕ) → is_in t old.stale.stamps ≡ true → is_in t stale.stamps ≡ true)
       → ((t : ℕ) → is_in t old.stale.stamps ≡ false → is_in t stale.stamps ≡ true → is_in t (cell_of mods p).reads ≡ true)
       → IsAwake (stamps_in old.trace.nodes) (cell_of mods p) root stale.stamps
       → Mods_follow (stamps_in old.trace.nodes) mods → Queue_follows (stamps_in old.trace.nodes) stale → Kept (tables old.trace mods stale old.memo)
@@ -78,7 +79,8 @@ module _ (old : Tables) (k : Kept old) (p : Place) (v : Word) (mods : Contents) 
       memo = k.step.memo;
       stale = qf;
     };
-    chained = base-edited (queue_of old.stale.stamps) (queue_of stale.stamps) old.trace.nodes (base_in old.mods) (base_in mods) p base-away (keeps-among old.stale.stamps stale.stamps old.trace.nodes (λ t i. more t))
+    chained = base-edited (queue_of old.stale.stamps) (queue_of stale.stamps) old.trace.nodes (base_in old.mods) (base_in mods) p base-away
+        (keeps-among old.stale.stamps stale.stamps old.trace.nodes (λ t i. more t))
         (woken old.trace.nodes refl first is_root) k.chained;
   }
     where
@@ -98,7 +100,7 @@ pub record Looking (old t : Tables) (n : ℕ) : Type 0 where
   pub cells : t.mods.cells ≡ old.mods.cells
   pub memo : t.memo ≡ old.memo
   pub late : (s : ℕ) → is_in s t.stale.stamps ≡ true → n ≤ position s t.trace.nodes
-  pub looks : owed t ≤ owed old
+  pub looks : looks_owed t ≤ looks_owed old
   pub differed : NoneDiffers old t
 
 pub looking-first : (old : Tables) → Kept old → Looking old old 0
@@ -141,7 +143,8 @@ module _ (t : Tables) (k : Kept t) (s : ℕ) (stale : Waiting) (first : IsEarlie
   popped-read = k.step.queued s first.there
 
 -- one that was not stale
-pub looked-more : (old t t' : Tables) (n s : ℕ) → Looking old t n → is_in s t.stale.stamps ≡ true → Kept t' → t'.trace ≡ t.trace → t'.mods.cells ≡ t.mods.cells → t'.memo ≡ t.memo → QueuedBehind s t' → owed t' ≤ owed t → NoneDiffers t t' → Looking old t' (n + 1)
+pub looked-more : (old t t' : Tables) (n s : ℕ) → Looking old t n → is_in s t.stale.stamps ≡ true → Kept t' → t'.trace ≡ t.trace → t'.mods.cells ≡ t.mods.cells → t'.memo ≡ t.memo → QueuedAfter s t'
+    → looks_owed t' ≤ looks_owed t → NoneDiffers t t' → Looking old t' (n + 1)
 looked-more old t t' n s l i kept trace cells memo behind looks differed = record {
   kept = kept;
   trace = trace ∙ l.trace;
@@ -205,7 +208,8 @@ module _ (order q : List ℕ) (s : ℕ) (next : Option Stamp) (here : is_in s or
       go (Some n) a b = absurd (b (omega (arith, a)))
 
   -- so what is popped says whether it was there
-  pub pop-tells : (q' : Waiting) (w : Waiting) (o : Option Stamp) → w.stamps ≡ q → IfSome o (λ r. IsEarliest order q r.0) → IfSome o (λ r. IsBefore order next r.0) → IfSome o (λ r. IsWithout r.0 q q'.stamps)
+  pub pop-tells : (q' : Waiting) (w : Waiting) (o : Option Stamp) → w.stamps ≡ q → IfSome o (λ r. IsEarliest order q r.0) → IfSome o (λ r. IsBefore order next r.0)
+      → IfSome o (λ r. IsWithout r.0 q q'.stamps)
       → IfNone o ((r : ℕ) → is_in r q ≡ true → ¬ IsBefore order next r) → IfNone o (q' ≡ w) → IsWithout s q q'.stamps × (is_some o ≡ is_in s q)
   pop-tells q' w None e a b c d f =
       let none = popped-none d in

@@ -70,7 +70,8 @@ module _ (front : List Entry) (e e' : Entry) (back : List Entry) (stamp : e'.sta
   writes-with : (p : Place) → write_of p e'.stamp e'.node (writes_in p back) ≡ write_of p e.stamp e.node (writes_in p back) → writes_in p (front ++ e' ∷ back) ≡ writes_in p (front ++ e ∷ back)
   writes-with p k = writes-append p front (e' ∷ back) ∙ (ap (λ (l : List WriteOf). writes_in p front ++ l) k ∙ sym (writes-append p front (e ∷ back)))
 
-  pub tabled-with : (mods : Contents) → ((p : Place) → reads_at p e'.node ≡ reads_at p e.node) → ((p : Place) → write_of p e'.stamp e'.node (writes_in p back) ≡ write_of p e.stamp e.node (writes_in p back))
+  pub tabled-with : (mods : Contents) → ((p : Place) → reads_at p e'.node ≡ reads_at p e.node)
+      → ((p : Place) → write_of p e'.stamp e'.node (writes_in p back) ≡ write_of p e.stamp e.node (writes_in p back))
       → IsTabled (front ++ e ∷ back) mods → IsTabled (front ++ e' ∷ back) mods
   tabled-with mods r w t = record {
     writes = λ p. t.writes p ∙ sym (writes-with p (w p));
@@ -149,13 +150,15 @@ write-cut-chained front e back nodes p v was is distinct mods new base t q q' mo
     go : (contents_after (base_in mods) front p ≡ v) ⊎ IsAwake (stamps_in nodes) (cell_of new p) e.stamp q' → Chained (queue_of q') (base_in new) (front ++ back)
     go (inl same) = chained-base (queue_of q') (base_in mods) (base_in new) (front ++ back) (λ x. sym (base x))
         (write-idle (queue_of q) (queue_of q') (base_in mods) front back e.stamp e.steps p v (keeps-among q q' front (λ z i. more z)) (keeps-among q q' back (λ z i. more z))
-        (front-held (queue_of q) (base_in mods) front (record { stamp = e.stamp; node = Write p v; steps = e.steps } ∷ back) (λ z i. is-queued z q false (none-in-front front e back nodes was distinct q first z i)) c' p ∙ same) c')
+        (front-held (queue_of q) (base_in mods) front (record { stamp = e.stamp; node = Write p v; steps = e.steps } ∷ back)
+            (λ z i. is-queued z q false (none-in-front front e back nodes was distinct q first z i)) c' p ∙ same) c')
     go (inr woken) = chained-base (queue_of q') (base_in mods) (base_in new) (front ++ back) (λ x. sym (base x))
         (write-removed (queue_of q) (queue_of q') (base_in mods) front back e.stamp e.steps p v (keeps-among q q' front (λ z i. more z)) (keeps-among q q' back (λ z i. more z))
         (awake-cut front e back nodes was distinct new p q' t woken) c')
 
 -- a read is taken out, that was queued or not
-pub read-cut-chained : (front : List Entry) (e : Entry) (back nodes : List Entry) (p : Place) (v : Word) (u : UnitId) (x : ℕ) (args : List Word) → nodes ≡ front ++ e ∷ back → e.node ≡ Read p v u x args → Distinct (stamps_in nodes)
+pub read-cut-chained : (front : List Entry) (e : Entry) (back nodes : List Entry) (p : Place) (v : Word) (u : UnitId) (x : ℕ) (args : List Word) → nodes ≡ front ++ e ∷ back
+    → e.node ≡ Read p v u x args → Distinct (stamps_in nodes)
     → (mods : Contents) → IsTabled nodes mods → (q q' : List ℕ) → ((t : ℕ) → t ≢ e.stamp → is_in t q ≡ true → is_in t q' ≡ true)
     → (is_in e.stamp q ≡ true → IsAwake (stamps_in nodes) (cell_of mods p) e.stamp q') → Chained (queue_of q) (base_in mods) nodes → Chained (queue_of q') (base_in mods) (front ++ back)
 read-cut-chained front e back nodes p v u x args was is distinct mods t q q' more awake c = go (is_in e.stamp q) refl
@@ -192,7 +195,8 @@ popped-as : (front : List Entry) (e : Entry) (back nodes : List Entry) (p : Plac
 popped-as front e back nodes p v u x args was is q base c =
     subst (λ (l : List Entry). Chained q base l) (was ∙ ap (λ x. front ++ x ∷ back) (entry-of e (Read p v u x args) is)) c
 
-popped-held : (front : List Entry) (e : Entry) (back nodes : List Entry) (p : Place) (v : Word) (u : UnitId) (x : ℕ) (args : List Word) → nodes ≡ front ++ e ∷ back → e.node ≡ Read p v u x args → Distinct (stamps_in nodes)
+popped-held : (front : List Entry) (e : Entry) (back nodes : List Entry) (p : Place) (v : Word) (u : UnitId) (x : ℕ) (args : List Word) → nodes ≡ front ++ e ∷ back → e.node ≡ Read p v u x args
+    → Distinct (stamps_in nodes)
     → (q : List ℕ) (base : Store) → ((r : ℕ) → is_in r q ≡ true → place e.stamp (stamps_in nodes) ≤ place r (stamps_in nodes))
     → Chained (and_one e.stamp q) base nodes → recorded_last base front p ≡ contents_after base front p
 popped-held front e back nodes p v u x args was is distinct q base first c =
@@ -204,7 +208,8 @@ popped-held front e back nodes p v u x args was is distinct q base first c =
     apart z i k = absurd (let no : true ≡ false = sym i ∙ (ap (λ w. is_in w (stamps_in front)) k ∙ own-apart front e back (subst (λ (l : List Entry). Distinct (stamps_in l)) was distinct)) in cc)
 
 -- a read that was popped gets the content of its moment
-pub settled-chained : (front : List Entry) (e : Entry) (back nodes : List Entry) (p : Place) (v w : Word) (u : UnitId) (x : ℕ) (args : List Word) → nodes ≡ front ++ e ∷ back → e.node ≡ Read p v u x args → Distinct (stamps_in nodes)
+pub settled-chained : (front : List Entry) (e : Entry) (back nodes : List Entry) (p : Place) (v w : Word) (u : UnitId) (x : ℕ) (args : List Word) → nodes ≡ front ++ e ∷ back
+    → e.node ≡ Read p v u x args → Distinct (stamps_in nodes)
     → (mods : Contents) → IsTabled nodes mods → (q q' : List ℕ) → ((t : ℕ) → is_in t q ≡ true → is_in t q' ≡ true) → IsAwake (stamps_in nodes) (cell_of mods p) e.stamp q'
     → ((r : ℕ) → is_in r q ≡ true → place e.stamp (stamps_in nodes) ≤ place r (stamps_in nodes))
     → contents_after (base_in mods) front p ≡ w → Chained (and_one e.stamp q) (base_in mods) nodes
@@ -220,7 +225,8 @@ settled-chained front e back nodes p v w u x args was is distinct mods t q q' mo
     parted = subst (λ (l : List Entry). Distinct (stamps_in l)) was distinct
 
 -- or it has that
-pub honest-chained : (front : List Entry) (e : Entry) (back nodes : List Entry) (p : Place) (v : Word) (u : UnitId) (x : ℕ) (args : List Word) → nodes ≡ front ++ e ∷ back → e.node ≡ Read p v u x args → Distinct (stamps_in nodes)
+pub honest-chained : (front : List Entry) (e : Entry) (back nodes : List Entry) (p : Place) (v : Word) (u : UnitId) (x : ℕ) (args : List Word) → nodes ≡ front ++ e ∷ back
+    → e.node ≡ Read p v u x args → Distinct (stamps_in nodes)
     → (q : List ℕ) (base : Store) → ((r : ℕ) → is_in r q ≡ true → place e.stamp (stamps_in nodes) ≤ place r (stamps_in nodes))
     → contents_after base front p ≡ v → Chained (and_one e.stamp q) base nodes → Chained (queue_of q) base nodes
 honest-chained front e back nodes p v u x args was is distinct q base first same c =

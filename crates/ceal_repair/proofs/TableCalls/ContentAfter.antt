@@ -77,5 +77,6 @@ first-kept t nodes whole closed bare none entries mf ef qf = record {
   chained = rw nodes (tt, tt);
 }
 
-pub value-over : (a b : Tables) (s : ℕ) → a.trace ≡ b.trace → a.mods.cells ≡ b.mods.cells → (p : Place) → contents_after (base_in a.mods) (up_to s a.trace.nodes) p ≡ contents_after (base_in b.mods) (up_to s b.trace.nodes) p
+pub value-over : (a b : Tables) (s : ℕ) → a.trace ≡ b.trace → a.mods.cells ≡ b.mods.cells → (p : Place)
+    → contents_after (base_in a.mods) (up_to s a.trace.nodes) p ≡ contents_after (base_in b.mods) (up_to s b.trace.nodes) p
 value-over a b s e f p = rw (e, f) refl

@@ -19,11 +19,13 @@ use Rattle.ceal_order.proofs.RisingLemmas.{rising_deleted, in_order}
 use Rattle.ceal_order.specs.Stamps.{Distinct, is_in, place, OneMore}
 use Rattle.ceal_order.specs.declared.stamp.Stamp.{Stamp}
 use Rattle.ceal_queue.specs.Queue.{Waiting, IsWithout, Follows as Queue_follows}
-use Rattle.ceal_repair.proofs.QueueCover.NodeChanges.{PartAt, part-at, part-without, node-has, are-reads, fewer-reads, no-read, cell-same, tabled-same, before-node, looked-up, chained-base, chained-more, chained-and, is-queued}
+use Rattle.ceal_repair.proofs.QueueCover.NodeChanges.{PartAt, part-at, part-without, node-has, are-reads, fewer-reads, no-read, cell-same, tabled-same, before-node, looked-up, chained-base}
+use Rattle.ceal_repair.proofs.QueueCover.NodeChanges.{chained-more, chained-and, is-queued}
 use Rattle.ceal_repair.proofs.Lists.PartedLists.{false-of}
 use Rattle.ceal_repair.proofs.Lists.ListChanges.{own-gone}
 use Rattle.ceal_repair.proofs.QueueCover.ChainChanges.{IsQuiet, quiet-cut, read-honest}
-use Rattle.ceal_repair.proofs.TableCalls.CallsKeepCover.{there-before, behind-cut, alloc-quiet, end-quiet, tabled-with, write-cut-chained, read-cut-chained, settled-chained, honest-chained, none-in-front}
+use Rattle.ceal_repair.proofs.TableCalls.CallsKeepCover.{there-before, behind-cut, alloc-quiet, end-quiet, tabled-with, write-cut-chained, read-cut-chained, settled-chained, honest-chained}
+use Rattle.ceal_repair.proofs.TableCalls.CallsKeepCover.{none-in-front}
 use Rattle.ceal_repair.proofs.Lists.ListsOfNodes.{alloc-no-write, end-no-write, other-place, write-listed, read-listed, tabled-out, tabled-cut-write, tabled-cut-read, free-of}
 use Rattle.ceal_repair.proofs.Lists.KeyedNodes.{keyed-as, keyed-out, keyed-cut, none-of}
 use Rattle.ceal_repair.proofs.TableCalls.PutKeepsTables.{tables}
@@ -65,7 +67,8 @@ write-there old k s p v h =
 pub read-there : (old : Tables) → InStep old → (s : ℕ) (p : Place) (v : Word) → Records p v (node_at s old.trace.nodes) → is_in s (cell_of old.mods p).reads ≡ true
 read-there old k s p v r =
     let c = part-at s (Read p v r.unit r.var r.args) old.trace.nodes r.is in
-    subst (λ z. is_in z (cell_of old.mods p).reads ≡ true) c.stamp (read-listed c.front c.e c.back p v r.unit r.var r.args c.node old.mods (subst (λ (l : List Entry). IsTabled l old.mods) c.was k.tabled))
+    subst (λ z. is_in z (cell_of old.mods p).reads ≡ true) c.stamp
+        (read-listed c.front c.e c.back p v r.unit r.var r.args c.node old.mods (subst (λ (l : List Entry). IsTabled l old.mods) c.was k.tabled))
 
 pub by-queue : {X : Type 0} (r : ℕ) (q : List ℕ) → (is_in r q ≡ true → X) → (is_in r q ≡ false → X) → X
 by-queue {X} r q f g = go (is_in r q) refl
@@ -90,7 +93,8 @@ still-first order q m s out first r i = elim (eqb_tells r s) [
 
 -- the moment of a node is after those before it
 pub moment : (s : ℕ) (n : Node) (t : Tables) (c : PartAt s n t.trace.nodes) → (p : Place) → contents_at s t p ≡ contents_after (base_in t.mods) c.front p
-moment s n t c p = ap (λ (l : List Entry). contents_after (base_in t.mods) l p) (subst (λ z. before z t.trace.nodes ≡ c.front) c.stamp (ap (before c.e.stamp) c.was ∙ before-node c.e c.back c.front c.apart))
+moment s n t c p =
+    ap (λ (l : List Entry). contents_after (base_in t.mods) l p) (subst (λ z. before z t.trace.nodes ≡ c.front) c.stamp (ap (before c.e.stamp) c.was ∙ before-node c.e c.back c.front c.apart))
 
 -- ---- one node is taken out
 
@@ -143,12 +147,14 @@ module _ (old : Tables) (k : Kept old) (s : ℕ) (n : Node) (at_it : node_at s o
       no-alloc-read p i h = rw h refl
 
       tabled : IsTabled tr.nodes old.mods
-      tabled = subst (λ (l : List Entry). IsTabled l old.mods) (sym left) (tabled-out cutting.front cutting.e cutting.back old.mods (λ p. no-alloc-read p cutting.e.node (cutting.node ∙ e)) (λ p. alloc-no-write p cutting.e.stamp cutting.e.node (writes_in p cutting.back) b key (cutting.node ∙ e)) (tabled-old old.mods k.step.tabled))
+      tabled = subst (λ (l : List Entry). IsTabled l old.mods) (sym left) (tabled-out cutting.front cutting.e cutting.back old.mods (λ p. no-alloc-read p cutting.e.node (cutting.node ∙ e))
+          (λ p. alloc-no-write p cutting.e.stamp cutting.e.node (writes_in p cutting.back) b key (cutting.node ∙ e)) (tabled-old old.mods k.step.tabled))
 
   -- a write, with what that affects woken
   module _ (p : Place) (v : Word) (e : n ≡ Write p v) (mods : Contents) (change : Changes old.mods mods p (without_write s (cell_of old.mods p))) where
     pub write-cut-tabled : IsTabled tr.nodes mods
-    write-cut-tabled = subst (λ (l : List Entry). IsTabled l mods) (sym left) (tabled-cut-write cutting.front cutting.e cutting.back parted p v (cutting.node ∙ e) old.mods mods (tabled-old old.mods k.step.tabled)
+    write-cut-tabled =
+        subst (λ (l : List Entry). IsTabled l mods) (sym left) (tabled-cut-write cutting.front cutting.e cutting.back parted p v (cutting.node ∙ e) old.mods mods (tabled-old old.mods k.step.tabled)
         (subst (λ z. Changes old.mods mods p (without_write z (cell_of old.mods p))) (sym cutting.stamp) change))
 
     pub write-cut-free : IsFree s mods
@@ -163,18 +169,21 @@ module _ (old : Tables) (k : Kept old) (s : ℕ) (n : Node) (at_it : node_at s o
 
     pub write-cut-behind : (stale : Waiting) → Queue_follows (stamps_in old.trace.nodes) stale
         → ((t : ℕ) → is_in t old.stale.stamps ≡ false → is_in t stale.stamps ≡ true → place s (stamps_in old.trace.nodes) < place t (stamps_in old.trace.nodes))
-        → (z : ℕ) → place z (stamps_in old.trace.nodes) < place s (stamps_in old.trace.nodes) → ((r : ℕ) → is_in r old.stale.stamps ≡ true → place z (stamps_in old.trace.nodes) < place r (stamps_in old.trace.nodes))
+        → (z : ℕ) → place z (stamps_in old.trace.nodes) < place s (stamps_in old.trace.nodes)
+        → ((r : ℕ) → is_in r old.stale.stamps ≡ true → place z (stamps_in old.trace.nodes) < place r (stamps_in old.trace.nodes))
         → (r : ℕ) → is_in r stale.stamps ≡ true → place z (stamps_in tr.nodes) < place r (stamps_in tr.nodes)
     write-cut-behind stale qf ahead z lt late r i =
         let here = node-has s n old.trace.nodes at_it in
         let inside = in_order r stale.stamps (stamps_in old.trace.nodes) qf i in
         let z-in = there-before z (stamps_in old.trace.nodes) (let b = place_below s (stamps_in old.trace.nodes) here in omega (arith, lt, b)) in
-        let z-not : z ≢ s = λ w. absurd (let no : place s (stamps_in old.trace.nodes) < place s (stamps_in old.trace.nodes) = subst (λ y. place y (stamps_in old.trace.nodes) < place s (stamps_in old.trace.nodes)) w lt in omega (arith, no)) in
+        let z-not : z ≢ s = λ w. absurd (let no : place s (stamps_in old.trace.nodes) < place s (stamps_in old.trace.nodes) =
+            subst (λ y. place y (stamps_in old.trace.nodes) < place s (stamps_in old.trace.nodes)) w lt in omega (arith, no)) in
         by-queue r old.stale.stamps
         (λ j. behind-cut s (stamps_in tr.nodes) (stamps_in old.trace.nodes) more.stamps z r z-in inside z-not
         (λ w. absurd (let no : true ≡ false = sym j ∙ (ap (λ y. is_in y old.stale.stamps) w ∙ unqueued (rw e refl)) in cc)) (late r j))
         (λ j. behind-cut s (stamps_in tr.nodes) (stamps_in old.trace.nodes) more.stamps z r z-in inside z-not
-        (λ w. absurd (let no : place s (stamps_in old.trace.nodes) < place s (stamps_in old.trace.nodes) = subst (λ y. place s (stamps_in old.trace.nodes) < place y (stamps_in old.trace.nodes)) w (ahead r j i) in omega (arith, no)))
+        (λ w. absurd (let no : place s (stamps_in old.trace.nodes) < place s (stamps_in old.trace.nodes) =
+            subst (λ y. place s (stamps_in old.trace.nodes) < place y (stamps_in old.trace.nodes)) w (ahead r j i) in omega (arith, no)))
         (let a = ahead r j i in omega (arith, a, lt)))
 
     pub write-cut-kept : (stale : Waiting) → ((t : ℕ) → is_in t old.stale.stamps ≡ true → is_in t stale.stamps ≡ true)
@@ -234,7 +243,8 @@ tells (Alloc b j) = false
 tells (Write q w) = false
 
 module _ (old : Tables) (k : Kept old) (s z : ℕ) (p : Place) (v : Word) (r : Records p v (node_at s old.trace.nodes)) (fin : end_in s old.trace.nodes ≡ Some z)
-    (one two : Timeline) (is1 : one.nodes ≡ without_entry s old.trace.nodes) (more1 : OneMoreNode s one.nodes old.trace.nodes) (is2 : two.nodes ≡ without_entry z one.nodes) (more2 : OneMoreNode z two.nodes one.nodes)
+    (one two : Timeline) (is1 : one.nodes ≡ without_entry s old.trace.nodes) (more1 : OneMoreNode s one.nodes old.trace.nodes) (is2 : two.nodes ≡ without_entry z one.nodes)
+        (more2 : OneMoreNode z two.nodes one.nodes)
     (whole1 : IsTrace one) (mods : Contents) (change : Changes old.mods mods p (without_read s (cell_of old.mods p)))
     (memo : Entered) (entered : Holds memo (without_key s (entries_in old.trace.nodes))) where
   read-part : PartAt s (Read p v r.unit r.var r.args) old.trace.nodes
@@ -247,7 +257,8 @@ module _ (old : Tables) (k : Kept old) (s z : ℕ) (p : Place) (v : Word) (r : R
   parted1 = subst (λ (l : List Entry). Distinct (stamps_in l)) read-part.was k.step.whole.order.distinct
 
   gone1 : has_node s one.nodes ≡ false
-  gone1 = subst (λ z. has_node z one.nodes ≡ false) read-part.stamp (subst (λ (l : List Entry). has_node read-part.e.stamp l ≡ false) (sym left1) (own-gone read-part.front read-part.e read-part.back parted1))
+  gone1 = subst (λ z. has_node z one.nodes ≡ false) read-part.stamp
+      (subst (λ (l : List Entry). has_node read-part.e.stamp l ≡ false) (sym left1) (own-gone read-part.front read-part.e read-part.back parted1))
 
   pub end-was : node_at z old.trace.nodes ≡ Some (End (stamp-of s))
   end-was = k.step.whole.end_node z s fin
@@ -271,7 +282,8 @@ module _ (old : Tables) (k : Kept old) (s z : ℕ) (p : Place) (v : Word) (r : R
   parted2 = subst (λ (l : List Entry). Distinct (stamps_in l)) end-part.was whole1.order.distinct
 
   gone2 : has_node z two.nodes ≡ false
-  gone2 = subst (λ y. has_node y two.nodes ≡ false) end-part.stamp (subst (λ (l : List Entry). has_node end-part.e.stamp l ≡ false) (sym left2) (own-gone end-part.front end-part.e end-part.back parted2))
+  gone2 = subst (λ y. has_node y two.nodes ≡ false) end-part.stamp
+      (subst (λ (l : List Entry). has_node end-part.e.stamp l ≡ false) (sym left2) (own-gone end-part.front end-part.e end-part.back parted2))
 
   tabled1 : IsTabled one.nodes mods
   tabled1 = subst (λ (l : List Entry). IsTabled l mods) (sym left1) (tabled-cut-read read-part.front read-part.e read-part.back parted1 p v r.unit r.var r.args read-part.node old.mods mods
@@ -281,7 +293,8 @@ module _ (old : Tables) (k : Kept old) (s z : ℕ) (p : Place) (v : Word) (r : R
   keyed1 = keyed-cut s old.trace.nodes one.nodes is1 gone1 memo entered
 
   tabled2 : IsTabled two.nodes mods
-  tabled2 = subst (λ (l : List Entry). IsTabled l mods) (sym left2) (tabled-out end-part.front end-part.e end-part.back mods (λ q. end-no-read q (stamp-of s) end-part.e.node end-part.node) (λ q. end-no-write q end-part.e.stamp end-part.e.node (writes_in q end-part.back) (stamp-of s) end-part.node) (subst (λ (l : List Entry). IsTabled l mods) end-part.was tabled1))
+  tabled2 = subst (λ (l : List Entry). IsTabled l mods) (sym left2) (tabled-out end-part.front end-part.e end-part.back mods (λ q. end-no-read q (stamp-of s) end-part.e.node end-part.node)
+      (λ q. end-no-write q end-part.e.stamp end-part.e.node (writes_in q end-part.back) (stamp-of s) end-part.node) (subst (λ (l : List Entry). IsTabled l mods) end-part.was tabled1))
 
   keyed2 : IsKeyed two.nodes memo
   keyed2 = keyed-out z one.nodes two.nodes is2 gone2 (End (stamp-of s)) end-is refl memo keyed1
@@ -314,8 +327,10 @@ module _ (old : Tables) (k : Kept old) (s z : ℕ) (p : Place) (v : Word) (r : R
         let z-here = node-has z (End (stamp-of s)) old.trace.nodes end-was in
         let inside = in_order r stale.stamps (stamps_in old.trace.nodes) qf i in
         let y-in = there-before y (stamps_in old.trace.nodes) (let b = place_below z (stamps_in old.trace.nodes) z-here in omega (arith, lt, b, far)) in
-        let y-s : y ≢ s = λ w. absurd (let no : place s (stamps_in old.trace.nodes) < place s (stamps_in old.trace.nodes) = subst (λ x. place x (stamps_in old.trace.nodes) < place s (stamps_in old.trace.nodes)) w lt in omega (arith, no)) in
-        let y-z : y ≢ z = λ w. absurd (let no : place z (stamps_in old.trace.nodes) < place s (stamps_in old.trace.nodes) = subst (λ x. place x (stamps_in old.trace.nodes) < place s (stamps_in old.trace.nodes)) w lt in omega (arith, no, far)) in
+        let y-s : y ≢ s = λ w. absurd (let no : place s (stamps_in old.trace.nodes) < place s (stamps_in old.trace.nodes) =
+            subst (λ x. place x (stamps_in old.trace.nodes) < place s (stamps_in old.trace.nodes)) w lt in omega (arith, no)) in
+        let y-z : y ≢ z = λ w. absurd (let no : place z (stamps_in old.trace.nodes) < place s (stamps_in old.trace.nodes) =
+            subst (λ x. place x (stamps_in old.trace.nodes) < place s (stamps_in old.trace.nodes)) w lt in omega (arith, no, far)) in
         let r-s : r ≢ s = λ w. absurd (let no : true ≡ false = sym i ∙ (ap (λ x. is_in x stale.stamps) w ∙ none) in cc) in
         let r-z : r ≢ z = λ w. absurd (let no : true ≡ false = sym i ∙ (ap (λ x. is_in x stale.stamps) w ∙ end-none) in cc) in
         let a = ahead r i in
@@ -323,7 +338,8 @@ module _ (old : Tables) (k : Kept old) (s z : ℕ) (p : Place) (v : Word) (r : R
         (behind-cut s (stamps_in one.nodes) (stamps_in old.trace.nodes) more1.stamps y r y-in inside y-s r-s (omega (arith, a, lt)))
 
     pub read-cut-kept : (is_in s old.stale.stamps ≡ true → IsAwake (stamps_in old.trace.nodes) (cell_of old.mods p) s stale.stamps) → IsTrace two → NoLooseEnd two.nodes
-        → Mods_follow (stamps_in old.trace.nodes) mods → HasNone s memo → Memo_follows (stamps_in old.trace.nodes) memo → Queue_follows (stamps_in old.trace.nodes) stale → Kept (tables two mods stale memo)
+        → Mods_follow (stamps_in old.trace.nodes) mods → HasNone s memo → Memo_follows (stamps_in old.trace.nodes) memo → Queue_follows (stamps_in old.trace.nodes) stale
+        → Kept (tables two mods stale memo)
     read-cut-kept awake whole closed mf none-s ef qf = record {
       step = record {
         whole = whole;
@@ -342,9 +358,11 @@ module _ (old : Tables) (k : Kept old) (s z : ℕ) (p : Place) (v : Word) (r : R
           (subst (λ (l : List Entry). Chained (queue_of stale.stamps) (base_in old.mods) l) (sym left2)
           (quiet-cut (queue_of stale.stamps) (base_in old.mods) end-part.front end-part.e end-part.back (end-as (stamp-of s) end-part.e.node end-part.node)
           (subst (λ (l : List Entry). Chained (queue_of stale.stamps) (base_in old.mods) l) (sym left1 ∙ end-part.was)
-          (read-cut-chained read-part.front read-part.e read-part.back old.trace.nodes p v r.unit r.var r.args read-part.was read-part.node k.step.whole.order.distinct old.mods k.step.tabled old.stale.stamps stale.stamps
+          (read-cut-chained read-part.front read-part.e read-part.back old.trace.nodes p v r.unit r.var r.args read-part.was read-part.node k.step.whole.order.distinct old.mods k.step.tabled
+              old.stale.stamps stale.stamps
           (λ t ne. keep t (λ e. ne (e ∙ sym read-part.stamp)))
-          (λ i. subst (λ y. IsAwake (stamps_in old.trace.nodes) (cell_of old.mods p) y stale.stamps) (sym read-part.stamp) (awake (subst (λ y. is_in y old.stale.stamps ≡ true) read-part.stamp i))) k.chained))));
+          (λ i. subst (λ y. IsAwake (stamps_in old.trace.nodes) (cell_of old.mods p) y stale.stamps) (sym read-part.stamp)
+              (awake (subst (λ y. is_in y old.stale.stamps ≡ true) read-part.stamp i))) k.chained))));
     }
 
 -- ---- a read is looked at
@@ -359,7 +377,8 @@ records-same p q v w n a b = same (some-same (Read p v a.unit a.var a.args) (Rea
     same : Read p v a.unit a.var a.args ≡ Read q w b.unit b.var b.args → (p ≡ q) × (v ≡ w)
     same e = (grind (arith, e), grind (arith, e))
 
-module _ (old : Tables) (k : InStep old) (s : ℕ) (p : Place) (v now : Word) (r : Records p v (node_at s old.trace.nodes)) (found : now ≡ value_before (stamps_in old.trace.nodes) s (cell_of old.mods p)) where
+module _ (old : Tables) (k : InStep old) (s : ℕ) (p : Place) (v now : Word) (r : Records p v (node_at s old.trace.nodes))
+    (found : now ≡ value_before (stamps_in old.trace.nodes) s (cell_of old.mods p)) where
   pub look-part : PartAt s (Read p v r.unit r.var r.args) old.trace.nodes
   look-part = part-at s (Read p v r.unit r.var r.args) old.trace.nodes r.is
 
@@ -405,20 +424,23 @@ module _ (old : Tables) (k : InStep old) (s : ℕ) (p : Place) (v now : Word) (r
         stale = k.stale;
       };
       chained = chained-base (queue_of old.stale.stamps) (base_in old.mods) (base_in mods) old.trace.nodes bases
-          (honest-chained look-part.front look-part.e look-part.back old.trace.nodes p v r.unit r.var r.args look-part.was look-part.node k.whole.order.distinct old.stale.stamps (base_in old.mods) own-first (now-front ∙ sym same) own-chained);
+          (honest-chained look-part.front look-part.e look-part.back old.trace.nodes p v r.unit r.var r.args look-part.was look-part.node k.whole.order.distinct old.stale.stamps
+              (base_in old.mods) own-first (now-front ∙ sym same) own-chained);
     }
 
     -- or gets it
     pub settled-kept : (stale : Waiting) → ((t : ℕ) → is_in t old.stale.stamps ≡ true → is_in t stale.stamps ≡ true)
         → ((t : ℕ) → is_in t old.stale.stamps ≡ false → is_in t stale.stamps ≡ true → is_in t (cell_of old.mods p).reads ≡ true)
         → IsAwake (stamps_in old.trace.nodes) (cell_of old.mods p) s stale.stamps → Queue_follows (stamps_in old.trace.nodes) stale
-        → (tr : Timeline) → tr.nodes ≡ with_value s now old.trace.nodes → node_at s tr.nodes ≡ option_map (valued now) (node_at s old.trace.nodes) → SameBut s old.trace.nodes tr.nodes → IsTrace tr → NoLooseEnd tr.nodes
+        → (tr : Timeline) → tr.nodes ≡ with_value s now old.trace.nodes → node_at s tr.nodes ≡ option_map (valued now) (node_at s old.trace.nodes) → SameBut s old.trace.nodes tr.nodes → IsTrace tr
+        → NoLooseEnd tr.nodes
         → Kept (tables tr mods stale old.memo)
     settled-kept stale more only awake qf tr is at_s others whole closed = record {
       step = record {
         whole = whole;
         closed = closed;
-        tabled = subst (λ (l : List Entry). IsTabled l mods) (sym there) (tabled-with look-part.front look-part.e new look-part.back refl mods (λ q. reads-as q look-part.e.node look-part.node) (λ q. writes-as q look-part.e.stamp (writes_in q look-part.back) look-part.e.node look-part.node)
+        tabled = subst (λ (l : List Entry). IsTabled l mods) (sym there) (tabled-with look-part.front look-part.e new look-part.back refl mods (λ q. reads-as q look-part.e.node look-part.node)
+            (λ q. writes-as q look-part.e.stamp (writes_in q look-part.back) look-part.e.node look-part.node)
             (subst (λ (l : List Entry). IsTabled l mods) look-part.was (tabled-same old.trace.nodes old.mods mods (sym cells) k.tabled)));
         keyed = keyed-as old.trace.nodes tr.nodes old.memo key-still k.keyed;
         queued = λ z i. read-still z (queued z i);
@@ -435,9 +457,12 @@ module _ (old : Tables) (k : InStep old) (s : ℕ) (p : Place) (v now : Word) (r
         queued : AreReads old.trace.nodes stale.stamps
         queued = are-reads p old.trace.nodes old.mods old.stale.stamps stale.stamps k.whole.order.distinct k.tabled k.queued only
 
-        settled : Chained (queue_of stale.stamps) (base_in mods) (look-part.front ++ record { stamp = look-part.e.stamp; node = Read p now r.unit r.var r.args; steps = look-part.e.steps } ∷ look-part.back)
-        settled = chained-base (queue_of stale.stamps) (base_in old.mods) (base_in mods) (look-part.front ++ record { stamp = look-part.e.stamp; node = Read p now r.unit r.var r.args; steps = look-part.e.steps } ∷ look-part.back) bases
-            (settled-chained look-part.front look-part.e look-part.back old.trace.nodes p v now r.unit r.var r.args look-part.was look-part.node k.whole.order.distinct old.mods k.tabled old.stale.stamps stale.stamps more
+        settled : Chained (queue_of stale.stamps) (base_in mods)
+            (look-part.front ++ record { stamp = look-part.e.stamp; node = Read p now r.unit r.var r.args; steps = look-part.e.steps } ∷ look-part.back)
+        settled = chained-base (queue_of stale.stamps) (base_in old.mods) (base_in mods)
+            (look-part.front ++ record { stamp = look-part.e.stamp; node = Read p now r.unit r.var r.args; steps = look-part.e.steps } ∷ look-part.back) bases
+            (settled-chained look-part.front look-part.e look-part.back old.trace.nodes p v now r.unit r.var r.args look-part.was look-part.node k.whole.order.distinct old.mods k.tabled
+                old.stale.stamps stale.stamps more
             (subst (λ z. IsAwake (stamps_in old.trace.nodes) (cell_of old.mods p) z stale.stamps) (sym look-part.stamp) awake) own-first now-front own-chained)
 
         reads-as : (q : Place) (i : Node) → i ≡ Read p v r.unit r.var r.args → reads_at q (Read p now r.unit r.var r.args) ≡ reads_at q i
@@ -467,7 +492,8 @@ module _ (old : Tables) (k : InStep old) (s : ℕ) (p : Place) (v now : Word) (r
         ]
 
 -- one that is not queued, and none before it, has the content of its moment
-pub unqueued-honest : (t : Tables) → Kept t → (s : ℕ) → is_in s t.stale.stamps ≡ false → ((r : ℕ) → is_in r t.stale.stamps ≡ true → place s (stamps_in t.trace.nodes) ≤ place r (stamps_in t.trace.nodes)) → IsHonestRecord s t
+pub unqueued-honest : (t : Tables) → Kept t → (s : ℕ) → is_in s t.stale.stamps ≡ false
+    → ((r : ℕ) → is_in r t.stale.stamps ≡ true → place s (stamps_in t.trace.nodes) ≤ place r (stamps_in t.trace.nodes)) → IsHonestRecord s t
 unqueued-honest t k s none first p v r =
     sym (moment s (Read p v r.unit r.var r.args) t at p
     ∙ read-honest (queue_of t.stale.stamps) (base_in t.mods) at.front at.e.stamp at.e.steps p v r.unit r.var r.args at.back none-front
@@ -523,7 +549,8 @@ dismissed-kept t k s here first honest stale out qf =
     }
 
 -- a queue of the same stamps will do
-pub same-queue : (old : Tables) → Kept old → (s : ℕ) → is_in s old.stale.stamps ≡ false → (stale : Waiting) → IsWithout s old.stale.stamps stale.stamps → Queue_follows (stamps_in old.trace.nodes) stale
+pub same-queue : (old : Tables) → Kept old → (s : ℕ) → is_in s old.stale.stamps ≡ false → (stale : Waiting) → IsWithout s old.stale.stamps stale.stamps
+    → Queue_follows (stamps_in old.trace.nodes) stale
     → Kept (tables old.trace old.mods stale old.memo)
 same-queue old k s none stale out qf = record {
   step = record {
@@ -560,7 +587,8 @@ pub same-write : (p q : Place) (v w : Word) → Write p v ≡ Write q w → (p �
 same-write p q v w e = (grind (arith, e), grind (arith, e))
 
 -- what a write's place holds at its moment
-pub held-at : (old : Tables) → InStep old → (s : ℕ) (p : Place) (v held : Word) → node_at s old.trace.nodes ≡ Some (Write p v) → held ≡ value_before (stamps_in old.trace.nodes) s (cell_of old.mods p) → held ≡ contents_at s old p
+pub held-at : (old : Tables) → InStep old → (s : ℕ) (p : Place) (v held : Word) → node_at s old.trace.nodes ≡ Some (Write p v)
+    → held ≡ value_before (stamps_in old.trace.nodes) s (cell_of old.mods p) → held ≡ contents_at s old p
 held-at old k s p v held h found =
     let c = part-at s (Write p v) old.trace.nodes h in
     found ∙ (looked-up s c.front c.e c.back old.trace.nodes old.mods p c.was c.stamp k.whole.order.distinct k.tabled ∙ sym (moment s (Write p v) old c p))

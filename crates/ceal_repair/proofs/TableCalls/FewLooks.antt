@@ -8,7 +8,7 @@ use Rattle.ceal_base.specs.declared.word.Place.{Place}
 use Rattle.ceal_base.specs.declared.word.Word.{Word}
 use Rattle.ceal_code.proofs.Words.SameIsEqual.{some-same, none-some}
 use Rattle.ceal_mods.specs.Mods.{Contents}
-use Rattle.ceal_repair.specs.Looks.{owed, due, writes_at, write_count}
+use Rattle.ceal_repair.specs.Looks.{looks_owed, due, writes_at, write_count}
 use Rattle.ceal_repair.specs.declared.tables.Tables.{Tables}
 use Rattle.ceal_trace.specs.Nodes.{Entry, node_at, without_entry}
 use Rattle.ceal_trace.specs.declared.node.Node.{Node}
@@ -39,20 +39,21 @@ count-write s p v (e ∷ es) h = elim (eqb_tells e.stamp s) [
 pub one-look : (a b : Contents) → b.looked ≡ min (a.looked + 1) (2 ^ 64 - 1) → b.looked ≤ a.looked + 1
 one-look a b e = let m = min-le_left (a.looked + 1) (2 ^ 64 - 1) in omega (arith, e, m)
 
-pub owed-same : (old new : Tables) → new.mods ≡ old.mods → new.stale ≡ old.stale → owed new ≤ owed old
+pub owed-same : (old new : Tables) → new.mods ≡ old.mods → new.stale ≡ old.stale → looks_owed new ≤ looks_owed old
 owed-same old new e f = rw (e, f) (omega arith)
 
-pub due-cut : (old new : Tables) (s : ℕ) → new.trace.nodes ≡ without_entry s old.trace.nodes → owed new ≤ owed old → due new ≤ due old
+pub due-cut : (old new : Tables) (s : ℕ) → new.trace.nodes ≡ without_entry s old.trace.nodes → looks_owed new ≤ looks_owed old → due new ≤ due old
 due-cut old new s is o =
     let a = count-without s old.trace.nodes in
     let b = ap write_count is in omega (arith, o, a, b)
 
-pub due-cut-write : (old new : Tables) (s : ℕ) (p : Place) (v : Word) → node_at s old.trace.nodes ≡ Some (Write p v) → new.trace.nodes ≡ without_entry s old.trace.nodes → owed new ≤ owed old + 3 → due new ≤ due old
+pub due-cut-write : (old new : Tables) (s : ℕ) (p : Place) (v : Word) → node_at s old.trace.nodes ≡ Some (Write p v) → new.trace.nodes ≡ without_entry s old.trace.nodes
+    → looks_owed new ≤ looks_owed old + 3 → due new ≤ due old
 due-cut-write old new s p v at is o =
     let a = count-write s p v old.trace.nodes at in
     let b = ap write_count is in omega (arith, o, a, b)
 
-pub due-cut-two : (old new : Tables) (s z : ℕ) → new.trace.nodes ≡ without_entry z (without_entry s old.trace.nodes) → owed new ≤ owed old → due new ≤ due old
+pub due-cut-two : (old new : Tables) (s z : ℕ) → new.trace.nodes ≡ without_entry z (without_entry s old.trace.nodes) → looks_owed new ≤ looks_owed old → due new ≤ due old
 due-cut-two old new s z is o =
     let a = count-without s old.trace.nodes in
     let c = count-without z (without_entry s old.trace.nodes) in

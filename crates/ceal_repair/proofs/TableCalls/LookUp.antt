@@ -14,7 +14,7 @@ use Rattle.ceal_repair.proofs.QueueCover.NodeChanges.{before-node, behind-node}
 use Rattle.ceal_repair.proofs.Lists.PartedLists.{place-front, place-back, where-append, where-among, where-holds}
 use Rattle.ceal_repair.proofs.Lists.ListChanges.{back-apart, in-back, in-front, in-parts}
 use Rattle.ceal_repair.proofs.Lists.ListsOfNodes.{read-key-same, read-key-refl, key-refl}
-use Rattle.ceal_repair.specs.Lists.{key_of, entries_in, allocates, recalls, stamps_where, before, behind, between}
+use Rattle.ceal_repair.specs.Lists.{key_of, entries_in, allocates, recalls, stamps_where, before, nodes_after, between}
 use Rattle.ceal_theory.proofs.Reuse.TakenItems.{key-same}
 use Rattle.ceal_trace.proofs.Parts.{stamps-append, split_at}
 use Rattle.ceal_trace.specs.Nodes.{Entry, stamps_in, has_node, node_at, position}
@@ -80,12 +80,14 @@ module _ (f : Node → Bool) (front mid : List Entry) (u : Entry) (later : List 
 
   at-mid : (t : ℕ) → is_in t (stamps_in mid) ≡ true → place t (stamps_in nodes) ≡ length (stamps_in front) + place t (stamps_in mid)
   at-mid t i = rw order-is
-      (let a = place-back t (stamps_in front) (stamps_in mid ++ stamps_in (u ∷ later)) (back-apart (stamps_in front) (stamps_in mid ++ stamps_in (u ∷ later)) parts t (in-front (stamps_in mid) (stamps_in (u ∷ later)) t i)) in
+      (let a = place-back t (stamps_in front) (stamps_in mid ++ stamps_in (u ∷ later))
+          (back-apart (stamps_in front) (stamps_in mid ++ stamps_in (u ∷ later)) parts t (in-front (stamps_in mid) (stamps_in (u ∷ later)) t i)) in
       let b = place-front t (stamps_in mid) (stamps_in (u ∷ later)) i in omega (arith, a, b))
 
   at-later : (t : ℕ) → is_in t (stamps_in (u ∷ later)) ≡ true → place t (stamps_in nodes) ≡ length (stamps_in front) + (length (stamps_in mid) + place t (stamps_in (u ∷ later)))
   at-later t i = rw order-is
-      (let a = place-back t (stamps_in front) (stamps_in mid ++ stamps_in (u ∷ later)) (back-apart (stamps_in front) (stamps_in mid ++ stamps_in (u ∷ later)) parts t (in-back (stamps_in mid) (stamps_in (u ∷ later)) t i)) in
+      (let a = place-back t (stamps_in front) (stamps_in mid ++ stamps_in (u ∷ later))
+          (back-apart (stamps_in front) (stamps_in mid ++ stamps_in (u ∷ later)) parts t (in-back (stamps_in mid) (stamps_in (u ∷ later)) t i)) in
       let b = place-back t (stamps_in mid) (stamps_in (u ∷ later)) (back-apart (stamps_in mid) (stamps_in (u ∷ later)) rest t i) in omega (arith, a, b))
 
   at-until : place u.stamp (stamps_in nodes) ≡ length (stamps_in front) + length (stamps_in mid)
@@ -97,7 +99,8 @@ module _ (f : Node → Bool) (front mid : List Entry) (u : Entry) (later : List 
   -- what is between the two is one of those between
   one-between : (t : ℕ) → is_in t (stamps_where f nodes) ≡ true → place after (stamps_in nodes) < place t (stamps_in nodes) → place t (stamps_in nodes) < place u.stamp (stamps_in nodes)
       → is_in t (stamps_where f mid) ≡ true
-  one-between t i lo hi = middle (is_in t (stamps_where f mid)) refl (in-parts (stamps_where f front) (stamps_where f mid ++ stamps_where f (u ∷ later)) t (subst (λ (l : List ℕ). is_in t l ≡ true) list-is i) not-front-one)
+  one-between t i lo hi = middle (is_in t (stamps_where f mid)) refl
+      (in-parts (stamps_where f front) (stamps_where f mid ++ stamps_where f (u ∷ later)) t (subst (λ (l : List ℕ). is_in t l ≡ true) list-is i) not-front-one)
     where
       not-front-one : is_in t (stamps_where f front) ≡ false
       not-front-one = none (is_in t (stamps_where f front)) refl
@@ -158,7 +161,8 @@ pub record PartedTwice (after until : ℕ) (nodes : List Entry) : Type 0 where
   pub stamp : u.stamp ≡ until
   pub mid_is : between after until nodes ≡ mid
 
-parted-twice : (after until : ℕ) (nodes : List Entry) → Distinct (stamps_in nodes) → has_node after nodes ≡ true → has_node until nodes ≡ true → position after nodes < position until nodes → PartedTwice after until nodes
+parted-twice : (after until : ℕ) (nodes : List Entry) → Distinct (stamps_in nodes) → has_node after nodes ≡ true → has_node until nodes ≡ true → position after nodes < position until nodes
+    → PartedTwice after until nodes
 parted-twice after until nodes distinct h k lt = go (split_at after nodes h)
   where
     go : (front : List Entry) × (e : Entry) × (back : List Entry) × (nodes ≡ front ++ e ∷ back) × (e.stamp ≡ after) × (has_node after front ≡ false) → PartedTwice after until nodes
@@ -196,8 +200,8 @@ parted-twice after until nodes distinct h k lt = go (split_at after nodes h)
                     let b : place after (stamps_in nodes) ≡ place after (stamps_in (s.0 ++ s.1 ∷ [])) = rw order-two (place-front after (stamps_in (s.0 ++ s.1 ∷ [])) (stamps_in s.2) own) in
                     absurd (omega (arith, a, b, lt, last-one, place_below until (stamps_in (s.0 ++ s.1 ∷ [])) e))
 
-        behind-is : behind after nodes ≡ s.2
-        behind-is = subst (λ (a : ℕ). behind a nodes ≡ s.2) s.4 (ap (behind s.1.stamp) s.3 ∙ behind-node s.1 s.2 s.0 (rw (← s.4) at s.5))
+        behind-is : nodes_after after nodes ≡ s.2
+        behind-is = subst (λ (a : ℕ). nodes_after a nodes ≡ s.2) s.4 (ap (nodes_after s.1.stamp) s.3 ∙ behind-node s.1 s.2 s.0 (rw (← s.4) at s.5))
 
         more : (mid : List Entry) × (u : Entry) × (later : List Entry) × (s.2 ≡ mid ++ u ∷ later) × (u.stamp ≡ until) × (has_node until mid ≡ false) → PartedTwice after until nodes
         more m = record {
@@ -215,7 +219,8 @@ parted-twice after until nodes distinct h k lt = go (split_at after nodes h)
 module _ (f : Node → Bool) (after until : ℕ) (nodes : List Entry) (distinct : Distinct (stamps_in nodes)) (h : has_node after nodes ≡ true) (k : has_node until nodes ≡ true)
     (lt : position after nodes < position until nodes) where
   -- the first one between that is found
-  pub found-between : (s : ℕ) → IsFirstAfter (stamps_in nodes) (stamps_where f nodes) after s → place s (stamps_in nodes) < place until (stamps_in nodes) → head_of (stamps_where f (between after until nodes)) ≡ Some s
+  pub found-between : (s : ℕ) → IsFirstAfter (stamps_in nodes) (stamps_where f nodes) after s → place s (stamps_in nodes) < place until (stamps_in nodes)
+      → head_of (stamps_where f (between after until nodes)) ≡ Some s
   found-between s first hi =
       let p = parted-twice after until nodes distinct h k lt in
       rw p.mid_is (found-mid f p.front p.mid p.u p.later after nodes p.was distinct p.here p.last s first (rw p.stamp hi))

@@ -69,7 +69,8 @@ module _ (old : Tables) (k : Kept old) (after s : ℕ) (n : Node) (tr : Timeline
     step = record {
       whole = whole;
       closed = closed;
-      tabled = subst (λ (l : List Entry). IsTabled l old.mods) (sym putting.is) (tabled-in putting.front (new_entry s n) putting.back old.mods (λ p. rw e refl) (λ p. alloc-no-write p s n (writes_in p putting.back) b key e) tabled-old);
+      tabled = subst (λ (l : List Entry). IsTabled l old.mods) (sym putting.is)
+          (tabled-in putting.front (new_entry s n) putting.back old.mods (λ p. rw e refl) (λ p. alloc-no-write p s n (writes_in p putting.back) b key e) tabled-old);
       keyed = keyed-entered after s n old.trace.nodes tr.nodes is ins.new ins.node (OfAlloc key) (rw e refl) memo change;
       queued = still-queued;
       mods = mf;
@@ -82,12 +83,14 @@ module _ (old : Tables) (k : Kept old) (after s : ℕ) (n : Node) (tr : Timeline
   }
 
   -- the end of a read
-  pub end-kept : (r : Stamp) → n ≡ End r → Mods_follow (stamps_in tr.nodes) old.mods → Memo_follows (stamps_in tr.nodes) old.memo → Queue_follows (stamps_in tr.nodes) old.stale → Kept (tables tr old.mods old.stale old.memo)
+  pub end-kept : (r : Stamp) → n ≡ End r → Mods_follow (stamps_in tr.nodes) old.mods → Memo_follows (stamps_in tr.nodes) old.memo → Queue_follows (stamps_in tr.nodes) old.stale
+      → Kept (tables tr old.mods old.stale old.memo)
   end-kept r e mf ef qf = record {
     step = record {
       whole = whole;
       closed = closed;
-      tabled = subst (λ (l : List Entry). IsTabled l old.mods) (sym putting.is) (tabled-in putting.front (new_entry s n) putting.back old.mods (λ p. rw e refl) (λ p. end-no-write p s n (writes_in p putting.back) r e) tabled-old);
+      tabled = subst (λ (l : List Entry). IsTabled l old.mods) (sym putting.is)
+          (tabled-in putting.front (new_entry s n) putting.back old.mods (λ p. rw e refl) (λ p. end-no-write p s n (writes_in p putting.back) r e) tabled-old);
       keyed = keyed-in after s n old.trace.nodes tr.nodes is ins.new ins.node (rw e refl) old.memo k.step.keyed;
       queued = still-queued;
       mods = mf;
@@ -127,7 +130,8 @@ module _ (old : Tables) (k : Kept old) (after s : ℕ) (n : Node) (tr : Timeline
       memo = ef;
       stale = qf;
     };
-    chained = write-put-chained after s p v old.trace.nodes tr.nodes (subst (λ i. PutAfter after (new_entry s i) old.trace.nodes tr.nodes) e putting) whole.order.distinct old.mods mods (write-bases p v mods change)
+    chained = write-put-chained after s p v old.trace.nodes tr.nodes (subst (λ i. PutAfter after (new_entry s i) old.trace.nodes tr.nodes) e putting) whole.order.distinct old.mods mods
+        (write-bases p v mods change)
         (write-tabled p v e mods change) old.stale.stamps stale.stamps more awake k.chained;
   }
 
@@ -142,7 +146,8 @@ module _ (old : Tables) (k : Kept old) (after s : ℕ) (n : Node) (tr : Timeline
     step = record {
       whole = whole;
       closed = closed;
-      tabled = subst (λ (l : List Entry). IsTabled l mods) (sym putting.is) (tabled-read putting.front (new_entry s n) putting.back parted key.place v key.unit key.var key.args e old.mods mods tabled-old
+      tabled =
+          subst (λ (l : List Entry). IsTabled l mods) (sym putting.is) (tabled-read putting.front (new_entry s n) putting.back parted key.place v key.unit key.var key.args e old.mods mods tabled-old
           (subst (λ (l : List Entry). Changes old.mods mods key.place (with_read (stamps_in l) s (cell_of old.mods key.place))) putting.is change));
       keyed = keyed-entered after s n old.trace.nodes tr.nodes is ins.new ins.node (OfRead key) (rw e refl) memo entry;
       queued = still-queued;
@@ -153,7 +158,8 @@ module _ (old : Tables) (k : Kept old) (after s : ℕ) (n : Node) (tr : Timeline
     chained = chained-base (queue_of old.stale.stamps) (base_in old.mods) (base_in mods) tr.nodes (λ q. sym (read-bases q))
         (subst (λ (l : List Entry). Chained (queue_of old.stale.stamps) (base_in old.mods) l) (sym (putting.is ∙ ap (λ i. putting.front ++ new_entry s i ∷ putting.back) e))
         (read-put (queue_of old.stale.stamps) (base_in old.mods) putting.front putting.back s 0 key.place v key.unit key.var key.args
-        (front-held (queue_of old.stale.stamps) (base_in old.mods) putting.front putting.back none was key.place ∙ (ap (λ (l : List Entry). contents_after (base_in old.mods) l key.place) (sym putting.front_is) ∙ sym value)) was));
+        (front-held (queue_of old.stale.stamps) (base_in old.mods) putting.front putting.back none was key.place
+        ∙ (ap (λ (l : List Entry). contents_after (base_in old.mods) l key.place) (sym putting.front_is) ∙ sym value)) was));
   }
     where
       read-bases : (q : Place) → base_in mods q ≡ base_in old.mods q
@@ -199,7 +205,8 @@ steps-kept old k s n tr here is same others whole closed = go (Rattle.ceal_trace
           step = record {
             whole = whole;
             closed = closed;
-            tabled = subst (λ (l : List Entry). IsTabled l old.mods) (sym at) (tabled-with x.0 x.1 (steps_set n x.1) x.2 refl old.mods (λ p. refl) (λ p. refl) (subst (λ (l : List Entry). IsTabled l old.mods) x.3 k.step.tabled));
+            tabled = subst (λ (l : List Entry). IsTabled l old.mods) (sym at)
+                (tabled-with x.0 x.1 (steps_set n x.1) x.2 refl old.mods (λ p. refl) (λ p. refl) (subst (λ (l : List Entry). IsTabled l old.mods) x.3 k.step.tabled));
             keyed = keyed-as old.trace.nodes tr.nodes old.memo (λ z. ap key_of (node-same z)) k.step.keyed;
             queued = λ z i. ap is_read (node-same z) ∙ k.step.queued z i;
             mods = subst (λ (l : List ℕ). Mods_follow l old.mods) (sym others.stamps) k.step.mods;

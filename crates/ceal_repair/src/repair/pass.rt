@@ -14,8 +14,9 @@ use ceal_base::no_memory::NoMemory;
 use ceal_order::stamp::Stamp;
 
 impl<'a> Repair<'a> {
-    /// Kept nodes inside a taken read are passed, up to the first stale read among them, whose unit runs with what is inside it left
-    /// over. Where none is stale all are passed: the units below run, with what stands after the end of the taken read.
+    /// Kept nodes inside a taken read are passed, up to the first stale read among them, whose unit runs with what is
+    /// inside it left over. Where none is stale all are passed: the units below run, with what stands after the end of
+    /// the taken read.
     pub fn pass(&mut self) -> Result<(), NoMemory>
         requires passes { (start : Start) × PassesOn start self.old }
         ensures call { OnOk result (SameCall self.old self.new) }
@@ -32,8 +33,8 @@ impl<'a> Repair<'a> {
         }
     }
 
-    /// No read up to the limit is stale: the kept nodes up to there, which is the end of a taken read, are passed. The units below
-    /// run with what stands after it, up to their own limit; the steps on the end are dropped.
+    /// No read up to the limit is stale: the kept nodes up to there, which is the end of a taken read, are passed. The
+    /// units below run with what stands after it, up to their own limit; the steps on the end are dropped.
     fn pass_all(&mut self)
         requires none { (start : Start) × NoneStale start self.old }
         ensures call { SameCall self.old self.new }
@@ -57,8 +58,8 @@ impl<'a> Repair<'a> {
         }
     }
 
-    /// The kept nodes before a stale read are passed. Its unit runs on the content of its moment, with what is inside it left over;
-    /// its steps are dropped. The nodes after its end are passed then.
+    /// The kept nodes before a stale read are passed. Its unit runs on the content of its moment, with what is inside
+    /// it left over; its steps are dropped. The nodes after its end are passed then.
     fn repair_inside(&mut self, read: Stamp) -> Result<(), NoMemory>
         requires stale { (start : Start) × StaleInside start read self.old }
         ensures call { OnOk result (SameCall self.old self.new) }
@@ -79,7 +80,8 @@ impl<'a> Repair<'a> {
         Ok(())
     }
 
-    /// The unit of a stale read among kept nodes is over: what is left over to it is revoked, and the nodes after its end are passed.
+    /// The unit of a stale read among kept nodes is over: what is left over to it is revoked, and the nodes after its
+    /// end are passed.
     pub fn go_on(&mut self, until: Stamp) -> Result<(), NoMemory>
         requires ends { (start : Start) × EndsKept start until self.old }
         ensures call { OnOk result (SameCall self.old self.new) }

@@ -7,7 +7,8 @@ ghost use Rattle.ceal_memo.specs.Keys.{OfRead, OfAlloc};
 ghost use Rattle.ceal_memo.specs.Memo.{IsOf};
 ghost use Rattle.ceal_order.specs.Stamps.{head_of};
 ghost use Rattle.ceal_repair.specs.Looks.{Pays};
-ghost use Rattle.ceal_repair.specs.Repairs.{arguments_of, Runs, Acts, ActsMaking, EndsRead, SameCall, left_nodes, running_of};
+ghost use Rattle.ceal_repair.specs.Repairs.{arguments_of, Runs, Acts, ActsMaking, EndsRead, SameCall, left_nodes};
+ghost use Rattle.ceal_repair.specs.Repairs.{running_of};
 ghost use Rattle.ceal_repair.specs.Lists.{allocates, recalls, stamps_where};
 ghost use Rattle.ceal_repair.specs.Reads.{key_in, closure_in};
 
@@ -51,8 +52,8 @@ impl<'a> Repair<'a> {
         Ok(())
     }
 
-    /// A block for the key: that of the earliest allocation with the key that is left over, and a new one where there is none.
-    /// The variable of the unit gets it.
+    /// A block for the key: that of the earliest allocation with the key that is left over, and a new one where there
+    /// is none. The variable of the unit gets it.
     pub fn make(&mut self, key: Key, var: u32) -> Result<(), NoMemory>
         requires acts { (start : Start) × ActsMaking start key var self.old }
         ensures call { OnOk result (SameCall self.old self.new) }
@@ -89,7 +90,8 @@ impl<'a> Repair<'a> {
         Ok(())
     }
 
-    /// A new read, which no read that is left over is: its unit runs on the content of its place, with what is left over.
+    /// A new read, which no read that is left over is: its unit runs on the content of its place, with what is left
+    /// over.
     pub fn begin(&mut self, reading: Reading<'_>, hashed: Hashed) -> Result<(), NoMemory>
         requires acts { (start : Start)
             × Acts start (does.Reads (closure_in reading (arguments_of self.old))) self.old }

@@ -10,7 +10,8 @@ ghost use Rattle.ceal_order.specs.Stamps.{head_of};
 ghost use Rattle.ceal_repair.specs.Moment.{Start};
 ghost use Rattle.ceal_repair.specs.Reads.{closure_in, key_in, Entered, EndsTaken};
 ghost use Rattle.ceal_repair.specs.Looks.{Pays};
-ghost use Rattle.ceal_repair.specs.Repairs.{running_of, arguments_of, frames_of, Runs, RunsAt, Acts, SameCall, left_nodes};
+ghost use Rattle.ceal_repair.specs.Repairs.{running_of, arguments_of, frames_of, Runs, RunsAt, Acts, SameCall};
+ghost use Rattle.ceal_repair.specs.Repairs.{left_nodes};
 ghost use Rattle.ceal_repair.specs.declared.frame.Frame.TheVariants.{Taken};
 ghost use Rattle.ceal_repair.specs.Kept.{Records};
 ghost use Rattle.ceal_repair.specs.Lists.{recalls, stamps_where};
@@ -37,8 +38,8 @@ fn value_at(trace: &Trace, read: Stamp) -> Word
 }
 
 impl<'a> Repair<'a> {
-    /// A read: the earliest one of the closure that is left over is taken, and a new one begins where there is none. Where a taken
-    /// read has the content of its moment, what is inside it is passed, and else its unit runs.
+    /// A read: the earliest one of the closure that is left over is taken, and a new one begins where there is none.
+    /// Where a taken read has the content of its moment, what is inside it is passed, and else its unit runs.
     pub fn read(&mut self, reading: Reading<'_>) -> Result<(), NoMemory>
         requires acts { (start : Start)
             × Acts start (does.Reads (closure_in reading (arguments_of self.old))) self.old }
@@ -100,8 +101,8 @@ impl<'a> Repair<'a> {
         }
     }
 
-    /// A read that is left over is taken: what stands before it is revoked. Where it has not the content of its moment its unit
-    /// runs, with what is inside it left over. Else it answers false: what is inside it is to be passed.
+    /// A read that is left over is taken: what stands before it is revoked. Where it has not the content of its moment
+    /// its unit runs, with what is inside it left over. Else it answers false: what is inside it is to be passed.
     fn take_read(&mut self, found: Stamp, reading: Reading<'_>) -> Result<bool, NoMemory>
         requires acts { (start : Start)
             × Acts start (does.Reads (closure_in reading (arguments_of self.old))) self.old }
@@ -158,8 +159,8 @@ impl<'a> Repair<'a> {
         Ok(())
     }
 
-    /// The unit of a read that was taken is over: what is left over is revoked. The units below run with what stands after its
-    /// end, up to their own limit; the steps on the end are dropped.
+    /// The unit of a read that was taken is over: what is left over is revoked. The units below run with what stands
+    /// after its end, up to their own limit; the steps on the end are dropped.
     pub fn leave(&mut self, below: Floor, until: Stamp) -> Result<(), NoMemory>
         requires ends { (start : Start) × EndsTaken start below until self.old }
         ensures call { OnOk result (SameCall self.old self.new) }

@@ -42,7 +42,8 @@ pub fn unit_at(stack: &mut Stack, code: &Code, trace: &Trace, read: Stamp) -> Re
 }
 
 impl<'a> Repair<'a> {
-    /// The unit of a read that was found stale runs, with what is inside the read left over. The steps on the read are dropped.
+    /// The unit of a read that was found stale runs, with what is inside the read left over. The steps on the read are
+    /// dropped.
     pub fn begin_turn(&mut self, read: Stamp) -> Result<(), NoMemory>
         requires found { (f : ℕ) × (args : List WordOf) × (o : SinceOf)
             × FoundStale (code_of self.old) (inputs_of self.old)

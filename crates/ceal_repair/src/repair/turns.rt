@@ -28,8 +28,8 @@ fn is_last(reads: Option<u32>, turns: u64) -> bool
 }
 
 impl<'a> Repair<'a> {
-    /// Makes turns until no read is stale, or the requested number of them. Where no read was stale at the beginning no memory is
-    /// taken. No run that fits into memory has 2^64 turns; one that had would be answered as out of memory.
+    /// Makes turns until no read is stale, or the requested number of them. Where no read was stale at the beginning no
+    /// memory is taken. No run that fits into memory has 2^64 turns; one that had would be answered as out of memory.
     pub fn turns(&mut self, reads: Option<u32>, fuel: u32) -> Result<Progress, NoMemory>
         requires comes { (f : ℕ) × (args : List Word) × (o : Since) × (before : Running)
             × HasCome (code_of self.old) (inputs_of self.old)
@@ -68,7 +68,8 @@ impl<'a> Repair<'a> {
         Err(NoMemory)
     }
 
-    /// Makes the turn of a read that was found stale. It answers false where more steps were re-executed than the fuel allows.
+    /// Makes the turn of a read that was found stale. It answers false where more steps were re-executed than the fuel
+    /// allows.
     fn turn_from(&mut self, read: Stamp, fuel: u32) -> Result<bool, NoMemory>
         requires found { (f : ℕ) × (args : List Word) × (o : Since)
             × FoundStale (code_of self.old) (inputs_of self.old)

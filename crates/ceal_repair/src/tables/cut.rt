@@ -5,8 +5,8 @@ ghost use Rattle.ceal_base.specs.declared.forest.Key.{Key as KeyOfAlloc};
 ghost use Rattle.ceal_base.specs.declared.word.BlockId.{BlockId as Block};
 ghost use Rattle.ceal_base.specs.declared.word.Place.{Place as PlaceOf};
 ghost use Rattle.ceal_base.specs.declared.word.Word.{Word as WordOf};
-ghost use Rattle.ceal_repair.specs.Kept.{Kept, QueuedBehind, QueuedFrom, base_in};
-ghost use Rattle.ceal_repair.specs.Looks.{owed, NoneDiffers};
+ghost use Rattle.ceal_repair.specs.Kept.{Kept, QueuedAfter, QueuedFrom, base_in};
+ghost use Rattle.ceal_repair.specs.Looks.{looks_owed, NoneDiffers};
 ghost use Rattle.ceal_trace.specs.Nodes.{node_at, position, is_read, end_in, without_entry};
 ghost use Rattle.ceal_trace.specs.declared.node.Node.TheVariants.{Alloc, Write};
 
@@ -31,8 +31,8 @@ impl Tables {
         self.trace.discard(alloc);
     }
 
-    /// Takes out a write before which none is queued, and queues the read that this affects. Where the place holds the same
-    /// without it, none is.
+    /// Takes out a write before which none is queued, and queues the read that this affects. Where the place holds the
+    /// same without it, none is.
     pub fn cut_write(&mut self, write: Stamp, place: Place) -> Result<(), NoMemory>
         requires kept { Kept self.old }
         requires here { (v : WordOf)
@@ -44,8 +44,8 @@ impl Tables {
             ((p : PlaceOf) → base_in self.new.mods p ≡ base_in self.old.mods p) }
         ensures behind { OnOk result
             ((s : ℕ) → position s self.old.trace.nodes < position write.0 self.old.trace.nodes
-            → QueuedBehind s self.old → QueuedBehind s self.new) }
-        ensures looks { OnOk result (owed self.new ≤ owed self.old + 3) }
+            → QueuedAfter s self.old → QueuedAfter s self.new) }
+        ensures looks { OnOk result (looks_owed self.new ≤ looks_owed self.old + 3) }
         ensures differed { OnOk result (NoneDiffers self.old self.new) }
         ensures kept { OnOk result (Kept self.new) }
     {
@@ -69,8 +69,8 @@ impl Tables {
         ensures bases { (p : PlaceOf) → base_in self.new.mods p ≡ base_in self.old.mods p }
         ensures behind { (s : ℕ)
             → position s self.old.trace.nodes < position read.0 self.old.trace.nodes
-            → QueuedBehind s self.new }
-        ensures looks { owed self.new ≤ owed self.old }
+            → QueuedAfter s self.new }
+        ensures looks { looks_owed self.new ≤ looks_owed self.old }
         ensures differed { NoneDiffers self.old self.new }
         ensures kept { Kept self.new }
     {

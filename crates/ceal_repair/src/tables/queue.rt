@@ -1,6 +1,7 @@
 // The queue of stale reads: which reads it has, and which of them comes first.
 
-ghost use Rattle.std.specs.Prelude.{◌≡◌, ◌<◌, ◌≤◌, ◌+◌, ◌↔◌, ◌≢◌, ℕ, [], length, Some, None, true, false, IfSome, IfNone, IsTrue};
+ghost use Rattle.std.specs.Prelude.{◌≡◌, ◌<◌, ◌≤◌, ◌+◌, ◌↔◌, ◌≢◌, ℕ, [], length, Some, None, true, false, IfSome};
+ghost use Rattle.std.specs.Prelude.{IfNone, IsTrue};
 ghost use Rattle.std.specs.Option.{ForSome};
 ghost use Rattle.ceal_base.specs.declared.word.Place.{Place as PlaceOf};
 ghost use Rattle.ceal_base.specs.declared.word.Word.{Word as WordOf};
@@ -8,9 +9,10 @@ ghost use Rattle.ceal_mods.specs.Mods.{cell_of, Follows as Mods_follow};
 ghost use Rattle.ceal_order.specs.Stamps.{is_in};
 ghost use Rattle.ceal_queue.specs.Queue.{IsBefore, IsWithout, Follows as Queue_follows};
 ghost use Rattle.ceal_repair.specs.Covered.{and_one};
-ghost use Rattle.ceal_repair.specs.Kept.{InStep, Kept, ChainedBy, QueuedBehind, QueuedFrom, Records, IsStale, IsHonestRecord, IsAwake, contents_at};
-ghost use Rattle.ceal_repair.specs.Looks.{owed, NoneDiffers, OneDiffers};
-ghost use Rattle.ceal_repair.specs.Woken.{KeepsQueued, QueuesReadsOf, QueuesBehind};
+ghost use Rattle.ceal_repair.specs.Kept.{InStep, Kept, ChainedBy, QueuedAfter, QueuedFrom, Records, IsStale};
+ghost use Rattle.ceal_repair.specs.Kept.{IsHonestRecord, IsAwake, contents_at};
+ghost use Rattle.ceal_repair.specs.Looks.{looks_owed, NoneDiffers, OneDiffers};
+ghost use Rattle.ceal_repair.specs.Woken.{KeepsQueued, QueuesReadsOf, QueuesAfter};
 ghost use Rattle.ceal_trace.specs.Nodes.{stamps_in, has_node, node_at, is_read, with_value};
 ghost use Rattle.ceal_trace.specs.declared.node.Node.TheVariants.{Write};
 
@@ -35,9 +37,9 @@ impl Tables {
         ensures same { result ≡ false → self.new.trace ≡ self.old.trace }
         ensures cells { self.new.mods.cells ≡ self.old.mods.cells }
         ensures memo { self.new.memo ≡ self.old.memo }
-        ensures behind { QueuedBehind read.0 self.new }
-        ensures looks { owed self.new ≤ owed self.old + 1 }
-        ensures idle { result ≡ false → owed self.new ≤ owed self.old }
+        ensures behind { QueuedAfter read.0 self.new }
+        ensures looks { looks_owed self.new ≤ looks_owed self.old + 1 }
+        ensures idle { result ≡ false → looks_owed self.new ≤ looks_owed self.old }
         ensures differs { IsTrue result → OneDiffers self.old self.new }
         ensures none_differs { result ≡ false → NoneDiffers self.old self.new }
         ensures kept { Kept self.new }
@@ -59,13 +61,13 @@ impl Tables {
             (λ s. (p : PlaceOf) × (v : WordOf) × Records p v (node_at s.0 self.old.trace.nodes)
             × (self.new.trace.nodes
             ≡ with_value s.0 (contents_at s.0 self.old p) self.old.trace.nodes)) }
-        ensures behind { IfSome result (λ s. QueuedBehind s.0 self.new) }
+        ensures behind { IfSome result (λ s. QueuedAfter s.0 self.new) }
         ensures limit { IfSome result (λ s. IsBefore (stamps_in self.old.trace.nodes) until s.0) }
         ensures none { IfNone result (self.new.trace ≡ self.old.trace) }
         ensures left { IfNone result ((s : ℕ) → is_in s self.new.stale.stamps ≡ true
             → ¬ IsBefore (stamps_in self.old.trace.nodes) until s) }
-        ensures looks { owed self.new ≤ owed self.old + 1 }
-        ensures idle { IfNone result (owed self.new ≤ owed self.old) }
+        ensures looks { looks_owed self.new ≤ looks_owed self.old + 1 }
+        ensures idle { IfNone result (looks_owed self.new ≤ looks_owed self.old) }
         ensures differs { IfSome result (λ s. OneDiffers self.old self.new) }
         ensures none_differs { IfNone result (NoneDiffers self.old self.new) }
         ensures cells { self.new.mods.cells ≡ self.old.mods.cells }
@@ -81,15 +83,15 @@ impl Tables {
         None
     }
 
-    /// Whether a read is stale. Queued reads before the first stale one are honest, and are taken out; the stale one stays queued,
-    /// with the value that it has. No memory is taken.
+    /// Whether a read is stale. Queued reads before the first stale one are honest, and are taken out; the stale one
+    /// stays queued, with the value that it has. No memory is taken.
     pub fn has_stale(&mut self) -> bool
         requires kept { Kept self.old }
         ensures stale { IsTrue result → (s : ℕ) × IsStale s self.old }
         ensures honest { result ≡ false → (s : ℕ) → IsHonestRecord s self.new }
         ensures none { result ≡ false → self.new.stale.stamps ≡ [] }
-        ensures looks { owed self.new ≤ owed self.old + 1 }
-        ensures idle { result ≡ false → owed self.new ≤ owed self.old }
+        ensures looks { looks_owed self.new ≤ looks_owed self.old + 1 }
+        ensures idle { result ≡ false → looks_owed self.new ≤ looks_owed self.old }
         ensures differed { NoneDiffers self.old self.new }
         ensures trace { self.new.trace ≡ self.old.trace }
         ensures cells { self.new.mods.cells ≡ self.old.mods.cells }
@@ -120,7 +122,7 @@ impl Tables {
         ensures cells { self.new.mods.cells ≡ self.old.mods.cells }
         ensures memo { self.new.memo ≡ self.old.memo }
         ensures queue { self.new.stale ≡ self.old.stale }
-        ensures looks { owed self.new ≤ owed self.old + 1 }
+        ensures looks { looks_owed self.new ≤ looks_owed self.old + 1 }
         ensures differed { NoneDiffers self.old self.new }
         ensures kept { Kept self.new }
     {
@@ -138,7 +140,7 @@ impl Tables {
         ensures trace { self.new.trace ≡ self.old.trace }
         ensures mods { self.new.mods ≡ self.old.mods }
         ensures memo { self.new.memo ≡ self.old.memo }
-        ensures behind { QueuedBehind read.0 self.new }
+        ensures behind { QueuedAfter read.0 self.new }
         ensures fewer { IsTrue (is_in read.0 self.old.stale.stamps)
             → length self.new.stale.stamps + 1 ≡ length self.old.stale.stamps }
         ensures kept { Kept self.new }
@@ -158,7 +160,7 @@ impl Tables {
         ensures stale { Queue_follows (stamps_in self.new.trace.nodes) self.new.stale }
         ensures more { KeepsQueued self.old self.new }
         ensures only { QueuesReadsOf place self.old self.new }
-        ensures ahead { QueuesBehind after.0 self.old self.new }
+        ensures ahead { QueuesAfter after.0 self.old self.new }
         ensures one { length self.new.stale.stamps ≤ length self.old.stale.stamps + 1 }
         ensures woken { IsAwake (stamps_in self.old.trace.nodes)
             (cell_of self.old.mods place) after.0 self.new.stale.stamps }
@@ -179,7 +181,7 @@ impl Tables {
         ensures trace { self.new.trace ≡ self.old.trace }
         ensures cells { self.new.mods.cells ≡ self.old.mods.cells }
         ensures queue { self.new.stale ≡ self.old.stale }
-        ensures looks { owed self.new ≤ owed self.old + 1 }
+        ensures looks { looks_owed self.new ≤ looks_owed self.old + 1 }
         ensures differed { NoneDiffers self.old self.new }
         ensures memo { self.new.memo ≡ self.old.memo }
         ensures kept { Kept self.new }
@@ -201,7 +203,7 @@ impl Tables {
         ensures stale { Queue_follows (stamps_in self.new.trace.nodes) self.new.stale }
         ensures more { KeepsQueued self.old self.new }
         ensures only { QueuesReadsOf place self.old self.new }
-        ensures ahead { QueuesBehind after.0 self.old self.new }
+        ensures ahead { QueuesAfter after.0 self.old self.new }
         ensures one { length self.new.stale.stamps ≤ length self.old.stale.stamps + 1 }
         ensures woken { same ≡ false
             → IsAwake (stamps_in self.old.trace.nodes)
@@ -246,7 +248,7 @@ impl Tables {
         ensures more { (s : ℕ) → s ≢ read.0 → IsTrue (is_in s self.old.stale.stamps)
             → IsTrue (is_in s self.new.stale.stamps) }
         ensures only { QueuesReadsOf place self.old self.new }
-        ensures ahead { QueuedBehind read.0 self.new }
+        ensures ahead { QueuedAfter read.0 self.new }
         ensures most { length self.new.stale.stamps ≤ length self.old.stale.stamps }
         ensures woken { IsTrue (is_in read.0 self.old.stale.stamps)
             → IsAwake (stamps_in self.old.trace.nodes)
@@ -257,8 +259,9 @@ impl Tables {
         }
     }
 
-    // A read that was popped gets the content of its moment. Says whether it had another one, and hands on to the next one of
-    // its place then. Where it had that, what was recorded last of the place is as before, and the next one has nothing to fear.
+    // A read that was popped gets the content of its moment. Says whether it had another one, and hands on to the next
+    // one of its place then. Where it had that, what was recorded last of the place is as before, and the next one has
+    // nothing to fear.
     pub fn settle(&mut self, popped: Stamp) -> bool
         requires step { InStep self.old }
         requires chained { ChainedBy (and_one popped.0 self.old.stale.stamps) self.old }
@@ -275,9 +278,9 @@ impl Tables {
         ensures same { result ≡ false → self.new.trace ≡ self.old.trace }
         ensures cells { self.new.mods.cells ≡ self.old.mods.cells }
         ensures memo { self.new.memo ≡ self.old.memo }
-        ensures behind { QueuedBehind popped.0 self.new }
-        ensures looks { owed self.new ≤ owed self.old + 3 }
-        ensures idle { result ≡ false → owed self.new ≤ owed self.old + 1 }
+        ensures behind { QueuedAfter popped.0 self.new }
+        ensures looks { looks_owed self.new ≤ looks_owed self.old + 3 }
+        ensures idle { result ≡ false → looks_owed self.new ≤ looks_owed self.old + 1 }
         ensures differs { IsTrue result → OneDiffers self.old self.new }
         ensures none_differs { result ≡ false → NoneDiffers self.old self.new }
         ensures kept { Kept self.new }

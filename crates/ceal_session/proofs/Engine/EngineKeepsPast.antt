@@ -12,8 +12,8 @@ use Rattle.ceal_code.specs.Fitting.{Fits}
 use Rattle.ceal_code.specs.Program.{Code}
 use Rattle.ceal_code.specs.Replay.{Replays, plain_of}
 use Rattle.ceal_engine.specs.Engine.{EngineState, IsEngine, IsPresent, is_whole, IsWhole, IsHeapOf, ReplaysCall, trace, fresh_call, fresh_of, has_run, IfOutOfFuel}
-use Rattle.ceal_engine.specs.Partial.{CarriesFrom, RenamedFrom, Comes, GoesOn, Ends, IsAnew, carried_by, spent_in, words_in}
-use Rattle.ceal_engine.specs.Partial.{phase_behind as phase_of_came}
+use Rattle.ceal_engine.specs.Partial.{CarriesRepair, RenamedFrom, RepairOutcome, SliceContinues, SliceEnds, IsAnew, carried_by, spent_in, words_in}
+use Rattle.ceal_engine.specs.Partial.{phase_after_repair as phase_of_came}
 use Rattle.ceal_engine.specs.Repaired.{IsFirst, first_call}
 use Rattle.ceal_engine.specs.declared.phase.Came.TheVariants.{More, Done, Anew}
 use Rattle.ceal_engine.specs.declared.phase.Phase.{Phase}
@@ -21,8 +21,8 @@ use Rattle.ceal_engine.specs.declared.phase.Phase.TheVariants.{New, Finished, Pe
 use Rattle.ceal_engine.specs.declared.run_error.RunError.{RunError}
 use Rattle.ceal_engine.specs.declared.run_error.RunError.TheVariants.{Memory, OutOfFuel}
 use Rattle.ceal_session.proofs.Engine.RunLeavesPast.{above, is-above, has-first}
-use Rattle.ceal_session.specs.Advancing.{Outcome, Brings, with_came}
-use Rattle.ceal_session.specs.Keeping.{past_of, past_by, traced_by, going_by}
+use Rattle.ceal_session.specs.Outcomes.{Outcome, EngineAfterCall, with_came}
+use Rattle.ceal_session.specs.SessionState.{past_of, past_by, traced_by, going_by}
 use Rattle.ceal_theory.proofs.SlicedRepair.CarriedLaws.{carried-same-law, carried-trace-law, edited-so, own-single}
 use Rattle.ceal_theory.proofs.SlicedRepair.SliceLaws.{begin-law}
 use Rattle.ceal_theory.specs.Carried.{Carried}
@@ -140,7 +140,7 @@ from-dropped P (Err x) phase e h = tt
 pub record IsNext (e : EngineState) (p : Past) : Type 0 where
   pub repair : Repair
   pub is : next_repair e.code e.inputs p ≡ Some repair
-  pub carries : CarriesFrom e 0 repair
+  pub carries : CarriesRepair e 0 repair
 
 module _ (e : EngineState) (k : IsEngine e) (call : Call) (called : e.call ≡ Some call) where
   fits : Fits e.code e.inputs call.function call.args
@@ -180,7 +180,8 @@ module _ (e : EngineState) (k : IsEngine e) (call : Call) (called : e.call ≡ S
           called = called;
           items = l.0;
           is = l.1;
-          sound = begin-law e.code own e.inputs e.inputs call.function call.args g.run.items n n (edited-so e.code e.inputs call.function call.args fits g.run.items there n (is-above g.run.items)) own-single (λ j i. is-above g.run.items j i);
+          sound = begin-law e.code own e.inputs e.inputs call.function call.args g.run.items n n
+              (edited-so e.code e.inputs call.function call.args fits g.run.items there n (is-above g.run.items)) own-single (λ j i. is-above g.run.items j i);
           carried = carried-same-law e.code e.inputs 0 (beginning e.code e.inputs g.run.items n) (beginning e.code e.inputs l.0 (above l.0)) (carried_by e l.0)
               (by-names g.run (record { items = l.0; work = e.work }) g.renamed there here) refl (λ b. heap-is l.0 l.1 ph b) (whole-spent e.phase e.work ph);
         };
@@ -228,7 +229,7 @@ module _ (e e' : EngineState) (call : Call) (code : e'.code ≡ e.code) (fuel : 
       let found = has-first e.code e.inputs call.function call.args fit e.fuel present.run (rw (code, inputs, fuel, called) at present.fresh) in (found.first, found.is)
 
   -- a repair that is done
-  pub after-done : (reads : Option ℕ) (r : Repair) → IsWhole e'.phase → IsPresent e' → (h : Ends e e' reads 0 r) → Same (left_by e.code e.inputs first (Some h.repair))
+  pub after-done : (reads : Option ℕ) (r : Repair) → IsWhole e'.phase → IsPresent e' → (h : SliceEnds e e' reads 0 r) → Same (left_by e.code e.inputs first (Some h.repair))
   after-done reads r ph present h = go (trace e') refl h.items
     where
       go : (o : Option Trace) → trace e' ≡ o → IsSomeAnd o (RenamedFrom e 0 r h.repair.items) → Same (left_by e.code e.inputs first (Some h.repair))
@@ -242,22 +243,25 @@ module _ (e e' : EngineState) (call : Call) (code : e'.code ≡ e.code) (fuel : 
           (subst (λ (o : Option Repaired). SamePast e.code e.inputs call.function call.args (done_past o h.repair) (Traced (record { items = l; work = e'.work }))) (sym a.1) same))
 
   -- a repair in progress
-  pub after-part : (r : Repair) → e'.phase ≡ Partial → is_done e.code e.inputs r ≡ false → CarriesFrom e' 0 r → Same (left_by e.code e.inputs first (Some r))
+  pub after-part : (r : Repair) → e'.phase ≡ Partial → is_done e.code e.inputs r ≡ false → CarriesRepair e' 0 r → Same (left_by e.code e.inputs first (Some r))
   after-part r ph more h =
       let c : h.call ≡ call = some-same h.call call (sym h.called ∙ called) in
       let sound : RepairHolds e.code own e.inputs call.function call.args r =
-      subst (λ (c : Call). RepairHolds e.code own e.inputs c.function c.args r) c (subst (λ (i : List Block). RepairHolds e.code own i h.call.function h.call.args r) inputs (subst (λ (d : Code). RepairHolds d own e'.inputs h.call.function h.call.args r) code h.sound)) in
+      subst (λ (c : Call). RepairHolds e.code own e.inputs c.function c.args r) c
+          (subst (λ (i : List Block). RepairHolds e.code own i h.call.function h.call.args r) inputs (subst (λ (d : Code). RepairHolds d own e'.inputs h.call.function h.call.args r) code h.sound)) in
       let carried : Carried e.code e.inputs 0 r (carried_by e' h.items) =
       subst (λ (i : List Block). Carried e.code i 0 r (carried_by e' h.items)) inputs (subst (λ (d : Code). Carried d e'.inputs 0 r (carried_by e' h.items)) code h.carried) in
       let same : SamePast e.code e.inputs call.function call.args (Going r) (Going (carried_by e' h.items)) = SamePast.going sound carried in
       subst (λ (q : Past). SamePast e.code e.inputs call.function call.args (left_by e.code e.inputs first (Some r)) q) (sym (past-going e' h.items ph h.is))
       (subst (λ (b : Bool). SamePast e.code e.inputs call.function call.args (if b then done_past first r else Going r) (Going (carried_by e' h.items))) (sym more) same)
 
-module _ (e e' : EngineState) (k : IsEngine e) (call : Call) (fit : Fits e.code e.inputs call.function call.args) (code : e'.code ≡ e.code) (fuel : e'.fuel ≡ e.fuel) (inputs : e'.inputs ≡ e.inputs) (called : e'.call ≡ Some call)
+module _ (e e' : EngineState) (k : IsEngine e) (call : Call) (fit : Fits e.code e.inputs call.function call.args) (code : e'.code ≡ e.code) (fuel : e'.fuel ≡ e.fuel) (inputs : e'.inputs ≡ e.inputs)
+    (called : e'.call ≡ Some call)
     (reads : Option ℕ) where
   -- a run of a call of which there was none
-  pub brought-anew : {A : Type 0} (outcome : Result A RunError) → has_run e.phase ≡ false → OnOk outcome (e'.phase ≡ Finished) → OnOk outcome (IsPresent e') → OnOk outcome (IsSomeAnd (trace e') (IsFirst e'))
-      → IfOutOfFuel outcome (fresh_of e' ≡ None) → OnErr outcome (e'.phase ≡ Dropped) → Brings e call reads (with_came Anew outcome) e'
+  pub brought-anew : {A : Type 0} (outcome : Result A RunError) → has_run e.phase ≡ false → OnOk outcome (e'.phase ≡ Finished) → OnOk outcome (IsPresent e')
+      → OnOk outcome (IsSomeAnd (trace e') (IsFirst e'))
+      → IfOutOfFuel outcome (fresh_of e' ≡ None) → OnErr outcome (e'.phase ≡ Dropped) → EngineAfterCall e call reads (with_came Anew outcome) e'
   brought-anew (Ok x) none phase present one out dropped = record {
     code = code;
     fuel = fuel;
@@ -267,7 +271,8 @@ module _ (e e' : EngineState) (k : IsEngine e) (call : Call) (fit : Fits e.code 
     completes = present;
     began = tt;
     slice = λ p of same. ap (λ q. slice_of e.code e.inputs e.fuel reads (next_repair e.code e.inputs q)) (same-none same (past-none e k none));
-    makes = λ p of same. subst (λ q. SamePast e.code e.inputs call.function call.args (past_after e.code e.inputs e.fuel (first_of e.code e.inputs e.fuel call.function call.args) reads q) (past_of e')) (sym (same-none same (past-none e k none)))
+    makes = λ p of same. subst (λ q. SamePast e.code e.inputs call.function call.args (past_after e.code e.inputs e.fuel (first_of e.code e.inputs e.fuel call.function call.args) reads q)
+        (past_of e')) (sym (same-none same (past-none e k none)))
         (after-first e e' call code fuel inputs called fit (ap is_whole phase) present one);
   }
   brought-anew (Err OutOfFuel) none phase present one out dropped = record {
@@ -305,8 +310,8 @@ module _ (e e' : EngineState) (k : IsEngine e) (call : Call) (fit : Fits e.code 
     left o = left_by e.code e.inputs (first_of e.code e.inputs e.fuel call.function call.args) o
 
     pub brought-on : (outcome : Outcome) → IfOk outcome (λ came. e'.phase ≡ phase_of_came came) → IfOk outcome (λ came. came ≢ More → IsPresent e')
-        → ((next : ℕ) (r : Repair) → CarriesFrom e next r → Comes e e' reads next r outcome) → IfOk outcome (λ came. came ≡ More → is_some reads ≡ true)
-        → IfOutOfFuel outcome (fresh_of e' ≡ None) → OnErr outcome (e'.phase ≡ Dropped) → Brings e call reads outcome e'
+        → ((next : ℕ) (r : Repair) → CarriesRepair e next r → RepairOutcome e e' reads next r outcome) → IfOk outcome (λ came. came ≡ More → is_some reads ≡ true)
+        → IfOutOfFuel outcome (fresh_of e' ≡ None) → OnErr outcome (e'.phase ≡ Dropped) → EngineAfterCall e call reads outcome e'
     brought-on (Ok More) phase present comes more out dropped = record {
       code = code;
       fuel = fuel;
@@ -315,9 +320,10 @@ module _ (e e' : EngineState) (k : IsEngine e) (call : Call) (fit : Fits e.code 
       phase = phase;
       completes = tt;
       began = (runs, more refl, again);
-      slice = λ p of same. let n = next p of same in let g : GoesOn e e' reads 0 n.repair = comes 0 n.repair n.carries in (g.repair, slice-is p n ∙ g.is, g.more);
-      makes = λ p of same. let n = next p of same in let g : GoesOn e e' reads 0 n.repair = comes 0 n.repair n.carries in
-          subst (λ o. SamePast e.code e.inputs call.function call.args (left o) (past_of e')) (sym (slice-is p n ∙ g.is)) (after-part e e' call code fuel inputs called fit g.repair phase g.more g.carries);
+      slice = λ p of same. let n = next p of same in let g : SliceContinues e e' reads 0 n.repair = comes 0 n.repair n.carries in (g.repair, slice-is p n ∙ g.is, g.more);
+      makes = λ p of same. let n = next p of same in let g : SliceContinues e e' reads 0 n.repair = comes 0 n.repair n.carries in
+          subst (λ o. SamePast e.code e.inputs call.function call.args (left o) (past_of e')) (sym (slice-is p n ∙ g.is))
+              (after-part e e' call code fuel inputs called fit g.repair phase g.more g.carries);
     }
     brought-on (Ok Done) phase present comes more out dropped = record {
       code = code;
@@ -327,9 +333,10 @@ module _ (e e' : EngineState) (k : IsEngine e) (call : Call) (fit : Fits e.code 
       phase = phase;
       completes = present (λ i. absurd (grind (arith, i)));
       began = (runs, again);
-      slice = λ p of same. let n = next p of same in let g : Ends e e' reads 0 n.repair = comes 0 n.repair n.carries in (g.repair, slice-is p n ∙ g.is, g.done);
-      makes = λ p of same. let n = next p of same in let g : Ends e e' reads 0 n.repair = comes 0 n.repair n.carries in
-          subst (λ o. SamePast e.code e.inputs call.function call.args (left o) (past_of e')) (sym (slice-is p n ∙ g.is)) (after-done e e' call code fuel inputs called fit reads n.repair (ap is_whole phase) (present (λ i. absurd (grind (arith, i)))) g);
+      slice = λ p of same. let n = next p of same in let g : SliceEnds e e' reads 0 n.repair = comes 0 n.repair n.carries in (g.repair, slice-is p n ∙ g.is, g.done);
+      makes = λ p of same. let n = next p of same in let g : SliceEnds e e' reads 0 n.repair = comes 0 n.repair n.carries in
+          subst (λ o. SamePast e.code e.inputs call.function call.args (left o) (past_of e')) (sym (slice-is p n ∙ g.is))
+              (after-done e e' call code fuel inputs called fit reads n.repair (ap is_whole phase) (present (λ i. absurd (grind (arith, i)))) g);
     }
     brought-on (Ok Anew) phase present comes more out dropped = record {
       code = code;
@@ -341,7 +348,8 @@ module _ (e e' : EngineState) (k : IsEngine e) (call : Call) (fit : Fits e.code 
       began = tt;
       slice = λ p of same. let n = next p of same in let g : IsAnew e e' reads n.repair = comes 0 n.repair n.carries in slice-is p n ∙ g.none;
       makes = λ p of same. let n = next p of same in let g : IsAnew e e' reads n.repair = comes 0 n.repair n.carries in
-          subst (λ o. SamePast e.code e.inputs call.function call.args (left o) (past_of e')) (sym (slice-is p n ∙ g.none)) (after-first e e' call code fuel inputs called fit (ap is_whole phase) (present (λ i. absurd (grind (arith, i)))) g.first);
+          subst (λ o. SamePast e.code e.inputs call.function call.args (left o) (past_of e')) (sym (slice-is p n ∙ g.none))
+              (after-first e e' call code fuel inputs called fit (ap is_whole phase) (present (λ i. absurd (grind (arith, i)))) g.first);
     }
     brought-on (Err OutOfFuel) phase present comes more out dropped = record {
       code = code;

@@ -1,20 +1,21 @@
 -- The run that an engine has is the source's.
 use Rattle.std.proofs.Common.{◌≡◌, ℕ, Bool, Option, Some, None, List, refl, sym, ◌∙◌, arith}
 use Rattle.std.specs.Prelude.{IfSome}
+use Rattle.ceal_base.specs.Block.{alone}
 use Rattle.ceal_base.specs.Finished.{Finished}
 use Rattle.ceal_base.specs.declared.call.Call.{Call}
 use Rattle.ceal_base.specs.declared.typed.Typed.{Typed}
 use Rattle.ceal_code.specs.Fitting.{Fits}
-use Rattle.ceal_engine.specs.Engine.{EngineState, IsRun, IsEngine, alone, fresh_call, fresh_of}
+use Rattle.ceal_engine.specs.Engine.{EngineState, IsRun, IsEngine, fresh_call, fresh_of}
 use Rattle.ceal_engine.specs.declared.phase.Phase.{Phase}
 use Rattle.ceal_engine.specs.declared.phase.Phase.TheVariants.{New, Finished as IsFinished, Pending, Partial, Dropped}
 use Rattle.ceal_session.proofs.Engine.ProgramAndCode.{core-of}
-use Rattle.ceal_session.specs.Asking.{IsReady}
+use Rattle.ceal_session.specs.Questions.{IsReady}
 use Rattle.ceal_session.specs.Journal.{JournalState}
-use Rattle.ceal_session.specs.Keeping.{state_of, Holds}
+use Rattle.ceal_session.specs.SessionState.{state_of, SessionInvariant}
 use Rattle.ceal_session.specs.Runs.{run_of_call, present_run}
 
-module _ (p : Typed) (names : List (List ℕ)) (e : EngineState) (j : JournalState) (pending : Bool) (h : Holds p names e j pending) where
+module _ (p : Typed) (names : List (List ℕ)) (e : EngineState) (j : JournalState) (pending : Bool) (h : SessionInvariant p names e j pending) where
   pub code-run : (o : Option Call) → IfSome o (λ call. Fits e.code e.inputs call.function call.args) → run_of_call (state_of p names e j pending) o ≡ fresh_call e.code e.inputs e.fuel o
   code-run None f = refl
   code-run (Some call) f =

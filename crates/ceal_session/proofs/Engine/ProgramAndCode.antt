@@ -1,6 +1,6 @@
 -- The functions of a program and those of its code.
 use Rattle.std.proofs.Common.{◌≡◌, ℕ, true, Option, Some, None, List, take, is_none, refl, sym, ap, ◌∙◌, slice_get, arith}
-use Rattle.ceal_base.specs.Block.{Blocks}
+use Rattle.ceal_base.specs.Block.{Blocks, alone}
 use Rattle.ceal_base.specs.Fitting.{words_fit, inputs_fit}
 use Rattle.ceal_base.specs.Usage.{IsCore}
 use Rattle.ceal_base.specs.declared.typed.StructInfo.{StructInfo}
@@ -14,7 +14,6 @@ use Rattle.ceal_code.specs.Valid.{valid}
 use Rattle.ceal_compile.proofs.Coded.{same_calls, same_structs}
 use Rattle.ceal_compile.specs.Compiled.{IsCodeOf}
 use Rattle.ceal_compile.specs.Laws.{call_fits}
-use Rattle.ceal_session.specs.Runs.{inputs_alone}
 use Rattle.ceal_session.specs.State.{State}
 use Rattle.ceal_session.specs.Steps.{is_call_of}
 
@@ -36,14 +35,14 @@ module _ (p : Typed) (code : Code) (c : IsCodeOf p code) where
     core-of f h = fits-core (slice_get p.functions f) (sym (same_calls p code c structs x f args) ∙ h)
 
   module _ (s : State) (f : ℕ) (args : List Word) (same : s.program ≡ p) where
-    is-call : (o : Option TypedFunction) → call_fits s.program.structs (inputs_alone s.inputs) o args ≡ is_call_of s o args
+    is-call : (o : Option TypedFunction) → call_fits s.program.structs (alone s.inputs) o args ≡ is_call_of s o args
     is-call None = refl
     is-call (Some g) = refl
 
-    args-are : args_fit code.structs (inputs_alone s.inputs) (slice_get code.functions f) args ≡ is_call_of s (slice_get p.functions f) args
+    args-are : args_fit code.structs (alone s.inputs) (slice_get code.functions f) args ≡ is_call_of s (slice_get p.functions f) args
     args-are =
-        same_calls p code c code.structs (inputs_alone s.inputs) f args
-        ∙ ap (λ structs. call_fits structs (inputs_alone s.inputs) (slice_get p.functions f) args) (same-structs ∙ ap (λ p. p.structs) (sym same))
+        same_calls p code c code.structs (alone s.inputs) f args
+        ∙ ap (λ structs. call_fits structs (alone s.inputs) (slice_get p.functions f) args) (same-structs ∙ ap (λ p. p.structs) (sym same))
         ∙ is-call (slice_get p.functions f)
 
   -- the arguments of a call that is accepted fit the code's function, which is a core function

@@ -13,14 +13,15 @@ use Rattle.ceal_code.specs.Replay.{Replays}
 use Rattle.ceal_record.specs.Recorded.{IsRecordOf, IsTraceOf}
 use Rattle.ceal_session.proofs.Engine.EngineKeepsPast.{past-traced}
 use Rattle.ceal_session.proofs.Engine.EngineRunIsSource.{ready-finished}
-use Rattle.ceal_session.specs.Asking.{IsReady}
+use Rattle.ceal_session.specs.Questions.{IsReady}
 use Rattle.ceal_session.specs.Journal.{JournalState}
-use Rattle.ceal_session.specs.Keeping.{state_of, situation_of, Holds}
+use Rattle.ceal_session.specs.SessionState.{state_of, situation_of, SessionInvariant}
 use Rattle.ceal_engine.specs.declared.phase.Phase.TheVariants.{Finished}
-use Rattle.ceal_session.specs.Recording.{IsRecorded}
-use Rattle.ceal_session.specs.State.{completed}
+use Rattle.ceal_session.specs.RunRecord.{IsRecorded}
+use Rattle.ceal_session.specs.State.{trace_in_past}
 
-module _ (p : Typed) (names : List (List ℕ)) (e : EngineState) (j : JournalState) (pending : Bool) (h : Holds p names e j pending) (k : IsEngine e) (ready : IsReady (state_of p names e j pending)) where
+module _ (p : Typed) (names : List (List ℕ)) (e : EngineState) (j : JournalState) (pending : Bool) (h : SessionInvariant p names e j pending) (k : IsEngine e)
+    (ready : IsReady (state_of p names e j pending)) where
   module _ (items : List Item) (forest : e.forest ≡ Some items) (call : Call) (called : e.call ≡ Some call) (r : Record)
       (is : (l : Trace) → items ≡ flat l → IsTraceOf e.code e.inputs call l → IsRecordOf e.code e.inputs call l r) where
     finished : e.phase ≡ Finished
@@ -38,7 +39,7 @@ module _ (p : Typed) (names : List (List ℕ)) (e : EngineState) (j : JournalSta
           call = call;
           called = called;
           run = record { items = l; work = e.work };
-          traced = ap completed (past-traced e l (ap is_whole finished) t);
+          traced = ap trace_in_past (past-traced e l (ap is_whole finished) t);
           of = of;
           is = is l same of;
         }

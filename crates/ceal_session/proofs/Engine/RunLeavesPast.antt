@@ -68,7 +68,8 @@ module _ (code : Code) (inputs : List Block) (f : ℕ) (args : List Word) (fits 
   pub first-ends : (a : Repaired) → first_of code inputs fuel f args ≡ Some a → (r : Finished) × (fresh code f args inputs fuel ≡ Some r)
   first-ends a e = go (first_of code inputs fuel f args) (fresh code f args inputs fuel) e refl (first-law code inputs f args fits fuel)
     where
-      go : (o : Option Repaired) (p : Option Finished) → o ≡ Some a → fresh code f args inputs fuel ≡ p → FirstOutcome code inputs f args o p → (r : Finished) × (fresh code f args inputs fuel ≡ Some r)
+      go : (o : Option Repaired) (p : Option Finished) → o ≡ Some a → fresh code f args inputs fuel ≡ p → FirstOutcome code inputs f args o p
+          → (r : Finished) × (fresh code f args inputs fuel ≡ Some r)
       go _ _ i k FirstOutcome.none = none-some a i
       go _ _ i k (FirstOutcome.some {r = r} t) = (r, k)
 
@@ -77,7 +78,8 @@ module _ (code : Code) (inputs : List Block) (f : ℕ) (args : List Word) (fits 
   next-sound NoTrace h r e = none-some r e
   next-sound (Traced l) h r e =
       subst (RepairHolds code own inputs f args) (some-same (beginning code inputs l.items (above l.items)) r e)
-      (begin-law code own inputs inputs f args l.items (above l.items) (above l.items) (edited-so code inputs f args fits l.items h (above l.items) (is-above l.items)) own-single (λ j i. is-above l.items j i))
+      (begin-law code own inputs inputs f args l.items (above l.items) (above l.items) (edited-so code inputs f args fits l.items h (above l.items) (is-above l.items)) own-single
+          (λ j i. is-above l.items j i))
   next-sound (Going q) h r e = subst (RepairHolds code own inputs f args) (some-same q r e) h
 
   -- what the past after a run is, by the run from scratch: none where that is out of fuel, a trace that is honest, or a
@@ -110,7 +112,8 @@ module _ (code : Code) (inputs : List Block) (f : ℕ) (args : List Word) (fits 
         subst (λ x. Ran reads run (done_past x r)) (sym h.is) (Ran.ended (record { items = r.items; work = r.spent }) q e is honest (few-steps r.items is honest q e))
 
     -- without a number of reads a slice is done
-    goes-in-part : (r r' : Repair) → RepairHolds code own inputs f args r → sliced code own inputs reads fuel r ≡ Some r' → is_done code inputs r' ≡ false → (k : Option ℕ) → reads ≡ k → is_some reads ≡ true
+    goes-in-part : (r r' : Repair) → RepairHolds code own inputs f args r → sliced code own inputs reads fuel r ≡ Some r' → is_done code inputs r' ≡ false → (k : Option ℕ) → reads ≡ k
+        → is_some reads ≡ true
     goes-in-part r r' sound e d None i =
         let s = subst (λ k. sliced code own inputs k fuel r ≡ Some r') i e in
         let honest = whole-law code own inputs f args fits r sound r' (((slices-law code own inputs None fuel r r').0 s).0) in

@@ -14,12 +14,12 @@ use Rattle.ceal_session.proofs.Engine.RunLeavesPast.{above, is-above, few-steps,
 use Rattle.ceal_script.specs.declared.command.Command.{Command}
 use Rattle.ceal_script.specs.declared.command.Command.TheVariants.{Blank, Mod, New, Set, Run, Propagate, Slice, Get, Show, Blocks, Steps, Work, Bound}
 use Rattle.ceal_session.proofs.Replies.QuestionsAnswered.{called-first}
-use Rattle.ceal_session.specs.Following.{Goes, Retraces, IsBounded}
+use Rattle.ceal_session.specs.AfterLine.{RunsOrKeeps, RunsAsDefined, IsBounded}
 use Rattle.ceal_session.specs.Senses.{function_named, value_sense}
-use Rattle.ceal_session.specs.Steps.{call_of, reads_of, called_again}
+use Rattle.ceal_session.specs.Steps.{call_of, reads_of, call_again}
 use Rattle.ceal_session.specs.declared.refusal.Refusal.{Refusal}
-use Rattle.ceal_session.specs.Standing.{IsTraceIn, IsSettled, HasTraceOf, HasTrace}
-use Rattle.ceal_session.specs.State.{State, Situation, completed, last}
+use Rattle.ceal_session.specs.Consistency.{IsTraceIn, IsSettled, HasTraceOf, HasTrace}
+use Rattle.ceal_session.specs.State.{State, Situation, trace_in_past, last}
 use Rattle.ceal_session.specs.Works.{first_trace, steps_in_first, bound_by, past_left, bound_left}
 use Rattle.ceal_theory.proofs.SlicedRepair.CarriedLaws.{edited-so, own-single}
 use Rattle.ceal_theory.proofs.SlicedRepair.SliceLaws.{begin-law, begun-adjusted-law, done-law, follow-law, is-done-law, slice-law, slices-law, turns-law, whole-law}
@@ -80,7 +80,8 @@ module _ (code : Code) (s : State) (call : Call) (now : Fits code s.inputs call.
     edited = record { call = was; fit = now.blocks; extended = settled.extended; trace = t.was; above = is-above l.items }
 
     next-sound : RepairHolds code own s.inputs call.function call.args next
-    next-sound = begin-law code own s.inputs s.inputs call.function call.args l.items (above l.items) (above l.items) (edited-so code s.inputs call.function call.args now l.items t.replays (above l.items) (is-above l.items)) own-single (λ j i. is-above l.items j i)
+    next-sound = begin-law code own s.inputs s.inputs call.function call.args l.items (above l.items) (above l.items)
+        (edited-so code s.inputs call.function call.args now l.items t.replays (above l.items) (is-above l.items)) own-single (λ j i. is-above l.items j i)
 
     -- a slice without a number of reads is the repair
     record IsRepair (r : Repair) : Type 0 where
@@ -106,7 +107,8 @@ module _ (code : Code) (s : State) (call : Call) (now : Fits code s.inputs call.
         let ends = first-ends code s.inputs call.function call.args now s.fuel b f in
         let few = few-steps code s.inputs call.function call.args now s.fuel r.items replays honest ends.0 ends.1 in
         let k = bound-law code s.settled s.inputs call.function call.args l.items (above l.items) s.fuel x.repaired edited t.honest t.few x.is (subst (λ y. steps_of y ≤ s.fuel) x.items few) in
-        (subst (λ n. n ≤ first_cost code s.fuel s.settled s.inputs call.function call.args) (sym x.work) k.0, subst (λ y. first_cost code s.fuel s.settled s.inputs call.function call.args ≤ steps_of y) (sym x.items) k.1)
+        (subst (λ n. n ≤ first_cost code s.fuel s.settled s.inputs call.function call.args) (sym x.work) k.0, subst
+            (λ y. first_cost code s.fuel s.settled s.inputs call.function call.args ≤ steps_of y) (sym x.items) k.1)
 
     -- slices one after another that end with a repair that is done are the whole repair
     of-slices : (o : Option ℕ) (r : Repair) → Slices code own s.inputs o next r → r.spent ≤ s.fuel → is_done code s.inputs r ≡ true → (b : Repaired) → first ≡ Some b
@@ -161,14 +163,16 @@ module _ (code : Code) (s : State) (call : Call) (now : Fits code s.inputs call.
         (slice-left None next reaches-next bound (sliced code own s.inputs None s.fuel next) refl)
 
 -- and with what a session makes of its runs
-module _ (m n : Situation) (call : Call) (r : Retraces m call None n) where
-  of-past : (now : Fits m.code m.state.inputs call.function call.args) (was : Fits m.code m.state.settled call.function call.args) → IsSettled m.code m.state → (l : Repaired) → IsTraceIn m.code m.state call l
+module _ (m n : Situation) (call : Call) (r : RunsAsDefined m call None n) where
+  of-past : (now : Fits m.code m.state.inputs call.function call.args) (was : Fits m.code m.state.settled call.function call.args) → IsSettled m.code m.state → (l : Repaired)
+      → IsTraceIn m.code m.state call l
       → m.past ≡ Traced l → (q : Past) → past_left m.code m.state (Ok call) None (Traced l) ≡ q → SamePast m.code m.state.inputs call.function call.args q n.past
       → n.bound ≡ bound_left m.code m.state (Ok call) None (Traced l) m.bound
       → IfSome (last n) (λ a. (a.work ≤ n.bound) × (n.bound ≤ steps_of a.items))
   of-past now was settled l t e q is same bound = go q is n.past refl same
     where
-      go : (q : Past) → past_left m.code m.state (Ok call) None (Traced l) ≡ q → (z : Past) → n.past ≡ z → SamePast m.code m.state.inputs call.function call.args q z → IfSome (completed z) (λ a. (a.work ≤ n.bound) × (n.bound ≤ steps_of a.items))
+      go : (q : Past) → past_left m.code m.state (Ok call) None (Traced l) ≡ q → (z : Past) → n.past ≡ z → SamePast m.code m.state.inputs call.function call.args q z
+          → IfSome (trace_in_past z) (λ a. (a.work ≤ n.bound) × (n.bound ≤ steps_of a.items))
       go _ is _ z SamePast.none = tt
       go _ is _ z (SamePast.traced {a = a} {b = b} (RenamedRepair.some ps one alike work)) =
           let k = bounded m.code m.state call now was settled l t m.bound a is in
@@ -179,11 +183,11 @@ module _ (m n : Situation) (call : Call) (r : Retraces m call None n) where
   pub session-bounded : m.state.call ≡ Some call → HasTrace m → IsBounded m (Ok call) None n
   session-bounded again h = go (m.past) refl
     where
-      go : (p : Past) → m.past ≡ p → IfSome (completed p) (λ l. IfSome (last n) (λ a. (a.work ≤ n.bound) × (n.bound ≤ steps_of a.items)))
+      go : (p : Past) → m.past ≡ p → IfSome (trace_in_past p) (λ l. IfSome (last n) (λ a. (a.work ≤ n.bound) × (n.bound ≤ steps_of a.items)))
       go NoTrace e = tt
       go (Going x) e = tt
       go (Traced l) e =
-          let given = subst (λ q. IfSome (completed q) (λ l. (call : Call) × (m.state.call ≡ Some call) × HasTraceOf m call l)) e h in
+          let given = subst (λ q. IfSome (trace_in_past q) (λ l. (call : Call) × (m.state.call ≡ Some call) × HasTraceOf m call l)) e h in
           let one : given.0 ≡ call = some-same given.0 call (sym given.1 ∙ again) in
           let t : HasTraceOf m call l = subst (λ c. HasTraceOf m c l) one given.2 in
           let self = restored m.code m.state.settled call.function call.args l.items l.items l.work
@@ -195,10 +199,10 @@ module _ (m n : Situation) (call : Call) (r : Retraces m call None n) where
           of-past t.now t.was t.settled l t.trace e (past_left m.code m.state (Ok call) None (Traced l)) refl made bound
 
 -- so it is with each line
-pub line-bounded : (m n : Situation) (command : Command) → HasTrace m → Goes m (call_of m.state command) (reads_of command) n → IsBounded m (call_of m.state command) (reads_of command) n
+pub line-bounded : (m n : Situation) (command : Command) → HasTrace m → RunsOrKeeps m (call_of m.state command) (reads_of command) n → IsBounded m (call_of m.state command) (reads_of command) n
 line-bounded m n Propagate h g = go m.state.call refl g
   where
-    go : (o : Option Call) → m.state.call ≡ o → Goes m (called_again o) None n → IsBounded m (called_again o) None n
+    go : (o : Option Call) → m.state.call ≡ o → RunsOrKeeps m (call_again o) None n → IsBounded m (call_again o) None n
     go None e g = tt
     go (Some call) e g = session-bounded m n call g e h
 line-bounded m n (Run function args) h g = go (call_of m.state (Run function args)) refl
@@ -215,7 +219,7 @@ line-bounded m n (Run function args) h g = go (call_of m.state (Run function arg
     go (Ok call) e = of-last call e (last m) h
 line-bounded m n (Slice reads) h g = go m.state.call
   where
-    go : (o : Option Call) → IsBounded m (called_again o) (Some reads) n
+    go : (o : Option Call) → IsBounded m (call_again o) (Some reads) n
     go None = tt
     go (Some call) = tt
 line-bounded m n Blank h g = tt

@@ -5,7 +5,7 @@ use Rattle.std.proofs.lemmas.Map.Keys.{IsDistinct-push}
 use Rattle.std.specs.List.{AllByRecursion, IsDistinct, list_any}
 use Rattle.std.specs.Prelude.{bytes_eq}
 use Rattle.ceal_code.proofs.Words.SameIsEqual.{none-some, some-same}
-use Rattle.ceal_session.specs.Naming.{AreDistinct}
+use Rattle.ceal_session.specs.InputNames.{AreDistinct}
 
 at-place : {X : Type 0} (P : X → Type 0) (xs : List X) (y : X) (zs : List X) → AllByRecursion P (xs ++ y ∷ zs) → P y
 at-place P [] y zs h = h.0

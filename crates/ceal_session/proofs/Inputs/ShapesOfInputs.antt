@@ -14,7 +14,7 @@ use Rattle.ceal_script.specs.declared.command.Command.{Command}
 use Rattle.ceal_script.specs.declared.command.Command.TheVariants.{Blank, Mod, New, Set, Run, Propagate, Slice, Get, Show, Blocks, Steps, Work, Bound}
 use Rattle.ceal_script.specs.declared.command.KindWord.{KindWord}
 use Rattle.ceal_script.specs.declared.command.KindWord.TheVariants.{Int as IntWord, Named}
-use Rattle.ceal_session.specs.Naming.{AreSpelled, IsNamed, HaveKnownShapes}
+use Rattle.ceal_session.specs.InputNames.{AreSpelled, IsNamed, HaveKnownShapes}
 use Rattle.ceal_session.specs.Replies.{Reads}
 use Rattle.ceal_session.specs.Senses.{mod_shape, pointer_shape, struct_shape, struct_named}
 use Rattle.ceal_session.specs.State.{State}

@@ -1,6 +1,6 @@
 -- Edits of bases that are undone.
 use Rattle.std.proofs.Common.{◌≡◌, ℕ, zero, suc, ◌<◌, Option, Some, None, List, [], ◌∷◌, ◌++◌, length, slice_get, slice_set, unwrap_or, refl, sym, ap, ◌∙◌, subst, arith}
-use Rattle.ceal_base.specs.Block.{Block, changed, with_word, written_at}
+use Rattle.ceal_base.specs.Block.{Block, changed, with_word, written_at, alone}
 use Rattle.ceal_base.specs.declared.word.BlockId.{BlockId}
 use Rattle.ceal_base.specs.declared.word.BlockId.TheVariants.{Input, Core}
 use Rattle.ceal_base.specs.declared.word.Place.{Place}
@@ -8,8 +8,8 @@ use Rattle.ceal_base.specs.declared.word.Word.{Word}
 use Rattle.ceal_base.specs.declared.word.Word.TheVariants.{Null}
 use Rattle.ceal_code.proofs.TypedCode.ShapesKept.{ShapesKept}
 use Rattle.ceal_code.proofs.Words.SameIsEqual.{none-some, some-same}
-use Rattle.ceal_engine.specs.Engine.{alone, with_base}
-use Rattle.ceal_session.specs.Undoing.{undone, word_of, base_in, base_at, IsWithin, AreWithin}
+use Rattle.ceal_engine.specs.Engine.{with_base}
+use Rattle.ceal_session.specs.UndoneEdits.{undone, word_of, base_in, base_at, IsWithin, AreWithin}
 use Rattle.ceal_session.specs.declared.journal.Edit.{Edit}
 
 set-set : {A : Type 0} (xs : List A) (n : ℕ) (x y : A) → slice_set (slice_set xs n x) n y ≡ slice_set xs n y

@@ -179,7 +179,8 @@ module _ (structs : List StructInfo) (inputs : List Block) (bs : List ℕ) where
       → (kind : FieldKind) × (fits_field structs alone kind v ≡ true)
   fields-at kinds [] h f v i = none-some v i
   fields-at [] (w ∷ ws) h f v i = absurd (grind (arith, h))
-  fields-at (kind ∷ kinds) (w ∷ ws) h zero v i = (kind, subst (λ w. fits_field structs alone kind w ≡ true) (some-same w v i) (both (fits_field structs alone kind w) (fields_fit structs alone kinds ws) h).0)
+  fields-at (kind ∷ kinds) (w ∷ ws) h zero v i =
+      (kind, subst (λ w. fits_field structs alone kind w ≡ true) (some-same w v i) (both (fits_field structs alone kind w) (fields_fit structs alone kinds ws) h).0)
   fields-at (kind ∷ kinds) (w ∷ ws) h (suc f) v i = fields-at kinds ws (both (fits_field structs alone kind w) (fields_fit structs alone kinds ws) h).1 f v i
 
   pub plain-back : (kinds : List FieldKind) (ws us : List Word) (f : ℕ) → fields_fit structs alone kinds ws ≡ true

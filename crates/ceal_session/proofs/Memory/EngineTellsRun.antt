@@ -23,12 +23,12 @@ use Rattle.ceal_session.proofs.Memory.SeenBlocks.{seen-is, seen-same, input-coun
 use Rattle.ceal_session.proofs.Engine.EngineKeepsPast.{past-traced}
 use Rattle.ceal_session.proofs.Engine.EngineRunIsSource.{HasRun, has-run, ready-finished}
 use Rattle.ceal_session.proofs.Memory.BlocksUpToNumbers.{content-renamed, renaming, there-back, whole-store}
-use Rattle.ceal_session.specs.Asking.{IsReady, IsCellOf, steps_in, blocks_in, content_text}
+use Rattle.ceal_session.specs.Questions.{IsReady, IsCellOf, steps_in, blocks_in, content_text}
 use Rattle.ceal_session.specs.Journal.{JournalState}
-use Rattle.ceal_session.specs.Keeping.{IsMeasured, bound_from, settled_of, state_of, situation_of, Holds}
+use Rattle.ceal_session.specs.SessionState.{IsMeasured, bound_from, settled_of, state_of, situation_of, SessionInvariant}
 use Rattle.ceal_session.specs.Runs.{present_run}
-use Rattle.ceal_session.specs.Shown.{seen, label}
-use Rattle.ceal_session.specs.State.{State, Numbers, completed, latest_work, numbers_in}
+use Rattle.ceal_session.specs.Shown.{shown_blocks, label}
+use Rattle.ceal_session.specs.State.{State, Numbers, trace_in_past, latest_work, numbers_in}
 use Rattle.ceal_session.specs.Texts.{block_text, value_text, TellsOf}
 use Rattle.ceal_session.specs.Values.{number_of_word, number_after}
 use Rattle.ceal_session.specs.declared.reply.Query.TheVariants.{Show, Work, Bound}
@@ -76,7 +76,8 @@ same-number bs (At p) = refl
 pub whole-engine : (e : EngineState) → IsEngine e → e.phase ≡ IsFinished → FittingLaw → IsWhole e.code.structs (stored_at e.memory)
 whole-engine e k fin fitting = let g = k.present fin in whole-store e g.run g.is e.code.structs (fitting e.code.structs g.run.memory g.is.fits)
 
-module _ (p : Typed) (names : List (List ℕ)) (e : EngineState) (j : JournalState) (pending : Bool) (h : Holds p names e j pending) (k : IsEngine e) (ready : IsReady (state_of p names e j pending)) where
+module _ (p : Typed) (names : List (List ℕ)) (e : EngineState) (j : JournalState) (pending : Bool) (h : SessionInvariant p names e j pending) (k : IsEngine e)
+    (ready : IsReady (state_of p names e j pending)) where
   abbrev state : State
   state = state_of p names e j pending
 
@@ -101,7 +102,7 @@ module _ (p : Typed) (names : List (List ℕ)) (e : EngineState) (j : JournalSta
     where
       go : (o : Option Trace) → trace e ≡ o → is_some o ≡ true → n ≡ (numbers_in (situation_of p names e j pending)).work
       go None t s = absurd (grind (arith, s))
-      go (Some l) t s = i ∙ ap (λ q. latest_work (completed q)) (sym (past-traced e l (ap is_whole finished) t))
+      go (Some l) t s = i ∙ ap (λ q. latest_work (trace_in_past q)) (sym (past-traced e l (ap is_whole finished) t))
 
   -- nothing was edited since, so that the present inputs are the settled ones
   pub now-settled : settled_of e j ≡ e.inputs
@@ -133,10 +134,10 @@ module _ (p : Typed) (names : List (List ℕ)) (e : EngineState) (j : JournalSta
       → number_of_word w ≡ number_after place (present_run state)
   told-value place w cell i = ap number_of_word i ∙ (sym (number-at place.block place.field cell) ∙ ap (number_after place) (sym has.fresh))
 
-  pub whole-seen : FittingLaw → IsWhole e.code.structs (seen e)
+  pub whole-seen : FittingLaw → IsWhole e.code.structs (shown_blocks e)
   whole-seen fitting = subst (IsWhole e.code.structs) (sym (seen-same e finished)) (whole-engine e k finished fitting)
 
-  pub root-seen : ProgressLaw → (n : ℕ) → n < length e.inputs → IsSome (seen e (Input n))
+  pub root-seen : ProgressLaw → (n : ℕ) → n < length e.inputs → IsSome (shown_blocks e (Input n))
   root-seen law n l =
       let g = k.present finished in
       let c : length g.run.memory.inputs ≡ length e.inputs = input-count e k law finished in
@@ -144,12 +145,13 @@ module _ (p : Typed) (names : List (List ℕ)) (e : EngineState) (j : JournalSta
       subst IsSome (sym (seen-is e (Input n) finished)) (there-back e g.run g.is (Input n) (ap is_some b.1))
 
   pub told-graph : ProgressLaw → FittingLaw → TextLaw → (n : ℕ) → n < length e.inputs → (numbers : Numbers) (text : List ℕ)
-      → IsGraphText e.code.structs (seen e) (label names) (Input n) text → TellsOf state numbers (Show n) (present_run state) text
+      → IsGraphText e.code.structs (shown_blocks e) (label names) (Input n) text → TellsOf state numbers (Show n) (present_run state) text
   told-graph law fitting same n l numbers text t =
       let g = has in
       let there : IsSome (stored_at e.memory (Input n)) = subst IsSome (seen-is e (Input n) finished) (root-seen law n l) in
       let t' : IsGraphText e.code.structs (stored_at e.memory) (label names) (Input n) text = subst (λ m. IsGraphText e.code.structs m (label names) (Input n) text) (seen-same e finished) t in
       let r : IsGraphText e.code.structs (block_at g.run.memory) (label names) (Input n) text =
       same e.code.structs (label names) (renamed_id g.is.numbers) (stored_at e.memory) (block_at g.run.memory) (Input n) text (renaming e g.run g.is) (whole-engine e k finished fitting) there t' in
-      let s : IsGraphText p.structs (block_at g.run.memory) (label names) (Input n) text = subst (λ structs. IsGraphText structs (block_at g.run.memory) (label names) (Input n) text) (same-structs p e.code h.compiled.code) r in
+      let s : IsGraphText p.structs (block_at g.run.memory) (label names) (Input n) text =
+          subst (λ structs. IsGraphText structs (block_at g.run.memory) (label names) (Input n) text) (same-structs p e.code h.compiled.code) r in
       rw g.fresh s

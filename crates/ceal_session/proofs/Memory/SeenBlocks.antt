@@ -30,7 +30,7 @@ use Rattle.ceal_engine.specs.declared.phase.Phase.{Phase}
 use Rattle.ceal_engine.specs.declared.phase.Phase.TheVariants.{New, Finished as IsFinished, Pending, Partial, Dropped}
 use Rattle.ceal_session.proofs.Inputs.RunKeepsInputs.{Kept, kept-fresh}
 use Rattle.ceal_session.proofs.Memory.BlocksUpToNumbers.{input-renamed, plain-back}
-use Rattle.ceal_session.specs.Shown.{is_finished, seen}
+use Rattle.ceal_session.specs.Shown.{is_finished, shown_blocks}
 use Rattle.ceal_show.specs.Shown.{IsWhole, words_in, word_at}
 
 finished-is : (phase : Phase) → is_finished phase ≡ true → phase ≡ IsFinished
@@ -41,12 +41,12 @@ finished-is Partial h = absurd (grind (arith, h))
 finished-is Dropped h = absurd (grind (arith, h))
 
 -- what is seen is of a finished run
-pub seen-is : (e : EngineState) (b : BlockId) → e.phase ≡ IsFinished → seen e b ≡ stored_at e.memory b
-unfolding seen
+pub seen-is : (e : EngineState) (b : BlockId) → e.phase ≡ IsFinished → shown_blocks e b ≡ stored_at e.memory b
+unfolding shown_blocks
 seen-is e b h = rw h refl
 
-pub seen-finished : (e : EngineState) (b : BlockId) → IsSome (seen e b) → e.phase ≡ IsFinished
-unfolding seen
+pub seen-finished : (e : EngineState) (b : BlockId) → IsSome (shown_blocks e b) → e.phase ≡ IsFinished
+unfolding shown_blocks
 seen-finished e b h = go (is_finished e.phase) refl h
   where
     go : (t : Bool) → is_finished e.phase ≡ t → IsSome (if t then stored_at e.memory b else None) → e.phase ≡ IsFinished
@@ -67,7 +67,8 @@ module _ (e : EngineState) (k : IsEngine e) (law : ProgressLaw) (fin : e.phase �
   pub inputs-kept : Kept e.code.structs e.inputs run.memory.inputs
   inputs-kept = go e.call refl k.call (k.present fin).fresh
     where
-      go : (o : Option Call) → e.call ≡ o → IfSome o (λ call. Fits e.code e.inputs call.function call.args) → fresh_call e.code e.inputs e.fuel o ≡ Some run → Kept e.code.structs e.inputs run.memory.inputs
+      go : (o : Option Call) → e.call ≡ o → IfSome o (λ call. Fits e.code e.inputs call.function call.args) → fresh_call e.code e.inputs e.fuel o ≡ Some run
+          → Kept e.code.structs e.inputs run.memory.inputs
       go None i f h = none-some run h
       go (Some call) i f h = kept-fresh e.code e.inputs law k.valid call.function call.args f e.fuel run h
 
@@ -103,7 +104,7 @@ pub record SeenBlock (e : EngineState) (b : BlockId) : Type 0 where
   pub fin : e.phase ≡ IsFinished
   pub block : Block
   pub stored : stored_at e.memory b ≡ Some block
-  pub seen_as : seen e b ≡ Some block
+  pub seen_as : shown_blocks e b ≡ Some block
   pub shown : ShownAs e.code.structs block (block_in e b)
 
 pub shows-finished : (e : EngineState) → e.phase ≡ IsFinished → (b : BlockId) → Shows e b
@@ -111,25 +112,25 @@ shows-finished e h (Input n) = tt
 shows-finished e h (Core n) = h
 
 module _ (e : EngineState) (k : IsEngine e) (law : ProgressLaw) where
-  pub seen-block : (b : BlockId) → IsSome (seen e b) → SeenBlock e b
-  seen-block b h = go (seen e b) refl h
+  pub seen-block : (b : BlockId) → IsSome (shown_blocks e b) → SeenBlock e b
+  seen-block b h = go (shown_blocks e b) refl h
     where
-      go : (o : Option Block) → seen e b ≡ o → IsSome o → SeenBlock e b
+      go : (o : Option Block) → shown_blocks e b ≡ o → IsSome o → SeenBlock e b
       go None i some = absurd (grind (arith, some))
       go (Some block) i some =
           let fin = seen-finished e b h in
           let s : stored_at e.memory b ≡ Some block = sym (seen-is e b fin) ∙ i in
           record { fin = fin; block = block; stored = s; seen_as = i; shown = shown-as e k law fin b block s }
 
-  pub word-seen : (b : BlockId) (field : ℕ) → IsSome (word_at (seen e) b field) → IsSome (seen e b)
-  word-seen b field h = go (seen e b) h
+  pub word-seen : (b : BlockId) (field : ℕ) → IsSome (word_at (shown_blocks e) b field) → IsSome (shown_blocks e b)
+  word-seen b field h = go (shown_blocks e b) h
     where
       go : (o : Option Block) → IsSome (slice_get (words_in o) field) → IsSome o
       go None i = absurd (grind (arith, i))
       go (Some block) i = refl
 
   -- the word of a seen field
-  module _ (b : BlockId) (field : ℕ) (h : IsSome (word_at (seen e) b field)) where
+  module _ (b : BlockId) (field : ℕ) (h : IsSome (word_at (shown_blocks e) b field)) where
     abbrev sb : SeenBlock e b
     sb = seen-block b (word-seen b field h)
 
@@ -137,16 +138,16 @@ module _ (e : EngineState) (k : IsEngine e) (law : ProgressLaw) where
     is-word None i = absurd (grind (arith, i))
     is-word (Some w) i = refl
 
-    word-there : word_at (seen e) b field ≡ slice_get sb.block.words field
+    word-there : word_at (shown_blocks e) b field ≡ slice_get sb.block.words field
     word-there = ap (λ o. slice_get (words_in o) field) sb.seen_as
 
     some-word : IsSome (slice_get sb.block.words field)
     some-word = subst IsSome word-there h
 
-    pub word-stored : word_at (seen e) b field ≡ Some (word_in (stored_at e.memory b) field Null)
+    pub word-stored : word_at (shown_blocks e) b field ≡ Some (word_in (stored_at e.memory b) field Null)
     word-stored = word-there ∙ is-word (slice_get sb.block.words field) some-word ∙ ap (λ o. Some (word_in o field Null)) (sym sb.stored)
 
-    pub word-plain : is_plain (kind_in e.code.structs (block_in e b) field) ≡ true → word_at (seen e) b field ≡ Some (word_in (block_in e b) field Null)
+    pub word-plain : is_plain (kind_in e.code.structs (block_in e b) field) ≡ true → word_at (shown_blocks e) b field ≡ Some (word_in (block_in e b) field Null)
     word-plain p =
         let q : is_plain (slice_get (kinds_of_shape e.code.structs sb.shown.found.shape) field) ≡ true = subst (λ o. is_plain (kind_in e.code.structs o field) ≡ true) sb.shown.there p in
         word-there ∙ is-word (slice_get sb.block.words field) some-word ∙ ap (λ o. Some (unwrap_or o Null)) (sb.shown.plain field q) ∙ ap (λ o. Some (word_in o field Null)) (sym sb.shown.there)
@@ -166,14 +167,16 @@ module _ (e : EngineState) (k : IsEngine e) (law : ProgressLaw) where
         let n : length sb.block.words ≡ length (kinds_of_shape e.code.structs sb.block.shape) = whole.fields b sb.block sb.stored in
         let l : field < length sb.block.words = some-in (slice_get sb.block.words field) sb.block.words refl some-word in
         let g = got (kinds_of_shape e.code.structs sb.block.shape) field (subst (λ n. field < n) n l) in
-        let s : kind_in e.code.structs (block_in e b) field ≡ Some g.0 = ap (λ o. kind_in e.code.structs o field) sb.shown.there ∙ ap (λ s. slice_get (kinds_of_shape e.code.structs s) field) sb.shown.shape ∙ g.1 in
+        let s : kind_in e.code.structs (block_in e b) field ≡ Some g.0 =
+            ap (λ o. kind_in e.code.structs o field) sb.shown.there ∙ ap (λ s. slice_get (kinds_of_shape e.code.structs s) field) sb.shown.shape ∙ g.1 in
         cell-else (kind_in e.code.structs (block_in e b) field) (ap is_some s) p
 
-pub seen-same : (e : EngineState) → e.phase ≡ IsFinished → seen e ≡ stored_at e.memory
-unfolding seen
+pub seen-same : (e : EngineState) → e.phase ≡ IsFinished → shown_blocks e ≡ stored_at e.memory
+unfolding shown_blocks
 seen-same e h = rw h refl
 
 -- the kind of a field by the shape of its block
-pub kind-by : (structs : List StructInfo) (o : Option Block) (shape : Shape) (field : ℕ) → option_map (λ b. b.shape) o ≡ Some shape → kind_in structs o field ≡ slice_get (kinds_of_shape structs shape) field
+pub kind-by : (structs : List StructInfo) (o : Option Block) (shape : Shape) (field : ℕ) → option_map (λ b. b.shape) o ≡ Some shape
+    → kind_in structs o field ≡ slice_get (kinds_of_shape structs shape) field
 kind-by structs None shape field h = none-some shape h
 kind-by structs (Some block) shape field h = ap (λ s. slice_get (kinds_of_shape structs s) field) (some-same block.shape shape h)

@@ -12,9 +12,9 @@ use Rattle.ceal_session.proofs.Moves.StateAfterRun.{fits-of}
 use Rattle.ceal_session.proofs.Engine.EngineKeepsPast.{past-going, past-none, past-traced, some-trace, whole-or-part, whole-runs}
 use Rattle.ceal_session.proofs.Inputs.UndoneEdits.{undone-count}
 use Rattle.ceal_session.specs.Journal.{JournalState}
-use Rattle.ceal_session.specs.Keeping.{is_dropped, past_of, settled_of, situation_of, IsSettledOn, WasHonest, Holds}
-use Rattle.ceal_session.specs.Standing.{HasTraceOf, HasTrace}
-use Rattle.ceal_session.specs.State.{Situation, completed}
+use Rattle.ceal_session.specs.SessionState.{is_dropped, past_of, settled_of, situation_of, IsSettledOn, WasHonest, SessionInvariant}
+use Rattle.ceal_session.specs.Consistency.{HasTraceOf, HasTrace}
+use Rattle.ceal_session.specs.State.{Situation, trace_in_past}
 use Rattle.ceal_theory.specs.Computed.{Repaired}
 
 whole-within : (phase : Phase) → IsWhole phase → is_dropped phase ≡ false
@@ -24,7 +24,7 @@ whole-within Pending h = refl
 whole-within Partial h = refl
 whole-within Dropped h = absurd (grind (arith, h))
 
-module _ (p : Typed) (names : List (List ℕ)) (e : EngineState) (j : JournalState) (pending : Bool) (h : Holds p names e j pending) (k : IsEngine e) where
+module _ (p : Typed) (names : List (List ℕ)) (e : EngineState) (j : JournalState) (pending : Bool) (h : SessionInvariant p names e j pending) (k : IsEngine e) where
   abbrev m : Situation
   m = situation_of p names e j pending
 
@@ -43,7 +43,8 @@ module _ (p : Typed) (names : List (List ℕ)) (e : EngineState) (j : JournalSta
   of-trace : IsWhole e.phase → (l : Trace) → trace e ≡ Some l → (call : Call) → e.call ≡ Some call → HasTraceOf m call (record { items = l; work = e.work })
   of-trace w l is call called =
       let s : IsSettledOn e (settled_of e j) call = subst (λ o. IfSome o (IsSettledOn e (settled_of e j))) called (h.settled (whole-runs e.phase w)) in
-      let was : WasHonest e (settled_of e j) call l = subst (λ o. IfSome o (WasHonest e (settled_of e j) call)) is (subst (λ o. IfSome o (λ c. IfSome (trace e) (WasHonest e (settled_of e j) c))) called (h.was w)) in
+      let was : WasHonest e (settled_of e j) call l =
+          subst (λ o. IfSome o (WasHonest e (settled_of e j) call)) is (subst (λ o. IfSome o (λ c. IfSome (trace e) (WasHonest e (settled_of e j) c))) called (h.was w)) in
       record {
         now = fits-of e k call called;
         was = s.run.fits;
@@ -64,17 +65,17 @@ module _ (p : Typed) (names : List (List ℕ)) (e : EngineState) (j : JournalSta
   pub has-trace : HasTrace m
   has-trace = go (has_run e.phase) refl
     where
-      whole : IsWhole e.phase → Here (completed (past_of e))
+      whole : IsWhole e.phase → Here (trace_in_past (past_of e))
       whole w =
           let l = some-trace (trace e) (k.kept ∙ whole-runs e.phase w) in
           let c = run-call (whole-runs e.phase w) e.call refl in
-          subst (λ q. Here (completed q)) (sym (past-traced e l.0 w l.1)) (c.0, c.1, of-trace w l.0 l.1 c.0 c.1)
+          subst (λ q. Here (trace_in_past q)) (sym (past-traced e l.0 w l.1)) (c.0, c.1, of-trace w l.0 l.1 c.0 c.1)
 
-      part : e.phase ≡ Partial → Here (completed (past_of e))
+      part : e.phase ≡ Partial → Here (trace_in_past (past_of e))
       part i =
           let l = some-trace (trace e) (k.kept ∙ ap has_run i) in
-          subst (λ q. Here (completed q)) (sym (past-going e l.0 i l.1)) tt
+          subst (λ q. Here (trace_in_past q)) (sym (past-going e l.0 i l.1)) tt
 
-      go : (b : Bool) → has_run e.phase ≡ b → Here (completed (past_of e))
+      go : (b : Bool) → has_run e.phase ≡ b → Here (trace_in_past (past_of e))
       go true i = elim (whole-or-part e.phase i) [ inl w ↦ whole w | inr i ↦ part i ]
-      go false i = subst (λ q. Here (completed q)) (sym (past-none e k i)) tt
+      go false i = subst (λ q. Here (trace_in_past q)) (sym (past-none e k i)) tt

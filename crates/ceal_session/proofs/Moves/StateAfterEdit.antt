@@ -1,7 +1,7 @@
 -- What a session is after an edit, and after one input more.
 use Rattle.std.proofs.Common.{◌≡◌, ℕ, ◌<◌, Bool, true, Option, Some, None, List, [], ◌∷◌, ◌++◌, length, suc, refl, sym, ap, ap₂, ◌∙◌, subst, length-append, arith, slice_get}
 use Rattle.std.specs.Prelude.{IfSome}
-use Rattle.ceal_base.specs.Block.{Block, block_at}
+use Rattle.ceal_base.specs.Block.{Block, block_at, alone}
 use Rattle.ceal_base.specs.Fitting.{kind_in, kind_at, block_fits, inputs_fit}
 use Rattle.ceal_base.specs.Shapes.{kinds_of_shape}
 use Rattle.ceal_base.specs.Trace.{Trace}
@@ -20,7 +20,7 @@ use Rattle.ceal_code.specs.Replay.{Replays}
 use Rattle.ceal_code.specs.Value.{is_cell}
 use Rattle.ceal_cost.proofs.Firsts.{more-first}
 use Rattle.ceal_cost.specs.Bounds.{first_cost, aligned_of}
-use Rattle.ceal_engine.specs.Engine.{EngineState, IsWhole, alone, with_base, edited, trace, has_run, stands_for}
+use Rattle.ceal_engine.specs.Engine.{EngineState, IsWhole, with_base, phase_after_edit, trace, has_run, stands_for}
 use Rattle.ceal_engine.specs.declared.phase.Phase.{Phase}
 use Rattle.ceal_engine.specs.declared.phase.Phase.TheVariants.{New, Finished, Pending, Partial, Dropped}
 use Rattle.ceal_script.specs.Spelling.{IsName}
@@ -30,38 +30,39 @@ use Rattle.ceal_session.proofs.Inputs.ExtendedInputs.{extended-on, extended-both
 use Rattle.ceal_session.proofs.Engine.RunLeavesPast.{first-ends, has-first}
 use Rattle.ceal_session.proofs.Inputs.ShapesOfInputs.{spelled-more}
 use Rattle.ceal_session.proofs.Inputs.UndoneEdits.{base-count, undone-more, put-back, undone-count, undone-longer, are-within-more, are-within-push, shapes-undone}
-use Rattle.ceal_session.specs.Asking.{IsCellOf}
-use Rattle.ceal_session.specs.Following.{Keeps}
+use Rattle.ceal_session.specs.Questions.{IsCellOf}
+use Rattle.ceal_session.specs.AfterLine.{KeepsRuns}
 use Rattle.ceal_session.specs.Journal.{Measure, Number, Between, JournalState, with_edit}
-use Rattle.ceal_session.specs.Keeping.{is_dropped, past_of, past_by, traced_by, going_by, call_cost, bound_from, settled_of, state_of, situation_of, IsRunOn, IsMeasured, IsSettledOn, WasHonest, Holds}
+use Rattle.ceal_session.specs.SessionState.{is_dropped, past_of, past_by, traced_by, going_by, call_cost, bound_from, settled_of, state_of, situation_of, IsRunOn, IsMeasured, IsSettledOn, WasHonest}
+use Rattle.ceal_session.specs.SessionState.{SessionInvariant}
 use Rattle.ceal_session.specs.Steps.{with_base as state_with_base, with_input}
-use Rattle.ceal_session.specs.Undoing.{undone, base_at, IsWithin, AreWithin}
+use Rattle.ceal_session.specs.UndoneEdits.{undone, base_at, IsWithin, AreWithin}
 use Rattle.ceal_session.specs.declared.journal.Edit.{Edit}
 use Rattle.ceal_theory.proofs.Store.MoreInputs.{inputs-law}
 use Rattle.ceal_theory.specs.Pasts.{Traced, Going}
 
-edited-drops : (phase : Phase) → is_dropped (edited phase) ≡ is_dropped phase
+edited-drops : (phase : Phase) → is_dropped (phase_after_edit phase) ≡ is_dropped phase
 edited-drops New = refl
 edited-drops Finished = refl
 edited-drops Pending = refl
 edited-drops Partial = refl
 edited-drops Dropped = refl
 
-edited-runs : (phase : Phase) → has_run (edited phase) ≡ true → has_run phase ≡ true
+edited-runs : (phase : Phase) → has_run (phase_after_edit phase) ≡ true → has_run phase ≡ true
 edited-runs New h = h
 edited-runs Finished h = h
 edited-runs Pending h = h
 edited-runs Partial h = h
 edited-runs Dropped h = h
 
-edited-whole : (phase : Phase) → IsWhole (edited phase) → IsWhole phase
+edited-whole : (phase : Phase) → IsWhole (phase_after_edit phase) → IsWhole phase
 edited-whole New h = h
 edited-whole Finished h = refl
 edited-whole Pending h = h
 edited-whole Partial h = h
 edited-whole Dropped h = h
 
-not-finished : (phase : Phase) → edited phase ≡ Finished → ⊥
+not-finished : (phase : Phase) → phase_after_edit phase ≡ Finished → ⊥
 not-finished New h = absurd (grind (arith, h))
 not-finished Finished h = absurd (grind (arith, h))
 not-finished Pending h = absurd (grind (arith, h))
@@ -97,14 +98,14 @@ module _ (e e' : EngineState) (code : e'.code ≡ e.code) (fuel : e'.fuel ≡ e.
       go Partial = going-same phase
       go Dropped = traced-same
 
-  past-edited : e'.phase ≡ edited e.phase → past_of e' ≡ past_of e
+  past-edited : e'.phase ≡ phase_after_edit e.phase → past_of e' ≡ past_of e
   past-edited phase = ap (λ f. past_by f e') phase ∙ go e.phase refl
     where
-      go : (f : Phase) → e.phase ≡ f → past_by (edited f) e' ≡ past_by f e
+      go : (f : Phase) → e.phase ≡ f → past_by (phase_after_edit f) e' ≡ past_by f e
       go New i = traced-same
       go Finished i = traced-same
       go Pending i = traced-same
-      go Partial i = going-same (phase ∙ (ap edited i ∙ sym i))
+      go Partial i = going-same (phase ∙ (ap phase_after_edit i ∙ sym i))
       go Dropped i = traced-same
 
   run-same : (xs : List Block) (c : Call) → IsRunOn e xs c → IsRunOn e' xs c
@@ -132,10 +133,10 @@ module _ (e e' : EngineState) (code : e'.code ≡ e.code) (fuel : e'.fuel ≡ e.
       go c None r = tt
       go c (Some l) r = record { replays = rw code r.replays; honest = rw code r.honest; few = rw fuel r.few }
 
-module _ (p : Typed) (names : List (List ℕ)) (e : EngineState) (j : JournalState) (pending : Bool) (h : Holds p names e j pending) (e' : EngineState)
+module _ (p : Typed) (names : List (List ℕ)) (e : EngineState) (j : JournalState) (pending : Bool) (h : SessionInvariant p names e j pending) (e' : EngineState)
     (code : e'.code ≡ e.code) (fuel : e'.fuel ≡ e.fuel) (call : e'.call ≡ e.call) (forest : e'.forest ≡ e.forest) (heap : e'.heap ≡ e.heap) (work : e'.work ≡ e.work) where
   -- an edit
-  module _ (place : Place) (word : Word) (cell : IsCellOf (state_of p names e j pending) place) (phase : e'.phase ≡ edited e.phase) (inputs : e'.inputs ≡ with_base e.inputs place word) where
+  module _ (place : Place) (word : Word) (cell : IsCellOf (state_of p names e j pending) place) (phase : e'.phase ≡ phase_after_edit e.phase) (inputs : e'.inputs ≡ with_base e.inputs place word) where
     abbrev edit : Edit
     edit = record { place = place; base = base_at e.inputs place }
 
@@ -150,7 +151,7 @@ module _ (p : Typed) (names : List (List ℕ)) (e : EngineState) (j : JournalSta
     pub edited-state : state_of p names e' j' true ≡ state_with_base (state_of p names e j pending) place word
     edited-state = rw (same-settled, fuel, inputs, call, phase, edited-drops e.phase) refl
 
-    pub edited-keeps : Keeps (situation_of p names e j pending) (situation_of p names e' j' true)
+    pub edited-keeps : KeepsRuns (situation_of p names e j pending) (situation_of p names e' j' true)
     edited-keeps = record {
       code = code;
       past = past-edited e e' code fuel call forest heap work phase;
@@ -177,7 +178,7 @@ module _ (p : Typed) (names : List (List ℕ)) (e : EngineState) (j : JournalSta
     same-count : length e'.inputs ≡ length e.inputs
     same-count = ap length inputs ∙ base-count e.inputs place word
 
-    pub edited-holds : Holds p names e' j' true
+    pub edited-holds : SessionInvariant p names e' j' true
     edited-holds = record {
       compiled = rw code h.compiled;
       named = h.named ∙ sym same-count;
@@ -271,7 +272,7 @@ module _ (p : Typed) (names : List (List ℕ)) (e : EngineState) (j : JournalSta
           run-longer (settled_of e j) c r.1 (code-fits (settled_of e j) settled-shapes),
         )
 
-    pub longer-keeps : Keeps (situation_of p names e j pending) (situation_of p names' e' j pending)
+    pub longer-keeps : KeepsRuns (situation_of p names e j pending) (situation_of p names' e' j pending)
     longer-keeps = record {
       code = code;
       past = past-same e e' code fuel call forest heap work phase;
@@ -296,11 +297,12 @@ module _ (p : Typed) (names : List (List ℕ)) (e : EngineState) (j : JournalSta
             (longer-fits e.code.structs (settled_of e j) b s.run.fits.blocks (code-fits (settled_of e j) settled-shapes)) (extended-longer e.code (settled_of e j) b) l w.replays in
             record { replays = more.replays; honest = more.honest (same-bases e.code (settled_of e j) b) w.honest; few = w.few }
 
-        go : (o : Option Call) → IfSome o (IsSettledOn e (settled_of e j)) → IfSome o (λ c. IfSome (trace e) (WasHonest e (settled_of e j) c)) → IfSome o (λ c. IfSome (trace e) (WasHonest e (settled_of e j ++ b ∷ []) c))
+        go : (o : Option Call) → IfSome o (IsSettledOn e (settled_of e j)) → IfSome o (λ c. IfSome (trace e) (WasHonest e (settled_of e j) c))
+            → IfSome o (λ c. IfSome (trace e) (WasHonest e (settled_of e j ++ b ∷ []) c))
         go None s w = tt
         go (Some c) s w = on-trace c s (trace e) w
 
-    pub longer-holds : IsName name → Holds p names' e' j pending
+    pub longer-holds : IsName name → SessionInvariant p names' e' j pending
     longer-holds is-name = record {
       compiled = rw code h.compiled;
       named =

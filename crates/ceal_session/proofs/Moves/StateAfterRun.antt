@@ -17,12 +17,12 @@ use Rattle.ceal_session.proofs.Engine.EngineKeepsPast.{past-none, past-going, pa
 use Rattle.ceal_session.proofs.Inputs.ExtendedInputs.{extended-same}
 use Rattle.ceal_session.proofs.Engine.RunLeavesPast.{few-steps, has-first, no-first}
 use Rattle.ceal_session.proofs.Engine.EngineRunIsSource.{code-run}
-use Rattle.ceal_session.specs.Advancing.{Outcome, is_more, journal_behind, IsSliceOf, Brings, IsAdvanced}
+use Rattle.ceal_session.specs.Outcomes.{Outcome, is_more, journal_after_outcome, IsSliceOf, EngineAfterCall, SituationAfterOutcome}
 use Rattle.ceal_session.specs.Journal.{Measure, Number, Between, JournalState}
-use Rattle.ceal_session.specs.Keeping.{past_of, call_cost, bound_from, settled_of, situation_of, IsRunOn, IsMeasured, IsSettledOn, WasHonest, Holds}
+use Rattle.ceal_session.specs.SessionState.{past_of, call_cost, bound_from, settled_of, situation_of, IsRunOn, IsMeasured, IsSettledOn, WasHonest, SessionInvariant}
 use Rattle.ceal_session.specs.Runs.{run_of}
 use Rattle.ceal_session.specs.State.{State, Situation}
-use Rattle.ceal_session.specs.Undoing.{undone, AreWithin}
+use Rattle.ceal_session.specs.UndoneEdits.{undone, AreWithin}
 use Rattle.ceal_session.specs.Works.{steps_in_first, bound_by}
 use Rattle.ceal_theory.specs.Adjust.{Extended}
 use Rattle.ceal_theory.specs.Computed.{Repaired, first_of}
@@ -49,7 +49,8 @@ At s c q = record { state = s; code = c; past = q; bound = 0 }
 same-dropped : {s t : State} {c d : Code} {q : Past} → s ≡ t → c ≡ d → q ≡ NoTrace → At s c q ≡ At t d NoTrace
 same-dropped i j k = rw (i, j, k) refl
 
-module _ (p : Typed) (names : List (List ℕ)) (e : EngineState) (j : JournalState) (pending : Bool) (h : Holds p names e j pending) (call : Call) (fits : Fits e.code e.inputs call.function call.args)
+module _ (p : Typed) (names : List (List ℕ)) (e : EngineState) (j : JournalState) (pending : Bool) (h : SessionInvariant p names e j pending) (call : Call)
+    (fits : Fits e.code e.inputs call.function call.args)
     (reads : Option ℕ) (e' : EngineState) (k' : IsEngine e') where
   abbrev before : Situation
   before = situation_of p names e j pending
@@ -57,7 +58,7 @@ module _ (p : Typed) (names : List (List ℕ)) (e : EngineState) (j : JournalSta
   abbrev first : Option Repaired
   first = first_of e.code e.inputs e.fuel call.function call.args
 
-  module _ (outcome : Outcome) (b : Brings e call reads outcome e') where
+  module _ (outcome : Outcome) (b : EngineAfterCall e call reads outcome e') where
     source-run : run_of before.state call ≡ fresh_of e'
     source-run = code-run p names e j pending h (Some call) fits ∙ sym (rw (b.code, b.fuel, b.inputs, b.called) refl)
 
@@ -126,7 +127,8 @@ module _ (p : Typed) (names : List (List ℕ)) (e : EngineState) (j : JournalSta
     same-measure settled (Number n) again = refl
     same-measure settled (Between es) again = same-cost (undone es settled) settled ∙ ap (call_cost e.code e.fuel (undone es settled) settled) (sym again)
 
-  pub advanced : (outcome : Outcome) → (b : Brings e call reads outcome e') → IsAdvanced before call reads outcome (situation_of p names e' (journal_behind e'.steps j outcome) (is_more outcome))
+  pub advanced : (outcome : Outcome) → (b : EngineAfterCall e call reads outcome e')
+      → SituationAfterOutcome before call reads outcome (situation_of p names e' (journal_after_outcome e'.steps j outcome) (is_more outcome))
   advanced (Ok More) b = (
     b.began.1,
     record {
@@ -189,28 +191,28 @@ module _ (p : Typed) (names : List (List ℕ)) (e : EngineState) (j : JournalSta
   advanced (Err Memory) b = same-dropped (rw (b.fuel, b.inputs, b.phase, b.called) refl) b.code (past-none e' k' (ap has_run b.phase))
 
   -- what is true inside
-  run-on : {outcome : Outcome} → Brings e call reads outcome e' → (inputs : List Block) → IsRunOn e inputs call → IsRunOn e' inputs call
+  run-on : {outcome : Outcome} → EngineAfterCall e call reads outcome e' → (inputs : List Block) → IsRunOn e inputs call → IsRunOn e' inputs call
   run-on b inputs r = record {
     fits = subst (λ c. Fits c inputs call.function call.args) (sym b.code) r.fits;
     first = r.first;
     is = rw (b.code, b.fuel) r.is;
   }
 
-  present-on : {outcome : Outcome} → (b : Brings e call reads outcome e') → IsPresent e' → IsRunOn e' e.inputs call
+  present-on : {outcome : Outcome} → (b : EngineAfterCall e call reads outcome e') → IsPresent e' → IsRunOn e' e.inputs call
   present-on {outcome} b present =
       let f = firsts outcome b present in
       run-on b e.inputs (record { fits = fits; first = f.found; is = f.is })
 
-  on-inputs : {outcome : Outcome} → Brings e call reads outcome e' → (P : List Block → Type 0) → P e.inputs → P e'.inputs
+  on-inputs : {outcome : Outcome} → EngineAfterCall e call reads outcome e' → (P : List Block → Type 0) → P e.inputs → P e'.inputs
   on-inputs b P x = subst P (sym b.inputs) x
 
-  here : {outcome : Outcome} → Brings e call reads outcome e' → (P : Call → Type 0) → P call → IfSome e'.call P
+  here : {outcome : Outcome} → EngineAfterCall e call reads outcome e' → (P : Call → Type 0) → P call → IfSome e'.call P
   here b P x = subst (λ o. IfSome o P) (sym b.called) x
 
-  settled-now : {outcome : Outcome} → (b : Brings e call reads outcome e') → IsPresent e' → IfSome e'.call (IsSettledOn e' e'.inputs)
+  settled-now : {outcome : Outcome} → (b : EngineAfterCall e call reads outcome e') → IsPresent e' → IfSome e'.call (IsSettledOn e' e'.inputs)
   settled-now b present = here b (IsSettledOn e' e'.inputs) (record { run = on-inputs b (λ xs. IsRunOn e' xs call) (present-on b present); extended = extended-same e'.code e'.inputs })
 
-  honest-now : {outcome : Outcome} → (b : Brings e call reads outcome e') → IsPresent e' → e'.phase ≡ IsFinished → IfSome e'.call (λ call. IfSome (trace e') (WasHonest e' e'.inputs call))
+  honest-now : {outcome : Outcome} → (b : EngineAfterCall e call reads outcome e') → IsPresent e' → e'.phase ≡ IsFinished → IfSome e'.call (λ call. IfSome (trace e') (WasHonest e' e'.inputs call))
   honest-now b present ph = here b (λ call. IfSome (trace e') (WasHonest e' e'.inputs call)) (go (trace e') (k'.traced ph) (k'.replays (ap is_whole ph)))
     where
       go : (o : Option Trace) → IfSome o (IsTraced e') → IfSome o (ReplaysCall e') → IfSome o (WasHonest e' e'.inputs call)
@@ -225,9 +227,9 @@ module _ (p : Typed) (names : List (List ℕ)) (e : EngineState) (j : JournalSta
           }
 
   abbrev Kept : Outcome → Type 0
-  Kept outcome = Holds p names e' (journal_behind e'.steps j outcome) (is_more outcome)
+  Kept outcome = SessionInvariant p names e' (journal_after_outcome e'.steps j outcome) (is_more outcome)
 
-  dropped-kept : (outcome : Outcome) → (b : Brings e call reads outcome e') → e'.phase ≡ Dropped → Holds p names e' (record { since = []; measure = Number 0 }) false
+  dropped-kept : (outcome : Outcome) → (b : EngineAfterCall e call reads outcome e') → e'.phase ≡ Dropped → SessionInvariant p names e' (record { since = []; measure = Number 0 }) false
   dropped-kept outcome b ph = record {
     compiled = rw b.code h.compiled;
     named = h.named ∙ ap length (sym b.inputs);
@@ -242,7 +244,7 @@ module _ (p : Typed) (names : List (List ℕ)) (e : EngineState) (j : JournalSta
     measured = tt;
   }
 
-  pub holds-behind : (outcome : Outcome) → Brings e call reads outcome e' → Kept outcome
+  pub holds-behind : (outcome : Outcome) → EngineAfterCall e call reads outcome e' → Kept outcome
   holds-behind (Ok More) b = record {
     compiled = rw b.code h.compiled;
     named = h.named ∙ ap length (sym b.inputs);

@@ -19,12 +19,12 @@ use Rattle.ceal_session.proofs.Inputs.ShapesOfInputs.{line-named}
 use Rattle.ceal_session.proofs.Replies.ReplyExists.{Accepted, LineLaw, TextLaw, WholeLaw, accepted-in, before-line, code-run, facts, fits-call, fits-settled, ran-here}
 use Rattle.ceal_session.specs.Bounded.{AreOrdered, BoundedLaw, HaveNoEdit, IsEdit}
 use Rattle.ceal_session.specs.Laws.{OneCommandLaw}
-use Rattle.ceal_session.specs.Naming.{IsNamed}
-use Rattle.ceal_session.specs.Replies.{Leads, behind}
+use Rattle.ceal_session.specs.InputNames.{IsNamed}
+use Rattle.ceal_session.specs.Replies.{Leads, situation_after}
 use Rattle.ceal_session.specs.Runs.{run_of, with_run, with_part}
-use Rattle.ceal_session.specs.Standing.{IsPastIn, Stands}
+use Rattle.ceal_session.specs.Consistency.{IsPastIn, IsConsistent}
 use Rattle.ceal_session.specs.State.{State, Situation}
-use Rattle.ceal_session.specs.Steps.{answered_line}
+use Rattle.ceal_session.specs.Steps.{step_of_line}
 use Rattle.ceal_session.specs.Works.{call_in, reads_in, past_in, bound_in, past_left, bound_left}
 use Rattle.ceal_session.specs.declared.refusal.Refusal.{Refusal}
 use Rattle.ceal_theory.specs.Computed.{Repaired}
@@ -52,7 +52,7 @@ not-going m h = go m.state.call m.past h
     go (Some call) (Going r) h = absurd (grind (arith, h))
 
 module _ (progress : ProgressLaw) (line_law : LineLaw) (whole_law : WholeLaw) (text_law : TextLaw) where
-  module _ (m : Situation) (st : Stands m) (kept : Unedited m) where
+  module _ (m : Situation) (st : IsConsistent m) (kept : Unedited m) where
     abbrev code : Code
     code = m.code
 
@@ -80,7 +80,8 @@ module _ (progress : ProgressLaw) (line_law : LineLaw) (whole_law : WholeLaw) (t
           let next = beginning code s.inputs l.items (above l.items) in
           slice-left code s call now was st.settled l h reads next (reaches-next code s call now was st.settled l h) m.bound (sliced code own s.inputs reads s.fuel next) refl
       of-past (Going r) h k =
-          slice-left code s call now was st.settled k.trace k.is reads r (reaches-slice code s call now was st.settled k.trace k.is k.reads r k.slices) m.bound (sliced code own s.inputs reads s.fuel r) refl
+          slice-left code s call now was st.settled k.trace k.is reads r (reaches-slice code s call now was st.settled k.trace k.is k.reads r k.slices) m.bound
+              (sliced code own s.inputs reads s.fuel r) refl
 
       left : IsLeft code s call past bound
       left = elim (before-line progress line_law whole_law text_law m st call a) [
@@ -133,7 +134,7 @@ module _ (progress : ProgressLaw) (line_law : LineLaw) (whole_law : WholeLaw) (t
           go (Going r) same h = subst (λ x. IsSlicedFrom code x call r) (sym (same refl)) (moved r h)
 
     -- the state after a line that runs nothing and edits nothing
-    quiet-state : (command : Option Command) (more : Bool) (x : Refusal) → call_in s command ≡ Err x → ¬ IsEdit command → (answered_line s more command).state ≡ s
+    quiet-state : (command : Option Command) (more : Bool) (x : Refusal) → call_in s command ≡ Err x → ¬ IsEdit command → (step_of_line s more command).state ≡ s
     quiet-state None more x e h = refl
     quiet-state (Some Blank) more x e h = refl
     quiet-state (Some (Mod name kind value)) more x e h = absurd (h tt)
@@ -150,7 +151,7 @@ module _ (progress : ProgressLaw) (line_law : LineLaw) (whole_law : WholeLaw) (t
     quiet-state (Some Bound) more x e h = refl
 
     -- after one that completes a run
-    run-state : (command : Option Command) (more : Bool) (call : Call) → call_in s command ≡ Ok call → more ≡ false → (answered_line s more command).state ≡ with_run s call (is_none (run_of s call))
+    run-state : (command : Option Command) (more : Bool) (call : Call) → call_in s command ≡ Ok call → more ≡ false → (step_of_line s more command).state ≡ with_run s call (is_none (run_of s call))
     run-state None more call e g = absurd (grind (arith, e))
     run-state (Some Blank) more call e g = absurd (grind (arith, e))
     run-state (Some (Mod name kind value)) more call e g = absurd (grind (arith, e))
@@ -167,22 +168,22 @@ module _ (progress : ProgressLaw) (line_law : LineLaw) (whole_law : WholeLaw) (t
     run-state (Some Bound) more call e g = absurd (grind (arith, e))
 
     -- and after a slice with which a repair is in progress
-    part-state : (reads : ℕ) (more : Bool) (call : Call) → call_in s (Some (Slice reads)) ≡ Ok call → more ≡ true → (answered_line s more (Some (Slice reads))).state ≡ with_part s
+    part-state : (reads : ℕ) (more : Bool) (call : Call) → call_in s (Some (Slice reads)) ≡ Ok call → more ≡ true → (step_of_line s more (Some (Slice reads))).state ≡ with_part s
     part-state reads more call e g = rw (e, g) refl
 
     past-is : (command : Option Command) (r : Result Call Refusal) → call_in s command ≡ r → past_in m command ≡ past_left code s r (reads_in command) m.past
     past-is command r e = ap (λ c. past_left code s c (reads_in command) m.past) e
 
     abbrev after : Option Command → State
-    after command = (answered_line s (goes (past_in m command)) command).state
+    after command = (step_of_line s (goes (past_in m command)) command).state
 
-    quiet : (command : Option Command) (x : Refusal) → call_in s command ≡ Err x → ¬ IsEdit command → Unedited (behind m command)
+    quiet : (command : Option Command) (x : Refusal) → call_in s command ≡ Err x → ¬ IsEdit command → Unedited (situation_after m command)
     quiet command x e h =
         subst (λ t. IsUnedited code t t.call (past_in m command)) (sym (quiet-state command (goes (past_in m command)) x e h))
         (subst (IsUnedited code s s.call) (sym (past-is command (Err x) e)) kept)
 
     runs : (command : Option Command) → IfSome command IsNamed → (call : Call) (e : call_in s command ≡ Ok call)
-        → IsUnedited code (after command) (Some call) (past_left code s (Ok call) (reads_in command) m.past) → Unedited (behind m command)
+        → IsUnedited code (after command) (Some call) (past_left code s (Ok call) (reads_in command) m.past) → Unedited (situation_after m command)
     runs command n call e h =
         subst (λ o. IsUnedited code (after command) o (past_in m command)) (sym ((facts progress line_law whole_law text_law m st command n).called call e))
         (subst (IsUnedited code (after command) (Some call)) (sym (past-is command (Ok call) e)) h)
@@ -190,9 +191,10 @@ module _ (progress : ProgressLaw) (line_law : LineLaw) (whole_law : WholeLaw) (t
     accepted : (command : Option Command) (call : Call) → call_in s command ≡ Ok call → Accepted s call
     accepted command call e = accepted-in progress line_law whole_law text_law m st command call e
 
-    by-call : (command : Option Command) → IfSome command IsNamed → (r : Result Call Refusal) → call_in s command ≡ r → ¬ IsEdit command → Unedited (behind m command)
+    by-call : (command : Option Command) → IfSome command IsNamed → (r : Result Call Refusal) → call_in s command ≡ r → ¬ IsEdit command → Unedited (situation_after m command)
     by-call command n (Err x) e h = quiet command x e h
-    by-call (Some (Run function args)) n (Ok call) e h = runs (Some (Run function args)) n call e (whole-so call (accepted (Some (Run function args)) call e) None (after (Some (Run function args))) refl)
+    by-call (Some (Run function args)) n (Ok call) e h =
+        runs (Some (Run function args)) n call e (whole-so call (accepted (Some (Run function args)) call e) None (after (Some (Run function args))) refl)
     by-call (Some Propagate) n (Ok call) e h = runs (Some Propagate) n call e (whole-so call (accepted (Some Propagate) call e) None (after (Some Propagate)) refl)
     by-call (Some (Slice reads)) n (Ok call) e h =
         runs (Some (Slice reads)) n call e
@@ -211,11 +213,11 @@ module _ (progress : ProgressLaw) (line_law : LineLaw) (whole_law : WholeLaw) (t
     by-call (Some Bound) n (Ok call) e h = absurd (grind (arith, e))
 
     -- so it stays with each line that is no edit
-    still : (command : Option Command) → IfSome command IsNamed → ¬ IsEdit command → Unedited (behind m command)
+    still : (command : Option Command) → IfSome command IsNamed → ¬ IsEdit command → Unedited (situation_after m command)
     still command n h = by-call command n (call_in s command) refl h
 
     -- after a line that completes a run or a repair the numbers are in order
-    ordered : (command : Option Command) (call : Call) → call_in s command ≡ Ok call → goes (past_in m command) ≡ false → AreOrdered (behind m command)
+    ordered : (command : Option Command) (call : Call) → call_in s command ≡ Ok call → goes (past_in m command) ≡ false → AreOrdered (situation_after m command)
     ordered command call e g =
         let a = accepted command call e in
         let reads = reads_in command in
@@ -227,7 +229,7 @@ module _ (progress : ProgressLaw) (line_law : LineLaw) (whole_law : WholeLaw) (t
         (subst (λ n. AreOrdered (record { state = with_run s call (is_none (run_of s call)); code = code; past = past_left code s (Ok call) reads m.past; bound = n })) (sym b) k))
 
   record Comes (m : Situation) : Type 0 where
-    stands : Stands m
+    stands : IsConsistent m
     unedited : Unedited m
 
   -- after lines without an edit
@@ -236,11 +238,11 @@ module _ (progress : ProgressLaw) (line_law : LineLaw) (whole_law : WholeLaw) (t
   comes m mid c [] out h (e, same) = subst Comes (sym same) c
   comes m mid c (line ∷ lines) out h (text, next, rest, r, leads, e) =
       let n = line-named line r.command r.reads in
-      let here : Comes (behind m r.command) = record {
+      let here : Comes (situation_after m r.command) = record {
         stands = (facts progress line_law whole_law text_law m c.stands r.command n).stands;
         unedited = still m c.stands c.unedited r.command n (h.0 r.command r.reads);
       } in
-      comes (behind m r.command) mid here lines rest h.1 (subst (λ x. Leads x lines rest mid) r.next leads)
+      comes (situation_after m r.command) mid here lines rest h.1 (subst (λ x. Leads x lines rest mid) r.next leads)
 
   pub bounded-law : OneCommandLaw → BoundedLaw
   bounded-law one m mid n lines line out text st g h leads r c =

@@ -1,7 +1,7 @@
 -- A handle stands for the same modifiable after each line.
 use Rattle.std.proofs.Common.{◌≡◌, ℕ, true, Option, Some, None, List, refl, sym, ap, ◌∙◌, subst, slice_get, arith}
 use Rattle.std.specs.Option.{option_map}
-use Rattle.ceal_base.specs.Block.{Block}
+use Rattle.ceal_base.specs.Block.{Block, alone}
 use Rattle.ceal_base.specs.Fitting.{kind_in, kind_at}
 use Rattle.ceal_base.specs.Shapes.{kinds_of_shape}
 use Rattle.ceal_base.specs.declared.kind.Shape.{Shape}
@@ -14,11 +14,11 @@ use Rattle.ceal_code.specs.Value.{is_cell}
 use Rattle.ceal_script.specs.declared.command.Command.{Command}
 use Rattle.ceal_session.proofs.Engine.ProgramAndCode.{same-structs}
 use Rattle.ceal_session.proofs.Replies.ReplyUpToNumbers.{LineFacts}
-use Rattle.ceal_session.specs.Asking.{IsCellOf}
+use Rattle.ceal_session.specs.Questions.{IsCellOf}
 use Rattle.ceal_session.specs.Laws.{KeptHandleLaw}
-use Rattle.ceal_session.specs.Replies.{Reads, behind}
-use Rattle.ceal_session.specs.Runs.{inputs_alone, memory_of}
-use Rattle.ceal_session.specs.Standing.{Stands}
+use Rattle.ceal_session.specs.Replies.{Reads, situation_after}
+use Rattle.ceal_session.specs.Runs.{memory_of}
+use Rattle.ceal_session.specs.Consistency.{IsConsistent}
 use Rattle.ceal_session.specs.State.{Situation}
 use Rattle.ceal_theory.specs.Adjust.{Extended}
 
@@ -35,15 +35,15 @@ module _ (code : Code) (old new : List Block) (ext : Extended code old new) wher
   stays i field None e h = absurd (grind (arith, h))
   stays i field (Some block) e h = ap is_cell (same-kind block field (slice_get new i) (ext i block e)) ∙ h
 
-  cell-stays : (b : BlockId) (field : ℕ) → is_cell (kind_at code.structs (inputs_alone old) (record { block = b; field = field })) ≡ true
-      → is_cell (kind_at code.structs (inputs_alone new) (record { block = b; field = field })) ≡ true
+  cell-stays : (b : BlockId) (field : ℕ) → is_cell (kind_at code.structs (alone old) (record { block = b; field = field })) ≡ true
+      → is_cell (kind_at code.structs (alone new) (record { block = b; field = field })) ≡ true
   cell-stays (Input i) field h = stays i field (slice_get old i) refl h
   cell-stays (Core c) field h = absurd (grind (arith, h))
 
-pub handle-law : ((m : Situation) (line : List ℕ) (command : Option Command) → Reads line command → Stands m → LineFacts m command) → KeptHandleLaw
+pub handle-law : ((m : Situation) (line : List ℕ) (command : Option Command) → Reads line command → IsConsistent m → LineFacts m command) → KeptHandleLaw
 handle-law facts m n line text p st r cell =
     let f = facts m line r.command r.reads st in
-    let after = behind m r.command in
+    let after = situation_after m r.command in
     let before : is_cell (kind_at m.code.structs (memory_of m.state) p) ≡ true =
     subst (λ structs. is_cell (kind_at structs (memory_of m.state) p) ≡ true) (sym (same-structs m.state.program m.code st.compiled.code)) cell in
     subst (λ (x : Situation). IsCellOf x.state p) (sym r.next)

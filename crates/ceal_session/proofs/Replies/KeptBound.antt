@@ -3,14 +3,14 @@ use Rattle.std.proofs.Common.{◌≡◌, inl, ℕ, Bool, List, sym, ap, ◌∙�
 use Rattle.ceal_base.specs.declared.typed.Typed.{Typed}
 use Rattle.ceal_engine.specs.Engine.{EngineState}
 use Rattle.ceal_theory.specs.Pasts.{goes}
-use Rattle.ceal_session.specs.Following.{Repairs, Bounds, IsLeft}
+use Rattle.ceal_session.specs.AfterLine.{IsAfterLine, Bounds, IsAfterNoMemory}
 use Rattle.ceal_session.specs.Journal.{JournalState, with_bound}
-use Rattle.ceal_session.specs.Keeping.{Held, Holds, held_of, situation}
+use Rattle.ceal_session.specs.SessionState.{Held, SessionInvariant, held_of, situation}
 use Rattle.ceal_session.specs.Replies.{Answers}
 use Rattle.ceal_session.specs.State.{Situation, Numbers}
 
 module _ (program : Typed) (names : List (List ℕ)) (e : EngineState) (j : JournalState) (pending : Bool) (n : ℕ) where
-  pub keeps : Holds program names e j pending → Holds program names e (with_bound j n) pending
+  pub keeps : SessionInvariant program names e j pending → SessionInvariant program names e (with_bound j n) pending
   keeps h = record {
     compiled = h.compiled;
     named = h.named;
@@ -35,11 +35,11 @@ module _ (old mid after : Held) (same : situation after ≡ situation mid) (line
   answers-kept numbers h = subst (λ (m : Situation). Answers old.state numbers (goes m.past) line text m.state) (sym same) h
 
 module _ (old mid after : Held) (same : situation after ≡ situation mid) (line : List ℕ) where
-  pub repairs-kept : Repairs (situation old) line (situation mid) → Repairs (situation old) line (situation after)
-  repairs-kept h = subst (Repairs (situation old) line) (sym same) h
+  pub repairs-kept : IsAfterLine (situation old) line (situation mid) → IsAfterLine (situation old) line (situation after)
+  repairs-kept h = subst (IsAfterLine (situation old) line) (sym same) h
 
   pub bounds-kept : Bounds (situation old) line (situation mid) → Bounds (situation old) line (situation after)
   bounds-kept h = subst (Bounds (situation old) line) (sym same) h
 
-  pub left-kept : mid ≡ old → IsLeft (situation old) line (situation after)
+  pub left-kept : mid ≡ old → IsAfterNoMemory (situation old) line (situation after)
   left-kept h = inl (same ∙ ap situation h)

@@ -10,12 +10,12 @@ use Rattle.ceal_script.specs.Lines.{IsLineOf}
 use Rattle.ceal_script.specs.declared.command.Command.{Command}
 use Rattle.ceal_script.specs.declared.command.Command.TheVariants.{Blank, Mod, New, Set, Run, Propagate, Slice, Get, Show, Blocks, Steps, Work, Bound}
 use Rattle.ceal_session.proofs.Replies.QuestionsAnswered.{cell-sense}
-use Rattle.ceal_session.specs.Asking.{IsCellSense}
+use Rattle.ceal_session.specs.Questions.{IsCellSense}
 use Rattle.ceal_session.specs.Replies.{Reads, Answers}
 use Rattle.ceal_session.specs.Runs.{present_run}
 use Rattle.ceal_session.specs.Senses.{place_sense}
 use Rattle.ceal_session.specs.State.{State, Numbers}
-use Rattle.ceal_session.specs.Steps.{got}
+use Rattle.ceal_session.specs.Steps.{reply_to_get}
 use Rattle.ceal_session.specs.Texts.{value_text, TellsOf, IsText}
 use Rattle.ceal_session.specs.Values.{Gives, handle_of_sense, handle_of_command, sense_of_handle, number_of_word, number_after}
 use Rattle.ceal_session.specs.Values.{number_of_reply, number_of_sense, number_of_command}
@@ -60,7 +60,7 @@ module _ (s : State) where
   printed : (numbers : Numbers) (more : Bool) (line : List ℕ) (o : Option Command) → Reads line o → (n : ℤ) → number_of_command s o ≡ Ok n
       → Answers s numbers more line (signed_decimal n ++ codes "\n") s
   printed numbers more line None r n h = absurd (grind (arith, h))
-  printed numbers more line (Some (Get place)) r n h = record { command = Some (Get place); reads = r; reply = reply-text numbers (got s (place_sense s place)) n h; state = refl }
+  printed numbers more line (Some (Get place)) r n h = record { command = Some (Get place); reads = r; reply = reply-text numbers (reply_to_get s (place_sense s place)) n h; state = refl }
   printed numbers more line (Some Blank) r n h = absurd (grind (arith, h))
   printed numbers more line (Some (Mod name kind value)) r n h = absurd (grind (arith, h))
   printed numbers more line (Some (New name shape values)) r n h = absurd (grind (arith, h))

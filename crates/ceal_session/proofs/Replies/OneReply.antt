@@ -10,10 +10,10 @@ use Rattle.ceal_script.specs.Lines.{IsLineOf}
 use Rattle.ceal_script.specs.declared.command.Command.{Command}
 use Rattle.ceal_theory.specs.Pasts.{goes}
 use Rattle.ceal_session.specs.Laws.{OneCommandLaw, OneAnswerLaw, OneStateLaw, OneReplyLaw, OneScriptLaw, JoinedLaw}
-use Rattle.ceal_session.specs.Replies.{Leads, behind}
+use Rattle.ceal_session.specs.Replies.{Leads, situation_after}
 use Rattle.ceal_session.specs.Runs.{present_run}
 use Rattle.ceal_session.specs.State.{State, Numbers, numbers_in}
-use Rattle.ceal_session.specs.Steps.{answered_line}
+use Rattle.ceal_session.specs.Steps.{step_of_line}
 use Rattle.ceal_session.specs.Texts.{input_name, Tells, TellsOf, IsText}
 use Rattle.ceal_session.specs.Works.{past_in}
 use Rattle.ceal_session.specs.declared.reply.Query.{Query}
@@ -62,17 +62,17 @@ module _ (law : GraphLaw) (s : State) (w : Numbers) where
 pub one-answer : OneCommandLaw → GraphLaw → OneAnswerLaw
 one-answer command graph s w more line a b m n h k =
     let same = command line h.command k.command h.reads k.reads in
-    same-text graph s w (answered_line s more k.command).reply a b (subst (λ c. IsText s w (answered_line s more c).reply a) same h.reply) k.reply
+    same-text graph s w (step_of_line s more k.command).reply a b (subst (λ c. IsText s w (step_of_line s more c).reply a) same h.reply) k.reply
 
 pub one-state : OneCommandLaw → OneStateLaw
-one-state command s v w more line a b m n h k = h.state ∙ ap (λ c. (answered_line s more c).state) (command line h.command k.command h.reads k.reads) ∙ sym k.state
+one-state command s v w more line a b m n h k = h.state ∙ ap (λ c. (step_of_line s more c).state) (command line h.command k.command h.reads k.reads) ∙ sym k.state
 
 pub one-reply : OneCommandLaw → GraphLaw → OneReplyLaw
 one-reply command graph m line a b n o h k =
     let same = command line h.command k.command h.reads k.reads in (
-      same-text graph m.state (numbers_in m) (answered_line m.state (goes (past_in m k.command)) k.command).reply a b
-          (subst (λ c. IsText m.state (numbers_in m) (answered_line m.state (goes (past_in m c)) c).reply a) same h.reply) k.reply,
-      h.next ∙ ap (behind m) same ∙ sym k.next,
+      same-text graph m.state (numbers_in m) (step_of_line m.state (goes (past_in m k.command)) k.command).reply a b
+          (subst (λ c. IsText m.state (numbers_in m) (step_of_line m.state (goes (past_in m c)) c).reply a) same h.reply) k.reply,
+      h.next ∙ ap (situation_after m) same ∙ sym k.next,
     )
 
 pub one-script : OneReplyLaw → OneScriptLaw

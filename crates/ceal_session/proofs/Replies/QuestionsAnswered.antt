@@ -23,16 +23,16 @@ use Rattle.ceal_script.specs.Lines.{IsLineOf}
 use Rattle.ceal_script.specs.declared.command.Command.{Command}
 use Rattle.ceal_script.specs.declared.command.Command.TheVariants.{Blank, Mod, New, Set, Run, Propagate, Slice, Get, Show, Blocks, Steps, Work, Bound}
 use Rattle.ceal_script.specs.declared.command.PlaceWord.{PlaceWord}
-use Rattle.ceal_session.specs.Asking.{IsCellSense, IsFor, CanTell, HasReads}
+use Rattle.ceal_session.specs.Questions.{IsCellSense, IsFor, CanTell, HasReads}
 use Rattle.ceal_session.specs.Runs.{memory_of, run_of}
 use Rattle.ceal_session.specs.Senses.{fields_of, fields_numbered, field_named, input_named, block_sense, kind_sense}
-use Rattle.ceal_session.specs.Senses.{field_sense, member_sense, part_sense, shape_in, found_sense, place_sense}
+use Rattle.ceal_session.specs.Senses.{field_sense, member_sense, part_sense, found_sense, place_sense}
 use Rattle.ceal_session.specs.Senses.{value_sense, is_unknown, words_of, mod_shape, struct_shape, struct_named}
 use Rattle.ceal_session.specs.Senses.{function_named}
 use Rattle.ceal_session.specs.State.{State}
-use Rattle.ceal_session.specs.Steps.{Step, refuses, made_with, made_of, fits_cell, set_word, set, fits_function}
-use Rattle.ceal_session.specs.Steps.{IsFirst, called_with, called_function, called, called_again, run_reply, runs}
-use Rattle.ceal_session.specs.Steps.{has_no_run, asked, got, shown, answered, block_of}
+use Rattle.ceal_session.specs.Steps.{Step, refuses, step_of_words, step_of_shape, fits_cell, step_of_word, step_of_set, fits_function}
+use Rattle.ceal_session.specs.Steps.{IsFirst, call_of_words, call_of_function, call_of_run, call_again, run_reply, runs}
+use Rattle.ceal_session.specs.Steps.{has_no_run, reply_to_query, reply_to_get, reply_to_show, step_of_command, block_of}
 use Rattle.ceal_session.specs.declared.refusal.Refusal.{Refusal}
 use Rattle.ceal_session.specs.declared.refusal.Refusal.TheVariants.{C2, C3, C4, C5, C6, C7, C8}
 use Rattle.ceal_session.specs.declared.reply.Query.{Query}
@@ -40,6 +40,7 @@ use Rattle.ceal_session.specs.declared.reply.Query.TheVariants.{Get as GetOf, Sh
 use Rattle.ceal_session.specs.declared.reply.Reply.TheVariants.{Refused, Told}
 use Rattle.ceal_session.specs.declared.sense.Sense.{Sense}
 use Rattle.ceal_session.specs.declared.sense.Sense.TheVariants.{Unknown, Plain, Word as IsWord}
+use Rattle.ceal_show.specs.Shown.{shape_in}
 
 -- what passes is within the list
 position-within : {A : Type 0} (test : A → Bool) (xs : List A) (n : ℕ) → position test xs ≡ Some n → n < length xs
@@ -103,16 +104,16 @@ either s true x y h k = h
 either s false x y h k = k
 
 module _ (s : State) where
-  made-with-tells : (name : List ℕ) (shape : Shape) (o : Option (List Word)) → Tells s (made_with s name shape o)
+  made-with-tells : (name : List ℕ) (shape : Shape) (o : Option (List Word)) → Tells s (step_of_words s name shape o)
   made-with-tells name shape None = tt
   made-with-tells name shape (Some words) = either s (block_fits s.program.structs (memory_of s) (block_of shape words)) _ (refuses s C4) tt tt
 
-  made-tells : (name : List ℕ) (o : Option Shape) (senses : List Sense) → Tells s (made_of s name o senses)
+  made-tells : (name : List ℕ) (o : Option Shape) (senses : List Sense) → Tells s (step_of_shape s name o senses)
   made-tells name None senses = tt
   made-tells name (Some shape) senses =
       either s (list_any is_unknown senses) (refuses s C2) _ tt (either s (list_any (bytes_eq name) s.names) (refuses s C3) _ tt (made-with-tells name shape (words_of senses)))
 
-  set-word-tells : (place value : Sense) → Tells s (set_word s place value)
+  set-word-tells : (place value : Sense) → Tells s (step_of_word s place value)
   set-word-tells (IsWord (At p)) (IsWord word) = either s (fits_cell s (kind_at s.program.structs (memory_of s) p) word) _ (refuses s C4) tt tt
   set-word-tells (IsWord (At p)) Unknown = tt
   set-word-tells (IsWord (At p)) Plain = tt
@@ -122,7 +123,7 @@ module _ (s : State) where
   set-word-tells Unknown value = tt
   set-word-tells Plain value = tt
 
-  set-tells : (place value : Sense) → Tells s (set s place value)
+  set-tells : (place value : Sense) → Tells s (step_of_set s place value)
   set-tells place value = either s (is_unknown place || is_unknown value) (refuses s C2) _ tt (set-word-tells place value)
 
   runs-tells : (reads : Option ℕ) (more : Bool) (r : Result Call Refusal) → Tells s (runs s reads more r)
@@ -136,7 +137,7 @@ module _ (s : State) where
       go (Some n) false true = tt
       go (Some n) false false = tt
 
-  asked-tells : (q : Query) → IsFor s q → CanTell s (asked s q)
+  asked-tells : (q : Query) → IsFor s q → CanTell s (reply_to_query s q)
   asked-tells q h = go (has_no_run s) s.pending refl refl
     where
       go : (a b : Bool) → has_no_run s ≡ a → s.pending ≡ b → CanTell s (if a then Refused C7 else if b then Refused C8 else Told q)
@@ -144,7 +145,7 @@ module _ (s : State) where
       go false true i j = tt
       go false false i j = (record { run = i; edited = j }, h)
 
-  got-tells : (sense : Sense) → IsCellSense s sense → CanTell s (got s sense)
+  got-tells : (sense : Sense) → IsCellSense s sense → CanTell s (reply_to_get s sense)
   got-tells (IsWord (At p)) h = asked-tells (GetOf p) h
   got-tells (IsWord (Num n)) h = tt
   got-tells (IsWord Null) h = tt
@@ -152,18 +153,18 @@ module _ (s : State) where
   got-tells Unknown h = tt
   got-tells Plain h = tt
 
-  shown-tells : length s.names ≡ length s.inputs → (name : List ℕ) (o : Option ℕ) → input_named s name ≡ o → CanTell s (shown s o)
+  shown-tells : length s.names ≡ length s.inputs → (name : List ℕ) (o : Option ℕ) → input_named s name ≡ o → CanTell s (reply_to_show s o)
   shown-tells c name None e = tt
   shown-tells c name (Some n) e = asked-tells (ShowOf n) (subst (λ k. n < k) c (position-within (bytes_eq name) s.names n e))
 
-  pub can-tell : (more : Bool) → length s.names ≡ length s.inputs → (command : Command) → CanTell s (answered s more command).reply
+  pub can-tell : (more : Bool) → length s.names ≡ length s.inputs → (command : Command) → CanTell s (step_of_command s more command).reply
   can-tell more c Blank = tt
   can-tell more c (Mod name kind value) = made-tells name (mod_shape s kind) (value_sense s value ∷ [])
   can-tell more c (New name shape values) = made-tells name (struct_shape (struct_named s shape)) (map (value_sense s) values)
   can-tell more c (Set place value) = set-tells (place_sense s place) (value_sense s value)
-  can-tell more c (Run function args) = runs-tells None more (called s (function_named s function) (map (value_sense s) args))
-  can-tell more c Propagate = runs-tells None more (called_again s.call)
-  can-tell more c (Slice reads) = runs-tells (Some reads) more (called_again s.call)
+  can-tell more c (Run function args) = runs-tells None more (call_of_run s (function_named s function) (map (value_sense s) args))
+  can-tell more c Propagate = runs-tells None more (call_again s.call)
+  can-tell more c (Slice reads) = runs-tells (Some reads) more (call_again s.call)
   can-tell more c (Get place) = got-tells (place_sense s place) (cell-sense s place)
   can-tell more c (Show name) = shown-tells c name (input_named s name) refl
   can-tell more c Blocks = asked-tells BlocksOf tt
@@ -172,7 +173,7 @@ module _ (s : State) where
   can-tell more c Bound = asked-tells BoundOf tt
 
   -- a call that is accepted is a first one
-  with-first : (n : ℕ) (f : TypedFunction) (o : Option (List Word)) (call : Call) → slice_get s.program.functions n ≡ Some f → called_with s n f o ≡ Ok call → IsFirst s call
+  with-first : (n : ℕ) (f : TypedFunction) (o : Option (List Word)) (call : Call) → slice_get s.program.functions n ≡ Some f → call_of_words s n f o ≡ Ok call → IsFirst s call
   with-first n f None call e h = absurd (grind (arith, h))
   with-first n f (Some words) call e h = go (fits_function s f words) (is_some s.call) refl refl h
     where
@@ -188,15 +189,15 @@ module _ (s : State) where
           let is : record { function = n; args = words } ≡ call = grind (arith, k) in
           subst (IsFirst s) is (record { fits = rw e i; none = none s.call j })
 
-  function-first : (n : ℕ) (o : Option TypedFunction) (senses : List Sense) (call : Call) → slice_get s.program.functions n ≡ o → called_function s n o senses ≡ Ok call → IsFirst s call
+  function-first : (n : ℕ) (o : Option TypedFunction) (senses : List Sense) (call : Call) → slice_get s.program.functions n ≡ o → call_of_function s n o senses ≡ Ok call → IsFirst s call
   function-first n None senses call e h = absurd (grind (arith, h))
   function-first n (Some f) senses call e h = go (list_any is_unknown senses) h
     where
-      go : (a : Bool) → (if a then Err C2 else called_with s n f (words_of senses)) ≡ Ok call → IsFirst s call
+      go : (a : Bool) → (if a then Err C2 else call_of_words s n f (words_of senses)) ≡ Ok call → IsFirst s call
       go true k = absurd (grind (arith, k))
       go false k = with-first n f (words_of senses) call e k
 
-  pub called-first : (o : Option ℕ) (senses : List Sense) (call : Call) → called s o senses ≡ Ok call → IsFirst s call
+  pub called-first : (o : Option ℕ) (senses : List Sense) (call : Call) → call_of_run s o senses ≡ Ok call → IsFirst s call
   called-first None senses call h = absurd (grind (arith, h))
   called-first (Some n) senses call h = function-first n (slice_get s.program.functions n) senses call refl h
 

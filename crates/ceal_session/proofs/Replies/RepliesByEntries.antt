@@ -5,13 +5,13 @@ use Rattle.ceal_code.specs.Program.{Code}
 use Rattle.ceal_script.specs.declared.command.Command.{Command}
 use Rattle.ceal_script.specs.declared.command.Command.TheVariants.{Blank, Mod, New, Set, Run, Propagate, Slice, Get, Show, Blocks, Steps, Work, Bound}
 use Rattle.ceal_session.proofs.Replies.QuestionsAnswered.{can-tell}
-use Rattle.ceal_session.specs.Asking.{IsReady, CanTell}
-use Rattle.ceal_session.specs.Entries.{Entry, entry_of, entries_by, AreEntries, goes_on, taken, told_behind, AreReplies, EntriesLaw, OneTextLaw}
+use Rattle.ceal_session.specs.Questions.{IsReady, CanTell}
+use Rattle.ceal_session.specs.Entries.{Entry, entry_of, entries_by, AreEntries, begins_with_more, told_after_run, told_after, AreReplies, EntriesLaw, OneTextLaw}
 use Rattle.ceal_session.specs.Laws.{OneCommandLaw, OneAnswerLaw, OneStateLaw}
-use Rattle.ceal_session.specs.Replies.{Reads, Answers, Replies, Leads, behind}
-use Rattle.ceal_session.specs.Standing.{IsPastIn, Stands}
-use Rattle.ceal_session.specs.State.{State, Situation, Numbers, completed, latest_work, numbers_in}
-use Rattle.ceal_session.specs.Steps.{answered_line}
+use Rattle.ceal_session.specs.Replies.{Reads, Answers, Replies, Leads, situation_after}
+use Rattle.ceal_session.specs.Consistency.{IsPastIn, IsConsistent}
+use Rattle.ceal_session.specs.State.{State, Situation, Numbers, trace_in_past, latest_work, numbers_in}
+use Rattle.ceal_session.specs.Steps.{step_of_line}
 use Rattle.ceal_session.specs.Texts.{IsText}
 use Rattle.ceal_session.specs.Works.{call_in, past_in, past_left, bound_in, bound_left, reads_in}
 use Rattle.ceal_session.specs.declared.refusal.Refusal.{Refusal}
@@ -22,7 +22,7 @@ use Rattle.ceal_theory.specs.Computed.{Repaired}
 use Rattle.ceal_theory.specs.Pasts.{Past, NoTrace, Traced, Going, goes}
 
 -- a line that runs nothing is answered without a look at the repair
-same-step : (s : State) (a b : Bool) (command : Option Command) (r : Refusal) → call_in s command ≡ Err r → answered_line s a command ≡ answered_line s b command
+same-step : (s : State) (a b : Bool) (command : Option Command) (r : Refusal) → call_in s command ≡ Err r → step_of_line s a command ≡ step_of_line s b command
 same-step s a b None r e = refl
 same-step s a b (Some Blank) r e = refl
 same-step s a b (Some (Mod name kind value)) r e = refl
@@ -49,10 +49,10 @@ ready-traced code s (Some call) NoTrace c h r = absurd (let run = r.run in grind
 ready-traced code s (Some call) (Traced l) c h r = (l, refl)
 ready-traced code s (Some call) (Going z) c h r = absurd (let edited = r.edited in let pending = h.pending in grind (arith, edited, pending))
 
-same-numbers : (m : Situation) (latest : Numbers) → Stands m → AreLatest m latest → IsReady m.state → numbers_in m ≡ latest
+same-numbers : (m : Situation) (latest : Numbers) → IsConsistent m → AreLatest m latest → IsReady m.state → numbers_in m ≡ latest
 same-numbers m latest st h r =
     let t = ready-traced m.code m.state m.state.call m.past refl st.past r in
-    ap (λ p. record { work = latest_work (completed p); bound = m.bound }) t.1 ∙ sym (h t.0 t.1)
+    ap (λ p. record { work = latest_work (trace_in_past p); bound = m.bound }) t.1 ∙ sym (h t.0 t.1)
 
 text-by : (s : State) (v w : Numbers) (r : Reply) → CanTell s r → (IsReady s → v ≡ w) → (text : List ℕ) → IsText s v r text → IsText s w r text
 text-by s v w reply.Nothing c e text h = h
@@ -63,12 +63,12 @@ text-by s v w reply.Done c e text h = h
 text-by s v w (Refused r) c e text h = h
 text-by s v w (Asked q) c e text h = subst (λ n. IsText s n (Asked q) text) (e c.0) h
 
-can-tell-line : (s : State) (more : Bool) (m : Situation) → Stands m → s ≡ m.state → (command : Option Command) → CanTell m.state (answered_line m.state more command).reply
+can-tell-line : (s : State) (more : Bool) (m : Situation) → IsConsistent m → s ≡ m.state → (command : Option Command) → CanTell m.state (step_of_line m.state more command).reply
 can-tell-line s more m st e None = tt
 can-tell-line s more m st e (Some command) = can-tell m.state more st.named command
 
 -- the entry of a line says whether a repair is in progress after it
-entry-goes : (p : Past) (bound : ℕ) (later : List Entry) → goes_on (entry_of p bound ∷ later) ≡ goes p
+entry-goes : (p : Past) (bound : ℕ) (later : List Entry) → begins_with_more (entry_of p bound ∷ later) ≡ goes p
 entry-goes NoTrace bound later = refl
 entry-goes (Traced l) bound later = refl
 entry-goes (Going r) bound later = refl
@@ -76,20 +76,22 @@ entry-goes (Going r) bound later = refl
 same-run : (k l : Repaired) → Traced k ≡ Traced l → k ≡ l
 same-run k l e = cc e
 
-entry-latest : (latest : Numbers) (p : Past) (bound : ℕ) (later : List Entry) → (l : Repaired) → p ≡ Traced l → (taken latest (entry_of p bound ∷ later)).latest ≡ record { work = l.work; bound = bound }
+entry-latest : (latest : Numbers) (p : Past) (bound : ℕ) (later : List Entry) → (l : Repaired) → p ≡ Traced l
+    → (told_after_run latest (entry_of p bound ∷ later)).latest ≡ record { work = l.work; bound = bound }
 entry-latest latest NoTrace bound later l e = absurd (grind (arith, e))
 entry-latest latest (Traced k) bound later l e = ap (λ (x : Repaired). record { work = x.work; bound = bound }) (same-run k l e)
 entry-latest latest (Going r) bound later l e = absurd (grind (arith, e))
 
 -- the latest numbers after it, with the entries to come
-told-on : (latest : Numbers) (p : Past) (bound : ℕ) (later : List Entry) → record { latest = (taken latest (entry_of p bound ∷ [])).latest; coming = later } ≡ taken latest (entry_of p bound ∷ later)
+told-on : (latest : Numbers) (p : Past) (bound : ℕ) (later : List Entry)
+    → record { latest = (told_after_run latest (entry_of p bound ∷ [])).latest; coming = later } ≡ told_after_run latest (entry_of p bound ∷ later)
 told-on latest NoTrace bound later = refl
 told-on latest (Traced l) bound later = refl
 told-on latest (Going r) bound later = refl
 
 -- the situation after each line is sound
 abbrev pub BehindLaw : Type 0
-BehindLaw = (m : Situation) (line : List ℕ) (command : Option Command) → Reads line command → Stands m → Stands (behind m command)
+BehindLaw = (m : Situation) (line : List ℕ) (command : Option Command) → Reads line command → IsConsistent m → IsConsistent (situation_after m command)
 
 -- the lines have these entries, and the text that goes with them
 record Found (m : Situation) (latest : Numbers) (lines : List (List ℕ)) (out : List ℕ) : Type 0 where
@@ -98,7 +100,7 @@ record Found (m : Situation) (latest : Numbers) (lines : List (List ℕ)) (out :
   text : AreReplies m.state (record { latest = latest; coming = entries }) lines out
 
 module _ (stands : BehindLaw) where
-  module _ (m : Situation) (latest : Numbers) (st : Stands m) (al : AreLatest m latest) (line text : List ℕ) (mid : Situation) (r : Replies m line text mid) where
+  module _ (m : Situation) (latest : Numbers) (st : IsConsistent m) (al : AreLatest m latest) (line text : List ℕ) (mid : Situation) (r : Replies m line text mid) where
     abbrev command : Option Command
     command = r.command
 
@@ -109,23 +111,23 @@ module _ (stands : BehindLaw) where
     entry = entry_of (past_in m command) (bound_in m command)
 
     -- the answer, by these numbers, and where it is said that a repair is in progress
-    abbrev answer : (told : Bool) → answered_line m.state more command ≡ answered_line m.state told command → Answers m.state latest told line text (behind m command).state
+    abbrev answer : (told : Bool) → step_of_line m.state more command ≡ step_of_line m.state told command → Answers m.state latest told line text (situation_after m command).state
     answer told same = record {
       command = command;
       reads = r.reads;
       reply = subst (λ step. IsText m.state latest step.reply text) same
-          (text-by m.state (numbers_in m) latest (answered_line m.state more command).reply (can-tell-line m.state more m st refl command) (same-numbers m latest st al) text r.reply);
+          (text-by m.state (numbers_in m) latest (step_of_line m.state more command).reply (can-tell-line m.state more m st refl command) (same-numbers m latest st al) text r.reply);
       state = ap (λ step. step.state) same;
     }
 
-    calm-latest : (x : Refusal) → call_in m.state command ≡ Err x → AreLatest (behind m command) latest
+    calm-latest : (x : Refusal) → call_in m.state command ≡ Err x → AreLatest (situation_after m command) latest
     calm-latest x i l e =
         let past : past_in m command ≡ m.past = ap (λ c. past_left m.code m.state c (reads_in command) m.past) i in
         let bound : bound_in m command ≡ m.bound = ap (λ c. bound_left m.code m.state c (reads_in command) m.past m.bound) i in
         al l (sym past ∙ e) ∙ ap (λ b. record { work = l.work; bound = b }) (sym bound)
 
     -- a line, before lines that have entries
-    on-line : (lines : List (List ℕ)) (out rest : List ℕ) → out ≡ text ++ rest → ((next : Numbers) → AreLatest (behind m command) next → Found (behind m command) next lines rest)
+    on-line : (lines : List (List ℕ)) (out rest : List ℕ) → out ≡ text ++ rest → ((next : Numbers) → AreLatest (situation_after m command) next → Found (situation_after m command) next lines rest)
         → (calls : Result Call Refusal) → call_in m.state command ≡ calls → Found m latest (line ∷ lines) out
     unfolding AreEntries AreReplies
     on-line lines out rest e on (Err x) i =
@@ -135,50 +137,50 @@ module _ (stands : BehindLaw) where
           are = (command, f.entries, r.reads, f.are, ap (λ c. entries_by c entry ++ f.entries) (sym i));
           text = (
             text,
-            (behind m command).state,
+            (situation_after m command).state,
             rest,
-            answer (goes_on f.entries) (same-step m.state more (goes_on f.entries) command x i),
-            subst (λ c. AreReplies (behind m command).state (told_behind c latest f.entries) lines rest) (sym i) f.text,
+            answer (begins_with_more f.entries) (same-step m.state more (begins_with_more f.entries) command x i),
+            subst (λ c. AreReplies (situation_after m command).state (told_after c latest f.entries) lines rest) (sym i) f.text,
             e,
           );
         }
     on-line lines out rest e on (Ok call) i =
-        let f = on (taken latest (entry ∷ [])).latest (λ l q. entry-latest latest (past_in m command) (bound_in m command) [] l q) in
+        let f = on (told_after_run latest (entry ∷ [])).latest (λ l q. entry-latest latest (past_in m command) (bound_in m command) [] l q) in
         record {
           entries = entry ∷ f.entries;
           are = (command, f.entries, r.reads, f.are, ap (λ c. entries_by c entry ++ f.entries) (sym i));
           text = (
             text,
-            (behind m command).state,
+            (situation_after m command).state,
             rest,
-            answer (goes_on (entry ∷ f.entries)) (ap (λ g. answered_line m.state g command) (sym (entry-goes (past_in m command) (bound_in m command) f.entries))),
-            subst (λ c. AreReplies (behind m command).state (told_behind c latest (entry ∷ f.entries)) lines rest) (sym i)
-                (subst (λ t. AreReplies (behind m command).state t lines rest) (told-on latest (past_in m command) (bound_in m command) f.entries) f.text),
+            answer (begins_with_more (entry ∷ f.entries)) (ap (λ g. step_of_line m.state g command) (sym (entry-goes (past_in m command) (bound_in m command) f.entries))),
+            subst (λ c. AreReplies (situation_after m command).state (told_after c latest (entry ∷ f.entries)) lines rest) (sym i)
+                (subst (λ t. AreReplies (situation_after m command).state t lines rest) (told-on latest (past_in m command) (bound_in m command) f.entries) f.text),
             e,
           );
         }
 
-  found : (m end : Situation) (latest : Numbers) (lines : List (List ℕ)) (out : List ℕ) → Stands m → AreLatest m latest → Leads m lines out end → Found m latest lines out
+  found : (m end : Situation) (latest : Numbers) (lines : List (List ℕ)) (out : List ℕ) → IsConsistent m → AreLatest m latest → Leads m lines out end → Found m latest lines out
   unfolding Leads AreEntries AreReplies
   found m end latest [] out st al h = record { entries = []; are = refl; text = h.0 }
   found m end latest (line ∷ lines) out st al (text, mid, rest, r, leads, e) =
       on-line m latest st al line text mid r lines out rest e
-      (λ next al. found (behind m r.command) end next lines rest (stands m line r.command r.reads st) al (subst (λ t. Leads t lines rest end) r.next leads))
+      (λ next al. found (situation_after m r.command) end next lines rest (stands m line r.command r.reads st) al (subst (λ t. Leads t lines rest end) r.next leads))
       (call_in m.state r.command) refl
 
   pub entries : EntriesLaw
   entries m end lines out st h =
-      let f = found m end (numbers_in m) lines out st (λ l e. ap (λ p. record { work = latest_work (completed p); bound = m.bound }) e) h in
+      let f = found m end (numbers_in m) lines out st (λ l e. ap (λ p. record { work = latest_work (trace_in_past p); bound = m.bound }) e) h in
       record { entries = f.entries; are = f.are; text = f.text }
 
 pub one-text : OneCommandLaw → OneAnswerLaw → OneStateLaw → OneTextLaw
 unfolding AreReplies
 one-text one answer state s told [] a b h k = h ∙ sym k
 one-text one answer state s told (line ∷ lines) a b (text, next, rest, x, more, e) (text', next', rest', x', more', e') =
-    let t = answer s told.latest (goes_on told.coming) line text text' next next' x x' in
-    let n = state s told.latest told.latest (goes_on told.coming) line text text' next next' x x' in
+    let t = answer s told.latest (begins_with_more told.coming) line text text' next next' x x' in
+    let n = state s told.latest told.latest (begins_with_more told.coming) line text text' next next' x x' in
     let c = one line x.command x'.command x.reads x'.reads in
-    let there = subst (λ d. AreReplies next (told_behind (call_in s d) told.latest told.coming) lines rest) c more in
-    let r = one-text one answer state next' (told_behind (call_in s x'.command) told.latest told.coming) lines rest rest'
-    (subst (λ t. AreReplies t (told_behind (call_in s x'.command) told.latest told.coming) lines rest) n there) more' in
+    let there = subst (λ d. AreReplies next (told_after (call_in s d) told.latest told.coming) lines rest) c more in
+    let r = one-text one answer state next' (told_after (call_in s x'.command) told.latest told.coming) lines rest rest'
+    (subst (λ t. AreReplies t (told_after (call_in s x'.command) told.latest told.coming) lines rest) n there) more' in
     e ∙ (ap₂ ◌++◌ t r ∙ sym e')

@@ -6,11 +6,11 @@ use Rattle.ceal_base.specs.declared.call.Call.{Call}
 use Rattle.ceal_base.specs.declared.no_memory.NoMemory.{NoMemory}
 use Rattle.ceal_engine.specs.declared.phase.Came.TheVariants.{More, Done, Anew}
 use Rattle.ceal_engine.specs.declared.run_error.RunError.TheVariants.{Memory, OutOfFuel}
-use Rattle.ceal_session.specs.Advancing.{Outcome, reply_after, IsAdvanced}
-use Rattle.ceal_session.specs.Following.{Goes, Retraces, IsLeftBy}
+use Rattle.ceal_session.specs.Outcomes.{Outcome, reply_after, SituationAfterOutcome}
+use Rattle.ceal_session.specs.AfterLine.{RunsOrKeeps, RunsAsDefined, IsAfterNoMemoryOf}
 use Rattle.ceal_session.specs.Runs.{run_of, with_run, with_part}
 use Rattle.ceal_session.specs.State.{State, Situation}
-use Rattle.ceal_session.specs.Steps.{Step, IsQuiet, called_again, run_reply, runs}
+use Rattle.ceal_session.specs.Steps.{Step, IsQuiet, call_again, run_reply, runs}
 use Rattle.ceal_session.specs.declared.reply.Reply.{Reply}
 use Rattle.ceal_theory.specs.Pasts.{goes}
 
@@ -34,21 +34,22 @@ module _ (m n : Situation) (call : Call) where
   out-step (Some k) i e = rw (i, e) refl
 
   module _ (reads : Option ℕ) where
-    pub run-ok : (o : Outcome) → IsAdvanced m call reads o n → (r : Result Reply NoMemory) → r ≡ reply_after reads o → IfOk r (λ reply. At reply n ≡ runs m.state reads (goes n.past) (Ok call))
+    pub run-ok : (o : Outcome) → SituationAfterOutcome m call reads o n → (r : Result Reply NoMemory) → r ≡ reply_after reads o
+        → IfOk r (λ reply. At reply n ≡ runs m.state reads (goes n.past) (Ok call))
     run-ok (Ok More) h r e = rw (e, h.1.going) (more-step reads h.0 h.1.state)
     run-ok (Ok Done) h r e = rw (e, h.1.going) (done-step reads (run_of m.state call) refl h.0 h.1.state)
     run-ok (Ok Anew) h r e = rw (e, h.1.going) (done-step reads (run_of m.state call) refl h.0 h.1.state)
     run-ok (Err OutOfFuel) h r e = rw (e, h.1.going) (out-step reads h.0 h.1.state)
     run-ok (Err Memory) h r e = rw e tt
 
-    pub run-goes : (o : Outcome) → IsAdvanced m call reads o n → (r : Result Reply NoMemory) → r ≡ reply_after reads o → OnOk r (Retraces m call reads n)
+    pub run-goes : (o : Outcome) → SituationAfterOutcome m call reads o n → (r : Result Reply NoMemory) → r ≡ reply_after reads o → OnOk r (RunsAsDefined m call reads n)
     run-goes (Ok More) h r e = rw e h.1.retraces
     run-goes (Ok Done) h r e = rw e h.1.retraces
     run-goes (Ok Anew) h r e = rw e h.1.retraces
     run-goes (Err OutOfFuel) h r e = rw e h.1.retraces
     run-goes (Err Memory) h r e = rw e tt
 
-    pub run-left : (o : Outcome) → IsAdvanced m call reads o n → (r : Result Reply NoMemory) → r ≡ reply_after reads o → OnErr r (IsLeftBy m (Ok call) n)
+    pub run-left : (o : Outcome) → SituationAfterOutcome m call reads o n → (r : Result Reply NoMemory) → r ≡ reply_after reads o → OnErr r (IsAfterNoMemoryOf m (Ok call) n)
     run-left (Ok More) h r e = rw e tt
     run-left (Ok Done) h r e = rw e tt
     run-left (Ok Anew) h r e = rw e tt
@@ -57,25 +58,25 @@ module _ (m n : Situation) (call : Call) where
 
 -- so it is with the call that was accepted
 module _ (m n : Situation) (outcome : Outcome) (some : is_some m.state.call ≡ true) (r : Result Reply NoMemory) (reads : Option ℕ)
-    (h : (call : Call) → m.state.call ≡ Some call → IsAdvanced m call reads outcome n) (e : r ≡ reply_after reads outcome) where
-  pub again-ok : IfOk r (λ reply. At reply n ≡ runs m.state reads (goes n.past) (called_again m.state.call))
+    (h : (call : Call) → m.state.call ≡ Some call → SituationAfterOutcome m call reads outcome n) (e : r ≡ reply_after reads outcome) where
+  pub again-ok : IfOk r (λ reply. At reply n ≡ runs m.state reads (goes n.past) (call_again m.state.call))
   again-ok = go m.state.call refl some
     where
-      go : (o : Option Call) → m.state.call ≡ o → is_some o ≡ true → IfOk r (λ reply. At reply n ≡ runs m.state reads (goes n.past) (called_again o))
+      go : (o : Option Call) → m.state.call ≡ o → is_some o ≡ true → IfOk r (λ reply. At reply n ≡ runs m.state reads (goes n.past) (call_again o))
       go None i s = absurd (grind (arith, s))
       go (Some call) i s = run-ok m n call reads outcome (h call i) r e
 
-  pub again-goes : OnOk r (Goes m (called_again m.state.call) reads n)
+  pub again-goes : OnOk r (RunsOrKeeps m (call_again m.state.call) reads n)
   again-goes = go m.state.call refl some
     where
-      go : (o : Option Call) → m.state.call ≡ o → is_some o ≡ true → OnOk r (Goes m (called_again o) reads n)
+      go : (o : Option Call) → m.state.call ≡ o → is_some o ≡ true → OnOk r (RunsOrKeeps m (call_again o) reads n)
       go None i s = absurd (grind (arith, s))
       go (Some call) i s = run-goes m n call reads outcome (h call i) r e
 
-  pub again-left : OnErr r (IsLeftBy m (called_again m.state.call) n)
+  pub again-left : OnErr r (IsAfterNoMemoryOf m (call_again m.state.call) n)
   again-left = go m.state.call refl some
     where
-      go : (o : Option Call) → m.state.call ≡ o → is_some o ≡ true → OnErr r (IsLeftBy m (called_again o) n)
+      go : (o : Option Call) → m.state.call ≡ o → is_some o ≡ true → OnErr r (IsAfterNoMemoryOf m (call_again o) n)
       go None i s = absurd (grind (arith, s))
       go (Some call) i s = run-left m n call reads outcome (h call i) r e
 
@@ -90,6 +91,7 @@ run-changes (Some n) false false h = h
 pub not-quiet : (s t : State) (reads : Option ℕ) (more : Bool) (call : Call) (reply : Reply) → record { reply = reply; state = t } ≡ runs s reads more (Ok call) → IsQuiet reply → ⊥
 not-quiet s t reads more call reply e h = run-changes reads more (is_none (run_of s call)) (subst IsQuiet (ap (λ (step : Step). step.reply) e) h)
 
-pub again-not-quiet : (s t : State) (reads : Option ℕ) (more : Bool) (o : Option Call) → is_some o ≡ true → (reply : Reply) → record { reply = reply; state = t } ≡ runs s reads more (called_again o) → IsQuiet reply → ⊥
+pub again-not-quiet : (s t : State) (reads : Option ℕ) (more : Bool) (o : Option Call) → is_some o ≡ true → (reply : Reply) → record { reply = reply; state = t } ≡ runs s reads more (call_again o)
+    → IsQuiet reply → ⊥
 again-not-quiet s t reads more None some reply e h = absurd (grind (arith, some))
 again-not-quiet s t reads more (Some call) some reply e h = not-quiet s t reads more call reply e h

@@ -43,19 +43,19 @@ use Rattle.ceal_session.proofs.Inputs.ExtendedInputs.{extended-same, extended-lo
 use Rattle.ceal_session.proofs.Replies.ReplyUpToNumbers.{LineFacts, past-of}
 use Rattle.ceal_session.proofs.Engine.RunLeavesPast.{Ran, ran}
 use Rattle.ceal_session.proofs.Inputs.ShapesOfInputs.{makes-named, line-named, mod-known, struct-known, shapes-more, shapes-kept, spelled-more}
-use Rattle.ceal_session.specs.Asking.{CanTell, IsCellOf, IsCellSense}
-use Rattle.ceal_session.specs.Following.{dropped as dropped_by}
+use Rattle.ceal_session.specs.Questions.{CanTell, IsCellOf, IsCellSense}
+use Rattle.ceal_session.specs.AfterLine.{situation_out_of_fuel as dropped_by}
 use Rattle.ceal_session.specs.Laws.{Replied, BegunLaw, SomeReplyLaw, DroppedLaw}
-use Rattle.ceal_session.specs.Naming.{IsNamed}
+use Rattle.ceal_session.specs.InputNames.{IsNamed}
 use Rattle.ceal_session.specs.Refusals.{refusal_text}
-use Rattle.ceal_session.specs.Replies.{Reads, behind}
+use Rattle.ceal_session.specs.Replies.{Reads, situation_after}
 use Rattle.ceal_session.specs.Runs.{memory_of, present_run, run_of, with_run, with_part}
 use Rattle.ceal_session.specs.Senses.{is_unknown, words_of, mod_shape, struct_shape, struct_named, function_named, place_sense, value_sense}
-use Rattle.ceal_session.specs.Standing.{IsRepairIn, IsPastIn, Stands}
+use Rattle.ceal_session.specs.Consistency.{IsRepairIn, IsPastIn, IsConsistent}
 use Rattle.ceal_session.specs.State.{State, Situation, numbers_in}
-use Rattle.ceal_session.specs.Steps.{Step, stays, refuses, with_input, block_of, made_with, made_of, with_base}
-use Rattle.ceal_session.specs.Steps.{fits_cell, set_word, set, is_call_of, IsCall, called, called_again, run_reply}
-use Rattle.ceal_session.specs.Steps.{runs, call_of, answered, answered_line}
+use Rattle.ceal_session.specs.Steps.{Step, stays, refuses, with_input, block_of, step_of_words, step_of_shape, with_base}
+use Rattle.ceal_session.specs.Steps.{fits_cell, step_of_word, step_of_set, is_call_of, IsCall, call_of_run, call_again, run_reply}
+use Rattle.ceal_session.specs.Steps.{runs, call_of, step_of_command, step_of_line}
 use Rattle.ceal_session.specs.Texts.{input_name, TellsOf, IsText}
 use Rattle.ceal_session.specs.Works.{call_in, past_in, past_left, bound_in}
 use Rattle.ceal_theory.proofs.Store.MoreInputs.{inputs-law}
@@ -144,15 +144,15 @@ pub record Moves (s t : State) (calls : Result Call Refusal) : Type 0 where
   pub same_call : (r : Refusal) → calls ≡ Err r → t.call ≡ s.call
 
 -- there is a text of the step's reply, and the situation after it is sound
-pub record Good (m : Situation) (called : Result Call Refusal) (step : Step) (past : Past) : Type 0 where
+pub record Good (m : Situation) (call_of_run : Result Call Refusal) (step : Step) (past : Past) : Type 0 where
   pub text : List ℕ
   pub is : IsText m.state (numbers_in m) step.reply text
-  pub stands : Stands (record { state = step.state; code = m.code; past = past; bound = m.bound })
-  pub moves : Moves m.state step.state called
+  pub stands : IsConsistent (record { state = step.state; code = m.code; past = past; bound = m.bound })
+  pub moves : Moves m.state step.state call_of_run
   pub extended : Extended m.code m.state.inputs step.state.inputs
 
 module _ (progress : ProgressLaw) (line_law : LineLaw) (whole_law : WholeLaw) (text_law : TextLaw) where
-  module _ (m : Situation) (st : Stands m) where
+  module _ (m : Situation) (st : IsConsistent m) where
     abbrev code : Code
     code = m.code
 
@@ -253,7 +253,7 @@ module _ (progress : ProgressLaw) (line_law : LineLaw) (whole_law : WholeLaw) (t
       }
 
     made-with : (name : List ℕ) → IsName name → list_any (bytes_eq name) s.names ≡ false → (shape : Shape) → is_known s.program.structs shape ≡ true → (o : Option (List Word))
-        → Calm (made_with s name shape o)
+        → Calm (step_of_words s name shape o)
     made-with name spells new shape known None = refused C4
     made-with name spells new shape known (Some words) = go (block_fits s.program.structs (memory_of s) (block_of shape words)) refl
       where
@@ -262,11 +262,11 @@ module _ (progress : ProgressLaw) (line_law : LineLaw) (whole_law : WholeLaw) (t
         go true e = with-input name (block_of shape words) e spells new known
         go false e = refused C4
 
-    made-good : (name : List ℕ) → IsName name → (o : Option Shape) → IfSome o (λ shape. is_known s.program.structs shape ≡ true) → (senses : List Sense) → Calm (made_of s name o senses)
+    made-good : (name : List ℕ) → IsName name → (o : Option Shape) → IfSome o (λ shape. is_known s.program.structs shape ≡ true) → (senses : List Sense) → Calm (step_of_shape s name o senses)
     made-good name spells None known senses = refused C2
     made-good name spells (Some shape) known senses = go (list_any is_unknown senses) (list_any (bytes_eq name) s.names) refl
       where
-        go : (a b : Bool) → list_any (bytes_eq name) s.names ≡ b → Calm (if a then refuses s C2 else if b then refuses s C3 else made_with s name shape (words_of senses))
+        go : (a b : Bool) → list_any (bytes_eq name) s.names ≡ b → Calm (if a then refuses s C2 else if b then refuses s C3 else step_of_words s name shape (words_of senses))
         go true b e = refused C2
         go false true e = refused C3
         go false false e = made-with name spells e shape known (words_of senses)
@@ -326,7 +326,7 @@ module _ (progress : ProgressLaw) (line_law : LineLaw) (whole_law : WholeLaw) (t
     base-good p word cell true e = fits-base p word cell e
     base-good p word cell false e = refused C4
 
-    word-good : (place value : Sense) → IsCellSense s place → Calm (set_word s place value)
+    word-good : (place value : Sense) → IsCellSense s place → Calm (step_of_word s place value)
     word-good (IsWord (At p)) (IsWord word) cell = base-good p word cell (fits_cell s (kind_at s.program.structs (memory_of s) p) word) refl
     word-good (IsWord (At p)) Unknown cell = refused C4
     word-good (IsWord (At p)) Plain cell = refused C4
@@ -336,10 +336,10 @@ module _ (progress : ProgressLaw) (line_law : LineLaw) (whole_law : WholeLaw) (t
     word-good Unknown value cell = refused C4
     word-good Plain value cell = refused C4
 
-    set-good : (place value : Sense) → IsCellSense s place → Calm (set s place value)
+    set-good : (place value : Sense) → IsCellSense s place → Calm (step_of_set s place value)
     set-good place value cell = go (is_unknown place || is_unknown value)
       where
-        go : (a : Bool) → Calm (if a then refuses s C2 else set_word s place value)
+        go : (a : Bool) → Calm (if a then refuses s C2 else step_of_word s place value)
         go true = refused C2
         go false = word-good place value cell
 
@@ -364,7 +364,7 @@ module _ (progress : ProgressLaw) (line_law : LineLaw) (whole_law : WholeLaw) (t
 
     -- the situation after a run
     pub with-call : (call : Call) (out : Bool) (past : Past) → IsCall s call → IsPastIn code (with_run s call out) (Some call) past
-        → Stands (record { state = with_run s call out; code = code; past = past; bound = m.bound })
+        → IsConsistent (record { state = with_run s call out; code = code; past = past; bound = m.bound })
     with-call call out past h t = record {
       compiled = st.compiled;
       named = st.named;
@@ -400,7 +400,8 @@ module _ (progress : ProgressLaw) (line_law : LineLaw) (whole_law : WholeLaw) (t
 
       ran-good : (past : Past) → goes past ≡ false → Ran code s.inputs call.function call.args fits s.fuel reads (run_of s call) past → Good m (Ok call) step past
       ran-good _ g (Ran.out e) = completed true (ap is_none e) NoTrace refl
-      ran-good _ g (Ran.ended l r e replays honest few) = completed false (ap is_none e) (Traced l) (record { within = refl; replays = replays; was = replays; honest = honest; few = few; same = λ p. refl })
+      ran-good _ g (Ran.ended l r e replays honest few) =
+          completed false (ap is_none e) (Traced l) (record { within = refl; replays = replays; was = replays; honest = honest; few = few; same = λ p. refl })
       ran-good _ g (Ran.going r sound some) = absurd (grind (arith, g))
 
     abbrev run-text : Bool → List ℕ
@@ -474,7 +475,7 @@ module _ (progress : ProgressLaw) (line_law : LineLaw) (whole_law : WholeLaw) (t
         go a same _ (Ran.ended l r e replays honest few) = ran-good call a (Some reads) (run_reply (Some reads) false) part-text (part-is reads) (Traced l) refl (Ran.ended l r e replays honest few)
         go a same _ (Ran.going r sound some) = part-going reads call same r (record { within = refl; pending = refl; sound = sound })
 
-    again-call : (o : Option Call) → s.call ≡ o → IfSome o (IsCall s) → (call : Call) → called_again o ≡ Ok call → Accepted s call × (s.call ≡ Some call)
+    again-call : (o : Option Call) → s.call ≡ o → IfSome o (IsCall s) → (call : Call) → call_again o ≡ Ok call → Accepted s call × (s.call ≡ Some call)
     again-call None i h call e = absurd (grind (arith, e))
     again-call (Some c) i h call e =
         let same : c ≡ call = grind (arith, e) in
@@ -539,14 +540,14 @@ module _ (progress : ProgressLaw) (line_law : LineLaw) (whole_law : WholeLaw) (t
     asked-good : (reply : Reply) → CanTell s reply → Calm (stays s reply)
     asked-good reply h = let t = text-of reply h in record { text = t.0; is = t.1; stands = st; moves = calm s refl; extended = extended-same code s.inputs }
 
-    command-good : (command : Command) → IsNamed command → Good m (call_of s command) (answered s (goes (past_in m (Some command))) command) (past_in m (Some command))
+    command-good : (command : Command) → IsNamed command → Good m (call_of s command) (step_of_command s (goes (past_in m (Some command))) command) (past_in m (Some command))
     command-good Blank n = record { text = []; is = refl; stands = st; moves = calm s refl; extended = extended-same code s.inputs }
     command-good (Mod name kind value) n = made-good name n (mod_shape s kind) (mod-known s kind) (value_sense s value ∷ [])
     command-good (New name shape values) n = made-good name n (struct_shape (struct_named s shape)) (struct-known s shape) (map (value_sense s) values)
     command-good (Set place value) n = set-good (place_sense s place) (value_sense s value) (cell-sense s place)
-    command-good (Run function args) n = run-good (called s (function_named s function) (map (value_sense s) args)) (accepted (Run function args))
-    command-good Propagate n = run-good (called_again s.call) (accepted Propagate)
-    command-good (Slice reads) n = part-good reads (called_again s.call) (again-call s.call refl st.called)
+    command-good (Run function args) n = run-good (call_of_run s (function_named s function) (map (value_sense s) args)) (accepted (Run function args))
+    command-good Propagate n = run-good (call_again s.call) (accepted Propagate)
+    command-good (Slice reads) n = part-good reads (call_again s.call) (again-call s.call refl st.called)
     command-good (Get place) n = asked-good _ (can-tell s false st.named (Get place))
     command-good (Show name) n = asked-good _ (can-tell s false st.named (Show name))
     command-good BlocksCommand n = asked-good _ (can-tell s false st.named BlocksCommand)
@@ -554,13 +555,13 @@ module _ (progress : ProgressLaw) (line_law : LineLaw) (whole_law : WholeLaw) (t
     command-good WorkCommand n = asked-good _ (can-tell s false st.named WorkCommand)
     command-good BoundCommand n = asked-good _ (can-tell s false st.named BoundCommand)
 
-    line-good : (command : Option Command) → IfSome command IsNamed → Good m (call_in s command) (answered_line s (goes (past_in m command)) command) (past_in m command)
+    line-good : (command : Option Command) → IfSome command IsNamed → Good m (call_in s command) (step_of_line s (goes (past_in m command)) command) (past_in m command)
     line-good None n = refused C1
     line-good (Some command) n = command-good command n
 
     -- the bound says nothing of whether a situation is sound
-    pub with-bound : (state : State) (past : Past) (bound : ℕ) → Stands (record { state = state; code = code; past = past; bound = m.bound })
-        → Stands (record { state = state; code = code; past = past; bound = bound })
+    pub with-bound : (state : State) (past : Past) (bound : ℕ) → IsConsistent (record { state = state; code = code; past = past; bound = m.bound })
+        → IsConsistent (record { state = state; code = code; past = past; bound = bound })
     with-bound state past bound h = record {
       compiled = h.compiled;
       named = h.named;
@@ -584,7 +585,7 @@ module _ (progress : ProgressLaw) (line_law : LineLaw) (whole_law : WholeLaw) (t
     pub facts : (command : Option Command) → IfSome command IsNamed → LineFacts m command
     facts command n =
         let g = line-good command n in
-        let state = (answered_line s (goes (past_in m command)) command).state in record {
+        let state = (step_of_line s (goes (past_in m command)) command).state in record {
           stands = with-bound state (past_in m command) (bound_in m command) g.stands;
           called = g.moves.called;
           before = λ call e. before-line call (accepted-in command call e);
@@ -596,23 +597,23 @@ module _ (progress : ProgressLaw) (line_law : LineLaw) (whole_law : WholeLaw) (t
         }
 
     -- what is left of a run after out of fuel
-    pub dropped : (call : Call) → Accepted s call → Stands (dropped_by m call)
+    pub dropped : (call : Call) → Accepted s call → IsConsistent (dropped_by m call)
     dropped call a = with-bound (with_run s call true) NoTrace 0 (with-call call true NoTrace a.is refl)
 
-  replied : (m : Situation) (line : List ℕ) → Stands m → Replied m line
+  replied : (m : Situation) (line : List ℕ) → IsConsistent m → Replied m line
   replied m line st = elim (line_law line) [
     | inl c ↦
         let n = makes-named c.0 line c.1 in
         let g = command-good m st c.0 n in
         record {
           text = g.text;
-          next = behind m (Some c.0);
+          next = situation_after m (Some c.0);
           replies = record { command = Some c.0; reads = c.1; reply = g.is; next = refl };
           stands = (facts m st (Some c.0) n).stands;
         }
     | inr none ↦ record {
       text = refusal_text C1;
-      next = behind m None;
+      next = situation_after m None;
       replies = record { command = None; reads = none; reply = refl; next = refl };
       stands = (facts m st None tt).stands;
     }
@@ -621,7 +622,7 @@ module _ (progress : ProgressLaw) (line_law : LineLaw) (whole_law : WholeLaw) (t
 pub some-reply : ProgressLaw → LineLaw → WholeLaw → TextLaw → SomeReplyLaw
 some-reply progress line_law whole_law text_law m line st = replied progress line_law whole_law text_law m line st
 
-pub line-facts : ProgressLaw → LineLaw → WholeLaw → TextLaw → (m : Situation) (line : List ℕ) (command : Option Command) → Reads line command → Stands m → LineFacts m command
+pub line-facts : ProgressLaw → LineLaw → WholeLaw → TextLaw → (m : Situation) (line : List ℕ) (command : Option Command) → Reads line command → IsConsistent m → LineFacts m command
 line-facts progress line_law whole_law text_law m line command reads st = facts progress line_law whole_law text_law m st command (line-named line command reads)
 
 pub dropped-law : ProgressLaw → LineLaw → WholeLaw → TextLaw → DroppedLaw

@@ -14,11 +14,11 @@ use Rattle.ceal_theory.proofs.SlicedRepair.SliceLaws.{more-law}
 use Rattle.ceal_theory.specs.Laws.{RenamedRepair}
 use Rattle.ceal_theory.specs.Pasts.{Past, NoTrace, Traced, Going, SamePast, IsPastOf, goes}
 use Rattle.ceal_theory.specs.Repair.{own}
-use Rattle.ceal_session.specs.Following.{Retraces}
-use Rattle.ceal_session.specs.Replies.{Answers, Replies, behind}
-use Rattle.ceal_session.specs.Standing.{IsPastIn, IsSamePast, Stands}
-use Rattle.ceal_session.specs.State.{State, Situation, Numbers, completed, latest_work, numbers_in}
-use Rattle.ceal_session.specs.Steps.{answered_line}
+use Rattle.ceal_session.specs.AfterLine.{RunsAsDefined}
+use Rattle.ceal_session.specs.Replies.{Answers, Replies, situation_after}
+use Rattle.ceal_session.specs.Consistency.{IsPastIn, IsSamePast, IsConsistent}
+use Rattle.ceal_session.specs.State.{State, Situation, Numbers, trace_in_past, latest_work, numbers_in}
+use Rattle.ceal_session.specs.Steps.{step_of_line}
 use Rattle.ceal_session.specs.Texts.{IsText}
 use Rattle.ceal_session.specs.declared.refusal.Refusal.{Refusal}
 use Rattle.ceal_session.specs.Works.{call_in, past_in, past_left, bound_left}
@@ -30,7 +30,7 @@ module _ {code : Code} {inputs : List Block} {f : ℕ} {args : List Word} where
   same-goes (SamePast.going s c) = refl
 
   -- both tell one work
-  pub same-work : {p q : Past} → SamePast code inputs f args p q → latest_work (completed p) ≡ latest_work (completed q)
+  pub same-work : {p q : Past} → SamePast code inputs f args p q → latest_work (trace_in_past p) ≡ latest_work (trace_in_past q)
   same-work SamePast.none = refl
   same-work (SamePast.traced (RenamedRepair.some ps one alike work)) = work
   same-work (SamePast.going s c) = refl
@@ -39,8 +39,8 @@ pub is-goes : (code : Code) (inputs : List Block) (o : Option Call) (p q : Past)
 is-goes code inputs None p q h = ap goes h.0 ∙ sym (ap goes h.1)
 is-goes code inputs (Some call) p q h = same-goes h
 
-pub is-work : (code : Code) (inputs : List Block) (o : Option Call) (p q : Past) → IsSamePast code inputs o p q → latest_work (completed p) ≡ latest_work (completed q)
-is-work code inputs None p q h = ap (λ p. latest_work (completed p)) h.0 ∙ sym (ap (λ p. latest_work (completed p)) h.1)
+pub is-work : (code : Code) (inputs : List Block) (o : Option Call) (p q : Past) → IsSamePast code inputs o p q → latest_work (trace_in_past p) ≡ latest_work (trace_in_past q)
+is-work code inputs None p q h = ap (λ p. latest_work (trace_in_past p)) h.0 ∙ sym (ap (λ p. latest_work (trace_in_past p)) h.1)
 is-work code inputs (Some call) p q h = same-work h
 
 -- it stays so on inputs that extend its own
@@ -60,14 +60,14 @@ past-of code s call (Going r) h = h.sound
 -- after a line that runs, both have the same past again, and one bound
 pub ran-past : (m session n : Situation) (call : Call) (reads : Option ℕ) → session.code ≡ m.code → session.state ≡ m.state → session.bound ≡ m.bound
     → IsPastOf m.code m.state.inputs call.function call.args m.past → SamePast m.code m.state.inputs call.function call.args m.past session.past
-    → Retraces session call reads n
+    → RunsAsDefined session call reads n
     → SamePast m.code m.state.inputs call.function call.args (past_left m.code m.state (Ok call) reads m.past) n.past
     × (n.bound ≡ bound_left m.code m.state (Ok call) reads m.past m.bound)
 ran-past m session n call reads c s b is same r =
     let e : session ≡ record { state = m.state; code = m.code; past = session.past; bound = m.bound } =
     ap₂ (λ st k. record { state = st; code = k; past = session.past; bound = session.bound }) s c
     ∙ ap (λ x. record { state = m.state; code = m.code; past = session.past; bound = x }) b in
-    let k : Retraces (record { state = m.state; code = m.code; past = session.past; bound = m.bound }) call reads n = subst (λ x. Retraces x call reads n) e r in
+    let k : RunsAsDefined (record { state = m.state; code = m.code; past = session.past; bound = m.bound }) call reads n = subst (λ x. RunsAsDefined x call reads n) e r in
     (k.past m.past is same, k.bound m.past is same)
 
 -- The reply of a session is the situation's: it tells the same numbers, and the line is answered `more` where it is
@@ -76,15 +76,15 @@ pub kept-reply : (m session n : Situation) (line text : List ℕ) → session.st
     → IsSamePast m.code m.state.inputs m.state.call m.past session.past
     → (a : Answers session.state (numbers_in session) (goes n.past) line text n.state)
     → goes (past_in m a.command) ≡ goes n.past
-    → Replies m line text (behind m a.command)
+    → Replies m line text (situation_after m a.command)
 kept-reply m session n line text s b same a more =
     let numbers : numbers_in session ≡ numbers_in m = ap₂ (λ w k. record { work = w; bound = k }) (sym (is-work m.code m.state.inputs m.state.call m.past session.past same)) b in
     record {
       command = a.command;
       reads = a.reads;
-      reply = subst (λ g. IsText m.state (numbers_in m) (answered_line m.state g a.command).reply text) (sym more)
-          (subst (λ (w : Numbers). IsText m.state w (answered_line m.state (goes n.past) a.command).reply text) numbers
-          (subst (λ (t : State). IsText t (numbers_in session) (answered_line t (goes n.past) a.command).reply text) s a.reply));
+      reply = subst (λ g. IsText m.state (numbers_in m) (step_of_line m.state g a.command).reply text) (sym more)
+          (subst (λ (w : Numbers). IsText m.state w (step_of_line m.state (goes n.past) a.command).reply text) numbers
+          (subst (λ (t : State). IsText t (numbers_in session) (step_of_line t (goes n.past) a.command).reply text) s a.reply));
       next = refl;
     }
 
@@ -92,14 +92,14 @@ kept-reply m session n line text s b same a more =
 -- that runs is the one that was accepted before or the first one, and it fits. The inputs after a line that runs none
 -- extend those before it.
 pub record LineFacts (m : Situation) (command : Option Command) : Type 0 where
-  pub stands : Stands (behind m command)
-  pub called : (call : Call) → call_in m.state command ≡ Ok call → (behind m command).state.call ≡ Some call
+  pub stands : IsConsistent (situation_after m command)
+  pub called : (call : Call) → call_in m.state command ≡ Ok call → (situation_after m command).state.call ≡ Some call
   pub before : (call : Call) → call_in m.state command ≡ Ok call → (m.state.call ≡ Some call) ⊎ ((m.state.call ≡ None) × (m.past ≡ NoTrace))
-  pub inputs : (call : Call) → call_in m.state command ≡ Ok call → (behind m command).state.inputs ≡ m.state.inputs
-  pub same_call : (r : Refusal) → call_in m.state command ≡ Err r → (behind m command).state.call ≡ m.state.call
+  pub inputs : (call : Call) → call_in m.state command ≡ Ok call → (situation_after m command).state.inputs ≡ m.state.inputs
+  pub same_call : (r : Refusal) → call_in m.state command ≡ Err r → (situation_after m command).state.call ≡ m.state.call
   pub fits : IfSome m.state.call (λ call. Fits m.code m.state.inputs call.function call.args)
-  pub fit : inputs_fit m.code.structs (behind m command).state.inputs ≡ true
-  pub extended : Extended m.code m.state.inputs (behind m command).state.inputs
+  pub fit : inputs_fit m.code.structs (situation_after m command).state.inputs ≡ true
+  pub extended : Extended m.code m.state.inputs (situation_after m command).state.inputs
 
 -- after a line that runs nothing both have the same past on the inputs there
 pub more-same : (code : Code) (old new : List Block) (o : Option Call) → IfSome o (λ call. Fits code old call.function call.args)

@@ -4,15 +4,15 @@ use Rattle.std.specs.Prelude.{OnErr}
 use Rattle.ceal_base.specs.declared.no_memory.NoMemory.{NoMemory}
 use Rattle.ceal_script.specs.declared.command.Command.{Command}
 use Rattle.ceal_session.proofs.Replies.QuestionsAnswered.{can-tell}
-use Rattle.ceal_session.specs.Answering.{HasReply}
-use Rattle.ceal_session.specs.Asking.{CanTell}
+use Rattle.ceal_session.specs.LineReply.{HasReply}
+use Rattle.ceal_session.specs.Questions.{CanTell}
 use Rattle.ceal_session.specs.Replies.{Answers}
-use Rattle.ceal_session.specs.Steps.{Step, IsQuiet, answered}
+use Rattle.ceal_session.specs.Steps.{Step, IsQuiet, step_of_command}
 use Rattle.ceal_session.specs.Texts.{IsText}
 use Rattle.ceal_session.specs.declared.reply.Reply.{Reply}
 use Rattle.ceal_session.specs.declared.reply.Reply.TheVariants as reply
 use Rattle.ceal_session.specs.declared.reply.Reply.TheVariants.{Refused, Told}
-use Rattle.ceal_session.specs.Keeping.{Held, situation}
+use Rattle.ceal_session.specs.SessionState.{Held, situation}
 use Rattle.ceal_session.specs.State.{State, Numbers, numbers_in}
 
 -- a reply after which nothing has changed is that of the session before
@@ -38,7 +38,7 @@ tell-after m n (Told q) same h = rw (same tt) h
 
 -- what a command is answered can be told after it
 pub told : (m n : Held) (more : Bool) (command : Command) → length m.state.names ≡ length m.state.inputs → (r : Result Reply NoMemory)
-    → IfOk r (λ reply. record { reply = reply; state = n.state } ≡ answered m.state more command) → IfOk r (λ reply. IsQuiet reply → n ≡ m)
+    → IfOk r (λ reply. record { reply = reply; state = n.state } ≡ step_of_command m.state more command) → IfOk r (λ reply. IsQuiet reply → n ≡ m)
     → IfOk r (λ reply. CanTell n.state reply)
 told m n more command c (Err e) h same = tt
 told m n more command c (Ok reply) h same =

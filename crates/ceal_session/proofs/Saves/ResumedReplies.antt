@@ -20,12 +20,12 @@ use Rattle.ceal_record.specs.Recorded.{numbers_of, in_order}
 use Rattle.ceal_session.proofs.Engine.ProgramAndCode.{same-structs}
 use Rattle.ceal_session.proofs.Saves.SaveThatHolds.{held}
 use Rattle.ceal_session.proofs.Saves.SaveOfSession.{traced-in}
-use Rattle.ceal_session.specs.Following.{IsAllowed}
-use Rattle.ceal_session.specs.Naming.{AreSpelled, AreDistinct, HaveKnownShapes}
-use Rattle.ceal_session.specs.Recording.{IsRecorded}
-use Rattle.ceal_session.specs.Saves.{AlikeLaw, OneSavedLaw, ResavedLaw, ResumedLaw, SavedLaw}
-use Rattle.ceal_session.specs.Saving.{IsSaved, Holding, saved_state, resumed}
-use Rattle.ceal_session.specs.Standing.{IsTraceIn, IsPastIn, IsIn, IsSamePast, Stands}
+use Rattle.ceal_session.specs.AfterLine.{IsAllowed}
+use Rattle.ceal_session.specs.InputNames.{AreSpelled, AreDistinct, HaveKnownShapes}
+use Rattle.ceal_session.specs.RunRecord.{IsRecorded}
+use Rattle.ceal_session.specs.SaveLaws.{AlikeLaw, OneSavedLaw, ResavedLaw, ResumedLaw, SavedLaw}
+use Rattle.ceal_session.specs.SessionSave.{IsSaved, SaveHolds, saved_state, situation_of_save}
+use Rattle.ceal_session.specs.Consistency.{IsTraceIn, IsPastIn, IsIn, IsSamePast, IsConsistent}
 use Rattle.ceal_session.specs.State.{State, Situation, latest_work}
 use Rattle.ceal_session.specs.Steps.{has_no_run}
 use Rattle.ceal_snap.specs.SaveText.{Save}
@@ -35,7 +35,8 @@ use Rattle.ceal_theory.specs.Pasts.{Past, Traced, SamePast}
 
 same-state : (s t : State) → s.program ≡ t.program → s.fuel ≡ t.fuel → s.names ≡ t.names → s.inputs ≡ t.inputs → s.settled ≡ t.settled → s.call ≡ t.call
     → s.out_of_fuel ≡ t.out_of_fuel → s.pending ≡ t.pending → s ≡ t
-same-state s t a b c d e f g h = go s.program t.program s.fuel t.fuel s.names t.names s.inputs t.inputs s.settled t.settled s.call t.call s.out_of_fuel t.out_of_fuel s.pending t.pending a b c d e f g h
+same-state s t a b c d e f g h =
+    go s.program t.program s.fuel t.fuel s.names t.names s.inputs t.inputs s.settled t.settled s.call t.call s.out_of_fuel t.out_of_fuel s.pending t.pending a b c d e f g h
   where
     go : (p p' : Typed) (n n' : ℕ) (ns ns' : List (List ℕ)) (i i' j j' : List Block) (k k' : Option Call) (o o' q q' : Bool) → p ≡ p' → n ≡ n' → ns ≡ ns' → i ≡ i' → j ≡ j' → k ≡ k' → o ≡ o' → q ≡ q'
         → ◌≡◌ {A = State} (record { program = p; fuel = n; names = ns; inputs = i; settled = j; call = k; out_of_fuel = o; pending = q })
@@ -50,7 +51,7 @@ within s h = go s.out_of_fuel refl
     go true i = absurd (let k : (true || is_none s.call) ≡ false = subst (λ b. (b || is_none s.call) ≡ false) i h in grind (arith, k))
     go false i = refl
 
-module _ (renaming : RenamingLaw) (m : Situation) (s : Save) (st : Stands m) (allowed : IsAllowed m.state.fuel) (h : IsSaved m s) where
+module _ (renaming : RenamingLaw) (m : Situation) (s : Save) (st : IsConsistent m) (allowed : IsAllowed m.state.fuel) (h : IsSaved m s) where
   abbrev code : Code
   code = m.code
 
@@ -77,7 +78,8 @@ module _ (renaming : RenamingLaw) (m : Situation) (s : Save) (st : Stands m) (al
 
   -- on the inputs and the call of the record
   on-record : (P : List Block → ℕ → List Word → Type 0) → P m.state.inputs call.function call.args → P s.kept.inputs s.kept.function s.kept.args
-  on-record P x = subst (λ i. P i s.kept.function s.kept.args) (sym k.is.blocks) (subst (λ f. P m.state.inputs f s.kept.args) (sym k.is.function) (subst (λ a. P m.state.inputs call.function a) (sym k.is.args) x))
+  on-record P x =
+      subst (λ i. P i s.kept.function s.kept.args) (sym k.is.blocks) (subst (λ f. P m.state.inputs f s.kept.args) (sym k.is.function) (subst (λ a. P m.state.inputs call.function a) (sym k.is.args) x))
 
   honest : IsHonest code m.state.inputs k.run.items
   honest = subst (λ i. IsHonest code i k.run.items) settled-is trace-in.honest
@@ -98,7 +100,7 @@ module _ (renaming : RenamingLaw) (m : Situation) (s : Save) (st : Stands m) (al
   unfolding in_order
   renamed-there = RenamedRepair.some named.pairs named.one named.alike (sym (ap latest_work k.traced) ∙ sym h.work)
 
-  pub holding : Holding code s
+  pub holding : SaveHolds code s
   holding = record {
     fuel = subst IsAllowed (sym h.fuel) allowed;
     spelled = subst AreSpelled (sym h.names) st.spelled;
@@ -121,7 +123,7 @@ module _ (renaming : RenamingLaw) (m : Situation) (s : Save) (st : Stands m) (al
   }
 
   -- the situation of the save is that of the session, up to the numbers of core blocks
-  pub resumed-in : IsIn (resumed m.state.program code s t) m
+  pub resumed-in : IsIn (situation_of_save m.state.program code s t) m
   resumed-in = record {
     state = same-state (saved_state m.state.program s) m.state refl h.fuel h.names k.is.blocks (k.is.blocks ∙ sym settled-is)
         (ap₂ (λ f a. Some (record { function = f; args = a })) k.is.function k.is.args ∙ sym k.called) (sym (within m.state k.ready.run)) (sym k.ready.edited);
@@ -139,18 +141,19 @@ same-trace items l m h k = some-same l m (sym (trace-flat l) ∙ (ap trace_of (s
 pub resumed-law : RenamingLaw → AlikeLaw → ResumedLaw
 resumed-law renaming alike program m s st code typed allowed h =
     let x = holding renaming m s st allowed h in
-    let holds : Holding program.code s = subst (λ c. Holding c s) code x in
+    let holds : SaveHolds program.code s = subst (λ c. SaveHolds c s) code x in
     let t = in_order h.kept.run.items in
     record {
       holds = holds;
       trace = t;
       items = h.kept.is.items;
       answers = λ lines out end leads. (
-          let there : IsIn (resumed program.typed program.code s t) m =
-          subst (λ c. IsIn (resumed program.typed c s t) m) code (subst (λ p. IsIn (resumed p m.code s t) m) typed (resumed-in renaming m s st allowed h)) in
+          let there : IsIn (situation_of_save program.typed program.code s t) m =
+          subst (λ c. IsIn (situation_of_save program.typed c s t) m) code (subst (λ p. IsIn (situation_of_save p m.code s t) m) typed (resumed-in renaming m s st allowed h)) in
           let a = held program s compiled holds in
-          let stands : Stands (resumed program.typed program.code s t) = subst (λ l. Stands (resumed program.typed program.code s l)) (same-trace s.kept.forest a.0 t a.1 h.kept.is.items) a.2 in
-          let r = alike (resumed program.typed program.code s t) m end lines out stands there leads in
+          let stands : IsConsistent (situation_of_save program.typed program.code s t) =
+              subst (λ l. IsConsistent (situation_of_save program.typed program.code s l)) (same-trace s.kept.forest a.0 t a.1 h.kept.is.items) a.2 in
+          let r = alike (situation_of_save program.typed program.code s t) m end lines out stands there leads in
           (r.0, r.1, r.3)
           );
     }
@@ -163,7 +166,7 @@ pub resaved-law : RenamingLaw → SavedLaw → OneSavedLaw → ResavedLaw
 resaved-law renaming saved one program m session s t st code typed allowed h r k =
     let l = in_order h.kept.run.items in
     let same : r.trace ≡ l = same-trace s.kept.forest r.trace l r.items h.kept.is.items in
-    let there : IsIn session (resumed program.typed program.code s l) = subst (λ x. IsIn session (resumed program.typed program.code s x)) same r.is_in in
-    let here : IsIn (resumed program.typed program.code s l) m =
-    subst (λ c. IsIn (resumed program.typed c s l) m) code (subst (λ p. IsIn (resumed p m.code s l) m) typed (resumed-in renaming m s st allowed h)) in
-    one m t s (saved (resumed program.typed program.code s l) m t here (saved session (resumed program.typed program.code s l) t there k)) h
+    let there : IsIn session (situation_of_save program.typed program.code s l) = subst (λ x. IsIn session (situation_of_save program.typed program.code s x)) same r.is_in in
+    let here : IsIn (situation_of_save program.typed program.code s l) m =
+    subst (λ c. IsIn (situation_of_save program.typed c s l) m) code (subst (λ p. IsIn (situation_of_save p m.code s l) m) typed (resumed-in renaming m s st allowed h)) in
+    one m t s (saved (situation_of_save program.typed program.code s l) m t here (saved session (situation_of_save program.typed program.code s l) t there k)) h

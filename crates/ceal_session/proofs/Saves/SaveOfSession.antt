@@ -9,17 +9,17 @@ use Rattle.ceal_record.specs.Laws.{OneRecordLaw, RenamedLaw}
 use Rattle.ceal_record.specs.Recorded.{IsRecordOf, IsTraceOf}
 use Rattle.ceal_session.proofs.Engine.EngineKeepsPast.{same-traced}
 use Rattle.ceal_session.proofs.Replies.ReplyUpToNumbers.{is-work}
-use Rattle.ceal_session.specs.Asking.{IsReady}
-use Rattle.ceal_session.specs.Recording.{IsRecorded}
-use Rattle.ceal_session.specs.Saves.{OneSavedLaw, SavedLaw}
-use Rattle.ceal_session.specs.Standing.{IsIn, IsPastIn, IsSamePast}
-use Rattle.ceal_session.specs.State.{State, Situation, completed}
+use Rattle.ceal_session.specs.Questions.{IsReady}
+use Rattle.ceal_session.specs.RunRecord.{IsRecorded}
+use Rattle.ceal_session.specs.SaveLaws.{OneSavedLaw, SavedLaw}
+use Rattle.ceal_session.specs.Consistency.{IsIn, IsPastIn, IsSamePast}
+use Rattle.ceal_session.specs.State.{State, Situation, trace_in_past}
 use Rattle.ceal_snap.proofs.ReadBack.{same-save}
 use Rattle.ceal_theory.specs.Computed.{Repaired}
 use Rattle.ceal_theory.specs.Laws.{RenamedRepair}
 use Rattle.ceal_theory.specs.Pasts.{Past, NoTrace, Traced, Going, SamePast}
 
-pub traced-in : (q : Past) (run : Repaired) → completed q ≡ Some run → q ≡ Traced run
+pub traced-in : (q : Past) (run : Repaired) → trace_in_past q ≡ Some run → q ≡ Traced run
 traced-in NoTrace run e = absurd (cc e)
 traced-in (Traced l) run e = ap Traced (some-same l run e)
 traced-in (Going r) run e = absurd (cc e)
@@ -37,7 +37,7 @@ module _ (renamed : RenamedLaw) (session m : Situation) (h : IsIn session m) whe
       call = call;
       called = called;
       run = a;
-      traced = ap completed e;
+      traced = ap trace_in_past e;
       of = record { fits = fits; replays = replays-in a e };
       is = renamed m.code m.state.inputs call ps a.items b.items r one alike is;
     }
@@ -46,8 +46,10 @@ module _ (renamed : RenamedLaw) (session m : Situation) (h : IsIn session m) whe
   recorded-in r k =
       let called : m.state.call ≡ Some k.call = ap (λ (x : State). x.call) (sym h.state) ∙ k.called in
       let there : session.code ≡ m.code = h.code in
-      let of : IsTraceOf m.code m.state.inputs k.call k.run.items = subst (λ c. IsTraceOf c m.state.inputs k.call k.run.items) there (subst (λ (x : State). IsTraceOf session.code x.inputs k.call k.run.items) h.state k.of) in
-      let is : IsRecordOf m.code m.state.inputs k.call k.run.items r = subst (λ c. IsRecordOf c m.state.inputs k.call k.run.items r) there (subst (λ (x : State). IsRecordOf session.code x.inputs k.call k.run.items r) h.state k.is) in
+      let of : IsTraceOf m.code m.state.inputs k.call k.run.items =
+          subst (λ c. IsTraceOf c m.state.inputs k.call k.run.items) there (subst (λ (x : State). IsTraceOf session.code x.inputs k.call k.run.items) h.state k.of) in
+      let is : IsRecordOf m.code m.state.inputs k.call k.run.items r =
+          subst (λ c. IsRecordOf c m.state.inputs k.call k.run.items r) there (subst (λ (x : State). IsRecordOf session.code x.inputs k.call k.run.items r) h.state k.is) in
       let same : SamePast m.code m.state.inputs k.call.function k.call.args m.past session.past = subst (λ o. IsSamePast m.code m.state.inputs o m.past session.past) called h.past in
       let g = same-traced same k.run (traced-in session.past k.run k.traced) in
       by-trace r (subst IsReady h.state k.ready) k.call called of.fits g.run k.run g.renamed g.is is

@@ -20,16 +20,16 @@ use Rattle.ceal_session.proofs.Engine.EngineKeepsPast.{past-traced, some-trace}
 use Rattle.ceal_session.proofs.Engine.ProgramAndCode.{call-back, same-structs}
 use Rattle.ceal_session.proofs.Inputs.ExtendedInputs.{extended-same}
 use Rattle.ceal_session.proofs.Engine.RunLeavesPast.{few-steps, has-first}
-use Rattle.ceal_session.specs.Journal.{settled_at}
-use Rattle.ceal_session.specs.Keeping.{situation_of, IsSettledOn, WasHonest, Holds}
-use Rattle.ceal_session.specs.Naming.{HaveKnownShapes}
-use Rattle.ceal_session.specs.Saves.{HeldLaw}
-use Rattle.ceal_session.specs.Saving.{Holding, IsResumed, saved_state}
+use Rattle.ceal_session.specs.Journal.{journal_of_bound}
+use Rattle.ceal_session.specs.SessionState.{situation_of, IsSettledOn, WasHonest, SessionInvariant}
+use Rattle.ceal_session.specs.InputNames.{HaveKnownShapes}
+use Rattle.ceal_session.specs.SaveLaws.{HeldLaw}
+use Rattle.ceal_session.specs.SessionSave.{SaveHolds, IsResumed, saved_state}
 use Rattle.ceal_snap.specs.SaveText.{Save}
 use Rattle.ceal_theory.specs.Laws.{RenamedRepair}
 use Rattle.ceal_theory.specs.Pasts.{Past, Traced, SamePast}
 
-module _ (code : Code) (s : Save) (h : Holding code s) where
+module _ (code : Code) (s : Save) (h : SaveHolds code s) where
   abbrev l : Trace
   l = h.yes.1.0
 
@@ -77,7 +77,7 @@ held program s compiled h =
       },
     )
 
-module _ (program : Program) (s : Save) (compiled : IsCompiled program) (h : Holding program.code s) (e : EngineState) (k : IsEngine e)
+module _ (program : Program) (s : Save) (compiled : IsCompiled program) (h : SaveHolds program.code s) (e : EngineState) (k : IsEngine e)
     (code : e.code ≡ program.code) (fuel : e.fuel ≡ s.fuel) (inputs : e.inputs ≡ s.kept.inputs)
     (called : e.call ≡ Some (record { function = s.kept.function; args = s.kept.args })) (phase : e.phase ≡ Finished) where
   abbrev call : Call
@@ -108,7 +108,7 @@ module _ (program : Program) (s : Save) (compiled : IsCompiled program) (h : Hol
             (subst (λ o. fresh_call e.code e.inputs e.fuel o ≡ Some present.run) called present.fresh);
       }
 
-  pub restored-holds : Holds program.typed s.names e (settled_at s.bound) false
+  pub restored-holds : SessionInvariant program.typed s.names e (journal_of_bound s.bound) false
   restored-holds = record {
     compiled = rw code compiled;
     named = h.count ∙ ap length (sym inputs);
@@ -123,7 +123,7 @@ module _ (program : Program) (s : Save) (compiled : IsCompiled program) (h : Hol
     measured = tt;
   }
 
-  pub restored-is : e.work ≡ s.work → IsSomeAnd (trace e) (IsRestored s.kept.forest) → IsResumed program s (situation_of program.typed s.names e (settled_at s.bound) false)
+  pub restored-is : e.work ≡ s.work → IsSomeAnd (trace e) (IsRestored s.kept.forest) → IsResumed program s (situation_of program.typed s.names e (journal_of_bound s.bound) false)
   restored-is work forest =
       let t = held program s compiled h in
       let m = some-trace (trace e) (k.kept ∙ ap has_run phase) in

@@ -5,18 +5,18 @@ use Rattle.ceal_code.specs.Laws.{ProgressLaw}
 use Rattle.ceal_script.specs.declared.command.Command.{Command}
 use Rattle.ceal_session.proofs.Situations.SituationFollowsSession.{CallFacts, follows}
 use Rattle.ceal_session.proofs.Replies.ReplyExists.{LineLaw, WholeLaw, TextLaw, accepted-in, fits-call, past-before}
-use Rattle.ceal_session.specs.Following.{Goes, Repairs}
+use Rattle.ceal_session.specs.AfterLine.{RunsOrKeeps, IsAfterLine}
 use Rattle.ceal_session.specs.Laws.{AnswersIn, KeptLaw, OneReplyLaw, Replied, SomeReplyLaw}
-use Rattle.ceal_session.specs.Replies.{Answers, Replies, Leads, behind}
-use Rattle.ceal_session.specs.Saves.{AlikeLaw}
-use Rattle.ceal_session.specs.Standing.{Stands, IsIn}
+use Rattle.ceal_session.specs.Replies.{Answers, Replies, Leads, situation_after}
+use Rattle.ceal_session.specs.SaveLaws.{AlikeLaw}
+use Rattle.ceal_session.specs.Consistency.{IsConsistent, IsIn}
 use Rattle.ceal_session.specs.State.{Situation, numbers_in}
 use Rattle.ceal_session.specs.Works.{call_in, reads_in}
 use Rattle.ceal_theory.specs.Pasts.{goes}
 
 -- the call of a line fits, and what is past is one of it
 abbrev pub CallLaw : Type 0
-CallLaw = (m : Situation) (command : Option Command) → Stands m → (call : Call) → call_in m.state command ≡ Ok call → CallFacts m call
+CallLaw = (m : Situation) (command : Option Command) → IsConsistent m → (call : Call) → call_in m.state command ≡ Ok call → CallFacts m call
 
 pub call-law : ProgressLaw → LineLaw → WholeLaw → TextLaw → CallLaw
 call-law progress line_law whole_law text_law m command st call e =
@@ -25,7 +25,7 @@ call-law progress line_law whole_law text_law m command st call e =
 
 -- so a situation of the definition continues as a session does
 abbrev pub FollowsLaw : Type 0
-FollowsLaw = (m : Situation) (command : Option Command) → Stands m → Goes m (call_in m.state command) (reads_in command) (behind m command)
+FollowsLaw = (m : Situation) (command : Option Command) → IsConsistent m → RunsOrKeeps m (call_in m.state command) (reads_in command) (situation_after m command)
 
 pub follows-law : CallLaw → FollowsLaw
 follows-law calls m command st = follows m command (calls m command st)
@@ -36,11 +36,11 @@ module _ (reply : SomeReplyLaw) (kept : KeptLaw) (one : OneReplyLaw) (follows : 
       subst (λ (x : Situation). Answers m.state (numbers_in m) (goes x.past) line text x.state) (sym r.next)
       (record { command = r.command; reads = r.reads; reply = r.reply; state = refl })
 
-  repairs : (m : Situation) (line text : List ℕ) (n : Situation) → Stands m → Replies m line text n → Repairs m line n
+  repairs : (m : Situation) (line text : List ℕ) (n : Situation) → IsConsistent m → Replies m line text n → IsAfterLine m line n
   repairs m line text n st r = record {
     command = r.command;
     reads = r.reads;
-    goes = subst (λ (x : Situation). Goes m (call_in m.state r.command) (reads_in r.command) x) (sym r.next) (follows m r.command st);
+    goes = subst (λ (x : Situation). RunsOrKeeps m (call_in m.state r.command) (reads_in r.command) x) (sym r.next) (follows m r.command st);
   }
 
   pub alike : AlikeLaw

@@ -13,8 +13,8 @@ use Rattle.ceal_code.specs.Replay.{Replays, IsHonest, core_numbers}
 use Rattle.ceal_base.specs.Trace.{blocks_of}
 use Rattle.ceal_script.specs.declared.command.Command.{Command}
 use Rattle.ceal_session.proofs.Engine.RunLeavesPast.{is-above, above, next-sound}
-use Rattle.ceal_session.specs.Following.{Goes}
-use Rattle.ceal_session.specs.Replies.{behind}
+use Rattle.ceal_session.specs.AfterLine.{RunsOrKeeps}
+use Rattle.ceal_session.specs.Replies.{situation_after}
 use Rattle.ceal_session.specs.State.{State, Situation}
 use Rattle.ceal_session.specs.Works.{call_in, reads_in, past_left, bound_by, bound_left, first_trace}
 use Rattle.ceal_session.specs.declared.refusal.Refusal.{Refusal}
@@ -120,7 +120,8 @@ module _ (code : Code) (inputs : List Block) (f : ℕ) (args : List Word) (fits 
 
 -- both have one bound
 module _ (code : Code) (s : State) (call : Call) (fits : Fits code s.inputs call.function call.args) (reads : Option ℕ) (bound : ℕ) where
-  same-bound : (first : Option Repaired) {o p : Option Repair} → DoneAs code s.inputs call.function call.args fits s.fuel reads o p → bound_by code s call first o bound ≡ bound_by code s call first p bound
+  same-bound : (first : Option Repaired) {o p : Option Repair} → DoneAs code s.inputs call.function call.args fits s.fuel reads o p
+      → bound_by code s call first o bound ≡ bound_by code s call first p bound
   same-bound first DoneAs.none = refl
   same-bound None (DoneAs.some sound c e) = rw e refl
   same-bound (Some a) (DoneAs.some sound c e) = rw e refl
@@ -138,10 +139,11 @@ next : (m : Situation) (call : Call) (k : CallFacts m call) (p : Past) → IsPas
     → NextAs m.code m.state.inputs call.function call.args k.fits (next_repair m.code m.state.inputs p) (next_repair m.code m.state.inputs m.past)
 next m call k p of same = next-as m.code m.state.inputs call.function call.args k.fits m.state.fuel same of k.past
 
-pub follows : (m : Situation) (command : Option Command) → ((call : Call) → call_in m.state command ≡ Ok call → CallFacts m call) → Goes m (call_in m.state command) (reads_in command) (behind m command)
+pub follows : (m : Situation) (command : Option Command) → ((call : Call) → call_in m.state command ≡ Ok call → CallFacts m call)
+    → RunsOrKeeps m (call_in m.state command) (reads_in command) (situation_after m command)
 follows m command facts = go (call_in m.state command) refl
   where
-    go : (called : Result Call Refusal) → call_in m.state command ≡ called → Goes m called (reads_in command) (behind m command)
+    go : (called : Result Call Refusal) → call_in m.state command ≡ called → RunsOrKeeps m called (reads_in command) (situation_after m command)
     go (Err r) e = record {
       code = refl;
       past = ap (λ c. past_left m.code m.state c (reads_in command) m.past) e;

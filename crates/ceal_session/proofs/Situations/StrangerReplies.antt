@@ -29,17 +29,17 @@ use Rattle.ceal_session.proofs.Replies.ReplyUpToNumbers.{more-past, same-goes, s
 use Rattle.ceal_session.proofs.Saves.SaveThatHolds.{held}
 use Rattle.ceal_session.proofs.Saves.ResumedReplies.{same-trace}
 use Rattle.ceal_session.specs.Laws.{OneAnswerLaw, OneCommandLaw}
-use Rattle.ceal_session.specs.Replies.{Reads, Replies, behind}
+use Rattle.ceal_session.specs.Replies.{Reads, Replies, situation_after}
 use Rattle.ceal_session.specs.Runs.{memory_of, run_of}
-use Rattle.ceal_session.specs.Saves.{AlikeLaw}
-use Rattle.ceal_session.specs.Saving.{saved_state, resumed}
+use Rattle.ceal_session.specs.SaveLaws.{AlikeLaw}
+use Rattle.ceal_session.specs.SessionSave.{saved_state, situation_of_save}
 use Rattle.ceal_session.specs.Senses.{is_unknown, words_of, mod_shape, struct_shape, struct_named, function_named, place_sense, value_sense, input_named}
-use Rattle.ceal_session.specs.Standing.{IsSamePast, IsIn, Stands}
-use Rattle.ceal_session.specs.State.{State, Situation, Numbers, completed, latest_work, numbers_in}
-use Rattle.ceal_session.specs.Steps.{Step, stays, refuses, block_of, made_with, made_of, with_base, with_input}
-use Rattle.ceal_session.specs.Steps.{fits_cell, set_word, set, called, called_again, run_reply, runs}
-use Rattle.ceal_session.specs.Steps.{has_no_run, asked, got, shown, answered}
-use Rattle.ceal_session.specs.Steps.{answered_line}
+use Rattle.ceal_session.specs.Consistency.{IsSamePast, IsIn, IsConsistent}
+use Rattle.ceal_session.specs.State.{State, Situation, Numbers, trace_in_past, latest_work, numbers_in}
+use Rattle.ceal_session.specs.Steps.{Step, stays, refuses, block_of, step_of_words, step_of_shape, with_base, with_input}
+use Rattle.ceal_session.specs.Steps.{fits_cell, step_of_word, step_of_set, call_of_run, call_again, run_reply, runs}
+use Rattle.ceal_session.specs.Steps.{has_no_run, reply_to_query, reply_to_get, reply_to_show, step_of_command}
+use Rattle.ceal_session.specs.Steps.{step_of_line}
 use Rattle.ceal_session.specs.Strangers.{AsksNumbers, LineAlike, AreOne, AreAlike, StrangerLaw}
 use Rattle.ceal_session.specs.Texts.{IsText}
 use Rattle.ceal_session.specs.Works.{call_in, reads_in, past_in, bound_in, past_left, bound_left, bound_by, first_trace}
@@ -77,23 +77,23 @@ module _ (s : State) where
   abbrev Other : Step → Type 0
   Other step = TellsOther step.reply
 
-  asks-other : (q : Query) → TellsOther (Told q) → TellsOther (asked s q)
+  asks-other : (q : Query) → TellsOther (Told q) → TellsOther (reply_to_query s q)
   asks-other q h = if-both TellsOther (has_no_run s) (Refused C7) (if s.pending then Refused C8 else Told q) tt (if-both TellsOther s.pending (Refused C8) (Told q) tt h)
 
-  made-with-other : (name : List ℕ) (shape : Shape) (o : Option (List Word)) → Other (made_with s name shape o)
+  made-with-other : (name : List ℕ) (shape : Shape) (o : Option (List Word)) → Other (step_of_words s name shape o)
   made-with-other name shape None = tt
   made-with-other name shape (Some words) =
       let block = block_of shape words in
       if-both Other (block_fits s.program.structs (memory_of s) block) (stays (with_input s name block) reply.Ok) (refuses s C4) tt tt
 
-  made-other : (name : List ℕ) (o : Option Shape) (senses : List Sense) → Other (made_of s name o senses)
+  made-other : (name : List ℕ) (o : Option Shape) (senses : List Sense) → Other (step_of_shape s name o senses)
   made-other name None senses = tt
   made-other name (Some shape) senses =
-      let step = made_with s name shape (words_of senses) in
+      let step = step_of_words s name shape (words_of senses) in
       let back = if list_any (bytes_eq name) s.names then refuses s C3 else step in
       if-both Other (list_any is_unknown senses) (refuses s C2) back tt (if-both Other (list_any (bytes_eq name) s.names) (refuses s C3) step tt (made-with-other name shape (words_of senses)))
 
-  word-other : (place value : Sense) → Other (set_word s place value)
+  word-other : (place value : Sense) → Other (step_of_word s place value)
   word-other (IsWord (AtPlace p)) (IsWord word) =
       if-both Other (fits_cell s (kind_at s.program.structs (memory_of s) p) word) (stays (with_base s p word) reply.Ok) (refuses s C4) tt tt
   word-other (IsWord (AtPlace p)) Unknown = tt
@@ -104,8 +104,8 @@ module _ (s : State) where
   word-other Unknown value = tt
   word-other Plain value = tt
 
-  set-other : (place value : Sense) → Other (set s place value)
-  set-other place value = if-both Other _ (refuses s C2) (set_word s place value) tt (word-other place value)
+  set-other : (place value : Sense) → Other (step_of_set s place value)
+  set-other place value = if-both Other _ (refuses s C2) (step_of_word s place value) tt (word-other place value)
 
   run-other : (reads : Option ℕ) (more out : Bool) → TellsOther (run_reply reads more out)
   run-other None more true = tt
@@ -118,7 +118,7 @@ module _ (s : State) where
   runs-other reads more (Err r) = tt
   runs-other reads more (Ok call) = run-other reads more (is_none (run_of s call))
 
-  got-other : (sense : Sense) → TellsOther (got s sense)
+  got-other : (sense : Sense) → TellsOther (reply_to_get s sense)
   got-other (IsWord (AtPlace p)) = asks-other (GetOf p) tt
   got-other (IsWord (Num n)) = tt
   got-other (IsWord Null) = tt
@@ -126,19 +126,19 @@ module _ (s : State) where
   got-other Unknown = tt
   got-other Plain = tt
 
-  shown-other : (o : Option ℕ) → TellsOther (shown s o)
+  shown-other : (o : Option ℕ) → TellsOther (reply_to_show s o)
   shown-other None = tt
   shown-other (Some n) = asks-other (ShowOf n) tt
 
   -- a line that asks for no numbers
-  other-of : (more : Bool) (command : Command) → (AsksNumbers (Some command) → ⊥) → Other (answered s more command)
+  other-of : (more : Bool) (command : Command) → (AsksNumbers (Some command) → ⊥) → Other (step_of_command s more command)
   other-of more Blank h = tt
   other-of more (Mod name kind value) h = made-other name (mod_shape s kind) (value_sense s value ∷ [])
   other-of more (New name shape values) h = made-other name (struct_shape (struct_named s shape)) (map (value_sense s) values)
   other-of more (Set place value) h = set-other (place_sense s place) (value_sense s value)
-  other-of more (Run function args) h = runs-other None more (called s (function_named s function) (map (value_sense s) args))
-  other-of more Propagate h = runs-other None more (called_again s.call)
-  other-of more (Slice reads) h = runs-other (Some reads) more (called_again s.call)
+  other-of more (Run function args) h = runs-other None more (call_of_run s (function_named s function) (map (value_sense s) args))
+  other-of more Propagate h = runs-other None more (call_again s.call)
+  other-of more (Slice reads) h = runs-other (Some reads) more (call_again s.call)
   other-of more (Get place) h = got-other (place_sense s place)
   other-of more (Show name) h = shown-other (input_named s name)
   other-of more BlocksCommand h = asks-other BlocksOf tt
@@ -146,7 +146,7 @@ module _ (s : State) where
   other-of more WorkCommand h = absurd (h tt)
   other-of more BoundCommand h = absurd (h tt)
 
-  other-line : (more : Bool) (command : Option Command) → (AsksNumbers command → ⊥) → Other (answered_line s more command)
+  other-line : (more : Bool) (command : Option Command) → (AsksNumbers command → ⊥) → Other (step_of_line s more command)
   other-line more None h = tt
   other-line more (Some command) h = other-of more command h
 
@@ -185,13 +185,14 @@ module _ {code : Code} {inputs : List Block} {f : ℕ} {args : List Word} where
   beside-same (SamePast.traced {a = a} {b = b} r) = with-work a b r
   beside-same (SamePast.going s c) = Beside.going s c
 
-  same-beside : {p q : Past} → Beside code inputs f args p q → latest_work (completed p) ≡ latest_work (completed q) → SamePast code inputs f args p q
+  same-beside : {p q : Past} → Beside code inputs f args p q → latest_work (trace_in_past p) ≡ latest_work (trace_in_past q) → SamePast code inputs f args p q
   same-beside Beside.none e = SamePast.none
   same-beside (Beside.traced ps one alike) e = SamePast.traced (RenamedRepair.some ps one alike e)
   same-beside (Beside.going s c) e = SamePast.going s c
 
 module _ (code : Code) (inputs : List Block) (f : ℕ) (args : List Word) (fits : Fits code inputs f args) (fuel : ℕ) where
-  next-beside : {p q : Past} → Beside code inputs f args p q → IsPastOf code inputs f args p → IsPastOf code inputs f args q → NextAs code inputs f args fits (next_repair code inputs p) (next_repair code inputs q)
+  next-beside : {p q : Past} → Beside code inputs f args p q → IsPastOf code inputs f args p → IsPastOf code inputs f args q
+      → NextAs code inputs f args fits (next_repair code inputs p) (next_repair code inputs q)
   next-beside Beside.none h i = NextAs.none
   next-beside (Beside.traced {a = a} {b = b} ps one alike) h i = begin-traces code inputs f args fits fuel a b ps one alike h i
   next-beside (Beside.going s c) h i = NextAs.some s i c
@@ -204,7 +205,7 @@ in-goes : (code : Code) (inputs : List Block) (o : Option Call) (p q : Past) →
 in-goes code inputs None p q h = ap goes h.0 ∙ sym (ap goes h.1)
 in-goes code inputs (Some call) p q h = beside-goes h
 
-in-same : (code : Code) (inputs : List Block) (o : Option Call) (p q : Past) → BesideIn code inputs o p q → latest_work (completed p) ≡ latest_work (completed q) → IsSamePast code inputs o p q
+in-same : (code : Code) (inputs : List Block) (o : Option Call) (p q : Past) → BesideIn code inputs o p q → latest_work (trace_in_past p) ≡ latest_work (trace_in_past q) → IsSamePast code inputs o p q
 in-same code inputs None p q h e = h
 in-same code inputs (Some call) p q h e = same-beside h e
 
@@ -223,8 +224,8 @@ at code s p bound = record { state = s; code = code; past = p; bound = bound }
 
 -- both are situations that a session comes to
 pub record Near (code : Code) (s : State) (p q : Past) (b d : ℕ) : Type 0 where
-  pub left : Stands (at code s p b)
-  pub right : Stands (at code s q d)
+  pub left : IsConsistent (at code s p b)
+  pub right : IsConsistent (at code s q d)
   pub past : BesideIn code s.inputs s.call p q
 
 module _ (facts : FactsLaw) (calls : CallLaw) (command_law : OneCommandLaw) (answer : OneAnswerLaw) (alike : AlikeLaw) where
@@ -270,7 +271,8 @@ module _ (facts : FactsLaw) (calls : CallLaw) (command_law : OneCommandLaw) (ans
               | inl i ↦ subst (λ o. BesideIn code s.inputs o p q) i near.past
               | inr (i, k) ↦
                   let none = subst (λ o. BesideIn code s.inputs o p q) i near.past in
-                  subst (λ (x : Past). Beside code s.inputs call.function call.args x q) (sym none.0) (subst (λ (x : Past). Beside code s.inputs call.function call.args NoTrace x) (sym none.1) Beside.none)
+                  subst (λ (x : Past). Beside code s.inputs call.function call.args x q) (sym none.0)
+                      (subst (λ (x : Past). Beside code s.inputs call.function call.args NoTrace x) (sym none.1) Beside.none)
             ]
 
         next : NextAs code s.inputs call.function call.args there.fits (next_repair code s.inputs p) (next_repair code s.inputs q)
@@ -303,15 +305,15 @@ module _ (facts : FactsLaw) (calls : CallLaw) (command_law : OneCommandLaw) (ans
             ∙ (by-done (slice-as code s.inputs call.function call.args there.fits s.fuel (reads_in command) next) (ap goes (sym past-is) ∙ h)
             ∙ sym (ap (λ c. bound_left code s c (reads_in command) q d) e))
 
-        works : latest_work (completed past) ≡ latest_work (completed other)
-        works = ap (λ x. latest_work (completed x)) past-is ∙ (same-work ran ∙ sym (ap (λ x. latest_work (completed x)) other-is))
+        works : latest_work (trace_in_past past) ≡ latest_work (trace_in_past other)
+        works = ap (λ x. latest_work (trace_in_past x)) past-is ∙ (same-work ran ∙ sym (ap (λ x. latest_work (trace_in_past x)) other-is))
 
         goes-run : goes past ≡ goes other
         goes-run = ap goes past-is ∙ (same-goes ran ∙ sym (ap goes other-is))
 
       -- what the line leaves of both
       abbrev state : State
-      state = (answered_line s (goes past) command).state
+      state = (step_of_line s (goes past) command).state
 
       BesideLeft : Type 0
       BesideLeft = (goes past ≡ goes other) × BesideIn code state.inputs state.call past other
@@ -336,33 +338,33 @@ module _ (facts : FactsLaw) (calls : CallLaw) (command_law : OneCommandLaw) (ans
                 (subst (λ (x : Past). Beside code s.inputs call.function call.args (past_left code s (Ok call) (reads_in command) p) x) (sym (other-is call e)) k))),
           )
 
-      state-is : (answered_line s (goes other) command).state ≡ state
+      state-is : (step_of_line s (goes other) command).state ≡ state
       unfolding BesideLeft
-      state-is = ap (λ g. (answered_line s g command).state) (sym (left-beside (call_in s command) refl).0)
+      state-is = ap (λ g. (step_of_line s g command).state) (sym (left-beside (call_in s command) refl).0)
 
       near-left : Near code state past other (bound_in m command) (bound_in n command)
       unfolding BesideLeft
       near-left = record {
         left = (facts m line command reads near.left).stands;
-        right = subst (λ t. Stands (at code t other (bound_in n command))) state-is (facts n line command reads near.right).stands;
+        right = subst (λ t. IsConsistent (at code t other (bound_in n command))) state-is (facts n line command reads near.right).stands;
         past = (left-beside (call_in s command) refl).1;
       }
 
-      behind-is : behind n command ≡ at code state other (bound_in n command)
+      behind-is : situation_after n command ≡ at code state other (bound_in n command)
       behind-is = ap (λ t. at code t other (bound_in n command)) state-is
 
       -- the replies to the line
-      replies : (AsksNumbers command → ⊥) → (text told : List ℕ) → IsText s (numbers_in m) (answered_line s (goes past) command).reply text
-          → IsText s (numbers_in n) (answered_line s (goes other) command).reply told → text ≡ told
+      replies : (AsksNumbers command → ⊥) → (text told : List ℕ) → IsText s (numbers_in m) (step_of_line s (goes past) command).reply text
+          → IsText s (numbers_in n) (step_of_line s (goes other) command).reply told → text ≡ told
       unfolding BesideLeft
       replies h text told x y =
-          let y' : IsText s (numbers_in n) (answered_line s (goes past) command).reply told =
-          subst (λ g. IsText s (numbers_in n) (answered_line s g command).reply told) (sym (left-beside (call_in s command) refl).0) y in
-          let x' = text-any s (numbers_in m) (numbers_in n) (answered_line s (goes past) command).reply (other-line s (goes past) command h) text x in
+          let y' : IsText s (numbers_in n) (step_of_line s (goes past) command).reply told =
+          subst (λ g. IsText s (numbers_in n) (step_of_line s g command).reply told) (sym (left-beside (call_in s command) refl).0) y in
+          let x' = text-any s (numbers_in m) (numbers_in n) (step_of_line s (goes past) command).reply (other-line s (goes past) command h) text x in
           answer s (numbers_in n) (goes past) line text told state state
           (record { command = command; reads = reads; reply = x'; state = refl }) (record { command = command; reads = reads; reply = y'; state = refl })
 
-      numbers : (call : Call) → call_in s command ≡ Ok call → goes past ≡ false → numbers_in (behind m command) ≡ numbers_in (behind n command)
+      numbers : (call : Call) → call_in s command ≡ Ok call → goes past ≡ false → numbers_in (situation_after m command) ≡ numbers_in (situation_after n command)
       numbers call e h = ap₂ (λ w k. record { work = w; bound = k }) (works call e) (bounds call e h)
 
   -- so it is with lines one after another
@@ -371,14 +373,15 @@ module _ (facts : FactsLaw) (calls : CallLaw) (command_law : OneCommandLaw) (ans
   are-alike code s p q b d near [] = are-one code s p q b d near
   are-alike code s p q b d near (line ∷ lines) = (are-one code s p q b d near, step (λ t x y u v k. are-alike code t x y u v k lines))
     where
-      step : ((t : State) (x y : Past) (u v : ℕ) → Near code t x y u v → AreAlike (at code t x u) (at code t y v) lines) → (text told : List ℕ) (o t : Situation) → Replies (at code s p b) line text o → Replies (at code s q d) line told t
+      step : ((t : State) (x y : Past) (u v : ℕ) → Near code t x y u v → AreAlike (at code t x u) (at code t y v) lines) → (text told : List ℕ) (o t : Situation)
+          → Replies (at code s p b) line text o → Replies (at code s q d) line told t
           → LineAlike (at code s p b) (at code s q d) line text told o t × AreAlike o t lines
       step later text told o t r k =
           let same : k.command ≡ r.command = command_law line k.command r.command k.reads r.reads in
-          let reply : IsText s (numbers_in (at code s q d)) (answered_line s (goes (past_in (at code s q d) r.command)) r.command).reply told =
-          subst (λ c. IsText s (numbers_in (at code s q d)) (answered_line s (goes (past_in (at code s q d) c)) c).reply told) same k.reply in
-          let t-is : t ≡ behind (at code s q d) r.command = k.next ∙ ap (behind (at code s q d)) same in
-          let more = later (answered_line s (goes (past_in (at code s p b) r.command)) r.command).state (past_in (at code s p b) r.command) (past_in (at code s q d) r.command)
+          let reply : IsText s (numbers_in (at code s q d)) (step_of_line s (goes (past_in (at code s q d) r.command)) r.command).reply told =
+          subst (λ c. IsText s (numbers_in (at code s q d)) (step_of_line s (goes (past_in (at code s q d) c)) c).reply told) same k.reply in
+          let t-is : t ≡ situation_after (at code s q d) r.command = k.next ∙ ap (situation_after (at code s q d)) same in
+          let more = later (step_of_line s (goes (past_in (at code s p b) r.command)) r.command).state (past_in (at code s p b) r.command) (past_in (at code s q d) r.command)
           (bound_in (at code s p b) r.command) (bound_in (at code s q d) r.command) (near-left code s p q b d near line r.command r.reads) in (
             record {
               reply = λ h. replies code s p q b d near line r.command r.reads (h r.command r.reads) text told r.reply reply;
@@ -390,7 +393,7 @@ module _ (facts : FactsLaw) (calls : CallLaw) (command_law : OneCommandLaw) (ans
                   );
             },
             subst (λ (x : Situation). AreAlike x t lines) (sym r.next)
-                (subst (λ (x : Situation). AreAlike (behind (at code s p b) r.command) x lines) (sym (t-is ∙ behind-is code s p q b d near line r.command r.reads)) more),
+                (subst (λ (x : Situation). AreAlike (situation_after (at code s p b) r.command) x lines) (sym (t-is ∙ behind-is code s p q b d near line r.command r.reads)) more),
           )
 
 -- the first trace of the call of a save that holds
@@ -409,7 +412,8 @@ record IsFirstTrace (code : Code) (s : Save) (a : Repaired) : Type 0 where
 first-trace : (code : Code) (s : Save) → Fits code s.kept.inputs s.kept.function s.kept.args → (a : Repaired)
     → first_of code s.kept.inputs s.fuel s.kept.function s.kept.args ≡ Some a → IsFirstTrace code s a
 first-trace code s fits a e =
-    go (first_of code s.kept.inputs s.fuel s.kept.function s.kept.args) (fresh code s.kept.function s.kept.args s.kept.inputs s.fuel) e (first-law code s.kept.inputs s.kept.function s.kept.args fits s.fuel)
+    go (first_of code s.kept.inputs s.fuel s.kept.function s.kept.args) (fresh code s.kept.function s.kept.args s.kept.inputs s.fuel) e
+        (first-law code s.kept.inputs s.kept.function s.kept.args fits s.fuel)
   where
     go : (o : Option Repaired) (p : Option Finished) → o ≡ Some a → FirstOutcome code s.kept.inputs s.kept.function s.kept.args o p → IsFirstTrace code s a
     go _ _ i FirstOutcome.none = none-some a i
@@ -439,9 +443,9 @@ stranger facts calls command_law answer alike program s trace compiled h items l
     let code = program.code in
     let a = held program s compiled h in
     let same : a.0 ≡ trace = same-trace s.kept.forest a.0 trace a.1 items in
-    let left : Stands (resumed program.typed code s trace) = subst (λ l. Stands (resumed program.typed code s l)) same a.2 in
+    let left : IsConsistent (situation_of_save program.typed code s trace) = subst (λ l. IsConsistent (situation_of_save program.typed code s l)) same a.2 in
     let t = first-there code s h.yes.0.call trace left.past.replays left.past.honest left.past.few in
-    let right : Stands (at code (saved_state program.typed s) (Traced t.first) (steps_in s.kept.forest)) = record {
+    let right : IsConsistent (at code (saved_state program.typed s) (Traced t.first) (steps_in s.kept.forest)) = record {
       compiled = left.compiled;
       named = left.named;
       spelled = left.spelled;
@@ -460,7 +464,8 @@ stranger facts calls command_law answer alike program s trace compiled h items l
     record {
       first = t.first;
       is = t.is;
-      stands = subst (λ (q : Past). Stands (at code (saved_state program.typed s) q (steps_in s.kept.forest))) (sym (ap first_past t.is)) right;
-      alike = subst (λ (q : Past). AreAlike (resumed program.typed code s trace) (at code (saved_state program.typed s) q (steps_in s.kept.forest)) lines) (sym (ap first_past t.is))
-          (are-alike facts calls command_law answer alike code (saved_state program.typed s) (Traced (record { items = trace; work = s.work })) (Traced t.first) s.bound (steps_in s.kept.forest) near lines);
+      stands = subst (λ (q : Past). IsConsistent (at code (saved_state program.typed s) q (steps_in s.kept.forest))) (sym (ap first_past t.is)) right;
+      alike = subst (λ (q : Past). AreAlike (situation_of_save program.typed code s trace) (at code (saved_state program.typed s) q (steps_in s.kept.forest)) lines) (sym (ap first_past t.is))
+          (are-alike facts calls command_law answer alike code (saved_state program.typed s) (Traced (record { items = trace; work = s.work })) (Traced t.first) s.bound
+              (steps_in s.kept.forest) near lines);
     }

@@ -1,9 +1,9 @@
 // What a state says of its last run.
 
 ghost use Rattle.std.specs.Prelude.{◌≡◌, ◌<◌, ◌↔◌, true, Some, None, length, is_some, IfOk, IsTrue, MatchOption};
-ghost use Rattle.ceal_session.specs.Asking.{IsReady, IsCellOf, steps_in, blocks_in, content_text};
-ghost use Rattle.ceal_session.specs.Keeping.{IsTied, situation};
-ghost use Rattle.ceal_session.specs.Recording.{IsRecorded};
+ghost use Rattle.ceal_session.specs.Questions.{IsReady, IsCellOf, steps_in, blocks_in, content_text};
+ghost use Rattle.ceal_session.specs.SessionState.{IsTied, situation};
+ghost use Rattle.ceal_session.specs.RunRecord.{IsRecorded};
 ghost use Rattle.ceal_session.specs.Runs.{present_run};
 ghost use Rattle.ceal_session.specs.Steps.{has_no_run};
 ghost use Rattle.ceal_session.specs.Texts.{value_text, TellsOf};

@@ -1,5 +1,5 @@
 use Rattle.std.proofs.Common.{◌≡◌, length}
-use Rattle.ceal_session.specs.Keeping.{situation}
+use Rattle.ceal_session.specs.SessionState.{situation}
 use Rattle.ceal_cli.proofs.Sessions.RepliesFromFirstRun.{Before}
 use Rattle.ceal_cli.proofs.from_run.reply_from_run.Given as goal
 

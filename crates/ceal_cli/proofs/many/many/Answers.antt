@@ -1,5 +1,5 @@
 use Rattle.std.proofs.Common.{◌∙◌, inl, refl, rules, sym, ap, subst}
-use Rattle.ceal_session.specs.Standing.{Stands}
+use Rattle.ceal_session.specs.Consistency.{IsConsistent}
 use Rattle.ceal_cli.specs.Members.{first_situation}
 use Rattle.ceal_cli.proofs.Sessions.GrowingReplies.{nothing, writes_as}
 use Rattle.ceal_cli.proofs.Outputs.OutputByMode.{many_told}
@@ -14,7 +14,7 @@ returns g c = record {
 
 pub reply_all-requires-clause-sound : goal.reply_all-requires-clause-sound
 reply_all-requires-clause-sound g c =
-    subst Stands (sym (ap first_situation (c.in_ok-many.ensures.maker ∙ c.new.ensures))) (c.some_reply.ensures.begun c.args.program c.args.fuel c.requires.opens.compiled).sound
+    subst IsConsistent (sym (ap first_situation (c.in_ok-many.ensures.maker ∙ c.new.ensures))) (c.some_reply.ensures.begun c.args.program c.args.fuel c.requires.opens.compiled).sound
 
 -- without memory nothing is written
 pub returns-in_err-many : goal.returns-in_err-many

@@ -1,4 +1,4 @@
-use Rattle.ceal_session.specs.Keeping.{situation}
+use Rattle.ceal_session.specs.SessionState.{situation}
 use Rattle.ceal_cli.proofs.Sessions.GrowingReplies.{puts_reply}
 use Rattle.ceal_cli.proofs.replies.reply.Goals as goal
 

@@ -1,5 +1,5 @@
 use Rattle.std.proofs.Common.{rules, arith}
-use Rattle.ceal_session.specs.Keeping.{situation}
+use Rattle.ceal_session.specs.SessionState.{situation}
 use Rattle.ceal_cli.proofs.Sessions.GrowingReplies.{one_more, some_of_it, all_written, all_begun}
 use Rattle.ceal_cli.proofs.replies.reply_all.Goals as goal
 

@@ -1,5 +1,5 @@
 use Rattle.std.proofs.Common.{rules, inr, Ok, refl}
-use Rattle.ceal_session.specs.Keeping.{situation}
+use Rattle.ceal_session.specs.SessionState.{situation}
 use Rattle.ceal_cli.specs.Output.{IsOutput}
 use Rattle.ceal_cli.specs.Resumed.{unreadable_save, not_holding}
 use Rattle.ceal_cli.specs.declared.words.Mode.TheVariants.{Resume}

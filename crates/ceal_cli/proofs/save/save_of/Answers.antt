@@ -1,4 +1,4 @@
-use Rattle.ceal_session.specs.Keeping.{situation}
+use Rattle.ceal_session.specs.SessionState.{situation}
 use Rattle.ceal_cli.proofs.Outputs.DumpExists.{recorded-core, recorded-closed}
 use Rattle.ceal_cli.proofs.save.save_of.Goals as goal
 

@@ -1,12 +1,12 @@
-use Rattle.ceal_session.specs.Keeping.{situation}
+use Rattle.ceal_session.specs.SessionState.{situation}
 use Rattle.ceal_cli.proofs.Sessions.GrowingReplies.{writes_text}
-use Rattle.ceal_cli.specs.Serving.{IsSaveBehind}
+use Rattle.ceal_cli.specs.ServedLines.{IsSaveAfterLines}
 use Rattle.ceal_cli.specs.Lines.{script_lines}
 use Rattle.ceal_cli.proofs.save.write_save.Goals as goal
 
 pub returns : goal.returns
 returns g c = record {
-  writes = writes_text _ _ _ _ _ (IsSaveBehind c.args.source.now (situation c.args.session.now) (script_lines c.args.script.now)) c.items.result.now
+  writes = writes_text _ _ _ _ _ (IsSaveAfterLines c.args.source.now (situation c.args.session.now) (script_lines c.args.script.now)) c.items.result.now
       (record {
         end = situation c.carry_out_all.new.session;
         carries = rw (← c.new.ensures) c.in_ok-carry_out_all.ensures.all;

@@ -1,6 +1,6 @@
 use Rattle.std.proofs.Common.{IfSome, sym, subst}
 use Rattle.ceal_cli.specs.Answers.{IsWhole}
-use Rattle.ceal_cli.specs.Growth.{WritesGenerated, WritesGeneratedPrefix}
+use Rattle.ceal_cli.specs.SinkGrowth.{WritesGenerated, WritesGeneratedPrefix}
 use Rattle.ceal_cli.specs.ReadBack.{WritesReadable}
 use Rattle.ceal_cli.specs.declared.words.Mode.TheVariants.{Gen, Dump, Save}
 use Rattle.ceal_cli.proofs.Options.OneMode.{one_mode, one_workload, not_both, keeps_limits, small_size}

@@ -5,7 +5,7 @@ use Rattle.ceal_code.specs.Fitting.{Fits}
 use Rattle.ceal_engine.specs.Engine.{has_run, trace}
 use Rattle.ceal_engine.specs.Repaired.{IsFirst}
 use Rattle.ceal_session.proofs.Engine.EngineKeepsPast.{brought-anew, brought-on, from-dropped, some-reads}
-use Rattle.ceal_session.specs.Advancing.{Outcome, Brings}
+use Rattle.ceal_session.specs.Outcomes.{Outcome, EngineAfterCall}
 use Rattle.ceal_session.proofs.advance.advanced.Goals as goal
 
 pub returns-in-Finished : goal.returns-in-Finished
@@ -47,9 +47,10 @@ returns-in-Dropped c = record {
       let e = c.args.engine.now in
       let o = c.propagate-outcome in
       let dropped = sym c.phase.ensures.value ∙ c.in-Dropped.is in
-      subst (λ (r : Outcome). Brings e call c.args.reads r o.new.self) (sym c.came_anew.ensures)
+      subst (λ (r : Outcome). EngineAfterCall e call c.args.reads r o.new.self) (sym c.came_anew.ensures)
       (brought-anew e o.new.self c.phase.ensures.whole call
       (subst (λ a. IfSome a (λ call. Fits e.code e.inputs call.function call.args)) again c.phase.ensures.whole.call)
       o.ensures.keeps.code o.ensures.keeps.fuel o.ensures.keeps.inputs (o.ensures.keeps.call ∙ again) c.args.reads
-      o.result (ap has_run dropped) o.ensures.phase o.ensures.present (from-dropped (IsSomeAnd (trace o.new.self) (IsFirst o.new.self)) o.result e.phase dropped o.ensures.first) o.ensures.keeps.out_of_fuel o.ensures.keeps.dropped);
+      o.result (ap has_run dropped) o.ensures.phase o.ensures.present
+          (from-dropped (IsSomeAnd (trace o.new.self) (IsFirst o.new.self)) o.result e.phase dropped o.ensures.first) o.ensures.keeps.out_of_fuel o.ensures.keeps.dropped);
 }

@@ -3,7 +3,7 @@ use Rattle.std.specs.Prelude.{List}
 use Rattle.ceal_base.specs.declared.word.Word.{Word}
 use Rattle.ceal_engine.specs.Engine.{has_run}
 use Rattle.ceal_session.proofs.Engine.EngineKeepsPast.{brought-anew}
-use Rattle.ceal_session.specs.Advancing.{Outcome, Brings}
+use Rattle.ceal_session.specs.Outcomes.{Outcome, EngineAfterCall}
 use Rattle.ceal_session.proofs.advance.first_advanced.Goals as goal
 
 pub returns : goal.returns
@@ -11,7 +11,7 @@ returns c = record {
   brings =
       let e = c.args.engine.now in
       let o = c.run-outcome in
-      subst (λ (r : Outcome). Brings e c.args.call.now _ r o.new.self) (sym c.came_anew.ensures)
+      subst (λ (r : Outcome). EngineAfterCall e c.args.call.now _ r o.new.self) (sym c.came_anew.ensures)
       (brought-anew e o.new.self c.phase-phase.ensures.whole c.args.call.now c.requires.fits
       o.ensures.keeps.code o.ensures.keeps.fuel o.ensures.keeps.inputs
       (o.ensures.keeps.call ∙ ap (λ (args : List Word). Some (record { function = c.args.call.now.function; args = args })) c.items.ensures.value) _

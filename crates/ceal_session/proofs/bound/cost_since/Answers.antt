@@ -2,8 +2,8 @@ use Rattle.std.proofs.Common.{◌≡◌, IfOk, refl, sym, subst}
 use Rattle.std.specs.Prelude.{IfSome}
 use Rattle.ceal_session.proofs.Engine.CostOfFirstTraces.{cost-is, few-items}
 use Rattle.ceal_session.proofs.Replies.TextOfReply.{if-ok}
-use Rattle.ceal_session.specs.Keeping.{IsRunOn, call_cost}
-use Rattle.ceal_session.specs.Undoing.{undone}
+use Rattle.ceal_session.specs.SessionState.{IsRunOn, call_cost}
+use Rattle.ceal_session.specs.UndoneEdits.{undone}
 use Rattle.ceal_theory.specs.Computed.{first_of}
 use Rattle.ceal_session.proofs.bound.cost_since.Goals as goal
 
@@ -36,6 +36,7 @@ returns c =
     let old = undone c.args.edits.now e.inputs in
     subst (λ o. IfOk c.cost.result (λ n. n ≡ call_cost e.code e.fuel old e.inputs o)) (sym c.in-Some.ensures.value)
     (if-ok c.cost.result
-    (λ n k. cost-is e.fuel (first_of e.code old e.fuel c.in-Some.function c.in-Some.args.now) (first_of e.code e.inputs e.fuel c.in-Some.function c.in-Some.args.now) c.in_ok-old-in-Some.old c.in_ok-new-in-Some.new n
+    (λ n k. cost-is e.fuel (first_of e.code old e.fuel c.in-Some.function c.in-Some.args.now)
+        (first_of e.code e.inputs e.fuel c.in-Some.function c.in-Some.args.now) c.in_ok-old-in-Some.old c.in_ok-new-in-Some.new n
     (rw (c.undo.ensures, c.in_ok-before.ensures.value) at c.in_ok-old-in-Some.ensures.first) (rw c.input_blocks.ensures.value at c.in_ok-new-in-Some.ensures.first) k)
     c.cost.ensures)

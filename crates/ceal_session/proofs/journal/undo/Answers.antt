@@ -1,5 +1,5 @@
 use Rattle.std.proofs.Common.{sym, ap, ◌∙◌}
-use Rattle.ceal_session.specs.Undoing.{undone}
+use Rattle.ceal_session.specs.UndoneEdits.{undone}
 use Rattle.ceal_session.proofs.Inputs.UndoneEdits.{undone-more}
 use Rattle.ceal_session.proofs.journal.undo.Goals as goal
 

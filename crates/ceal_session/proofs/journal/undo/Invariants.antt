@@ -1,5 +1,5 @@
 use Rattle.std.proofs.Common.{◌≡◌, length}
-use Rattle.ceal_session.specs.Undoing.{undone}
+use Rattle.ceal_session.specs.UndoneEdits.{undone}
 use Rattle.ceal_session.proofs.journal.undo.Given as goal
 
 -- the edits to come are undone on what is there now

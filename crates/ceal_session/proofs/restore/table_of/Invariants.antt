@@ -1,5 +1,5 @@
 use Rattle.std.proofs.Common.{◌≡◌, ◌++◌, length}
-use Rattle.ceal_session.specs.Naming.{AreDistinct}
+use Rattle.ceal_session.specs.InputNames.{AreDistinct}
 use Rattle.ceal_session.proofs.restore.table_of.Given as goal
 
 abbrev pub invariant-loop-name : goal.invariant-loop-name

@@ -1,7 +1,7 @@
 use Rattle.std.proofs.Common.{◌∙◌}
 use Rattle.ceal_session.proofs.Replies.KeptBound.{answers-kept, bounds-kept, left-kept, repairs-kept}
 use Rattle.ceal_session.proofs.Replies.TextOfReply.{answers, long-quiet, if-both-ok, if-ok, on-err, on-ok}
-use Rattle.ceal_session.specs.Keeping.{situation}
+use Rattle.ceal_session.specs.SessionState.{situation}
 use Rattle.ceal_session.specs.State.{numbers_in}
 use Rattle.ceal_theory.specs.Pasts.{goes}
 use Rattle.ceal_session.proofs.session.answer_line.Goals as goal
@@ -31,4 +31,5 @@ returns-clause-bounded c =
 
 pub returns-clause-left : goal.returns-clause-left
 returns-clause-left c =
-    on-err c.answer_of.result (λ h. left-kept c.args.state.now c.reply_of.new.state c.answer_of.new.state c.answer_of.ensures.kept c.args.line.now (c.in_ok-reply.ensures.quiet h)) c.answer_of.ensures.err
+    on-err c.answer_of.result
+        (λ h. left-kept c.args.state.now c.reply_of.new.state c.answer_of.new.state c.answer_of.ensures.kept c.args.line.now (c.in_ok-reply.ensures.quiet h)) c.answer_of.ensures.err

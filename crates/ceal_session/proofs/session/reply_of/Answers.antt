@@ -3,7 +3,7 @@ use Rattle.ceal_session.proofs.Replies.QuestionsAnswered.{has-reads}
 use Rattle.ceal_session.proofs.Engine.WorkWithinBound.{line-bounded}
 use Rattle.ceal_session.proofs.Replies.TextOfReply.{told, if-ok, on-ok-of, on-err}
 use Rattle.ceal_session.proofs.Inputs.ShapesOfInputs.{makes-named}
-use Rattle.ceal_session.specs.Keeping.{situation}
+use Rattle.ceal_session.specs.SessionState.{situation}
 use Rattle.ceal_session.specs.Steps.{Step}
 use Rattle.ceal_theory.specs.Pasts.{goes}
 use Rattle.ceal_session.proofs.session.reply_of.Goals as goal
@@ -32,7 +32,8 @@ returns-in-Ok-clause-trace c =
 pub returns-in-Ok-clause-bounded : goal.returns-in-Ok-clause-bounded
 returns-in-Ok-clause-bounded c =
     on-ok-of c.reply_to-reply.result
-    (λ h. record { command = Some c.in-Ok.command; reads = c.in-Ok.ensures.found; bounded = line-bounded (situation c.args.state.now) (situation c.reply_to-reply.new.state) c.in-Ok.command c.traced.ensures h })
+    (λ h. record { command = Some c.in-Ok.command; reads = c.in-Ok.ensures.found; bounded =
+        line-bounded (situation c.args.state.now) (situation c.reply_to-reply.new.state) c.in-Ok.command c.traced.ensures h })
     c.reply_to-reply.ensures.trace
 
 pub returns-in-Ok-clause-left : goal.returns-in-Ok-clause-left

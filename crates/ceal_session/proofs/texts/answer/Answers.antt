@@ -3,7 +3,7 @@ use Rattle.std.specs.Prelude.{ℕ, ◌++◌, codes}
 use Rattle.std.specs.Fmt.{decimal}
 use Rattle.ceal_session.proofs.Replies.TextOfReply.{if-ok}
 use Rattle.ceal_session.proofs.Memory.EngineTellsRun.{told-number}
-use Rattle.ceal_session.specs.Keeping.{situation}
+use Rattle.ceal_session.specs.SessionState.{situation}
 use Rattle.ceal_session.specs.Runs.{present_run}
 use Rattle.ceal_session.specs.State.{numbers_in}
 use Rattle.ceal_session.proofs.texts.answer.Goals as goal

@@ -1,6 +1,6 @@
 use Rattle.std.specs.Prelude.{◌++◌, codes}
 use Rattle.ceal_session.proofs.Replies.NumberAsPrinted.{printed-by}
-use Rattle.ceal_session.specs.Keeping.{situation}
+use Rattle.ceal_session.specs.SessionState.{situation}
 use Rattle.ceal_session.specs.State.{numbers_in}
 use Rattle.ceal_session.proofs.values.number_of_name.Goals as goal
 

@@ -1,4 +1,4 @@
-use Rattle.ceal_session.specs.Keeping.{situation}
+use Rattle.ceal_session.specs.SessionState.{situation}
 use Rattle.ceal_cli.proofs.Sessions.SessionInSituation.{answered-in, lost-in}
 use Rattle.ceal_cli.proofs.members.MemberAnswerer.command.Goals as goal
 

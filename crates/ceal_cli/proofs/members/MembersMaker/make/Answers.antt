@@ -1,7 +1,7 @@
 use Rattle.std.proofs.Common.{◌≡◌, Ok, subst}
 use Rattle.ceal_compile.specs.Compiled.{IsCodeOf}
-use Rattle.ceal_session.specs.Keeping.{situation}
-use Rattle.ceal_session.specs.Standing.{IsIn}
+use Rattle.ceal_session.specs.SessionState.{situation}
+use Rattle.ceal_session.specs.Consistency.{IsIn}
 use Rattle.ceal_cli.proofs.Sessions.SessionInSituation.{in-again}
 use Rattle.ceal_cli.specs.Members.{first_situation}
 use Rattle.ceal_cli.proofs.members.MembersMaker.make.Goals as goal

@@ -1,5 +1,5 @@
 use Rattle.std.proofs.Common.{refl, [], ◌∷◌, ◌++◌, ◌≡◌, ◌∙◌, ◌+◌, ◌<◌, ◌^◌, true, length, ap, sym, subst}
-use Rattle.ceal_base.specs.Block.{Block}
+use Rattle.ceal_base.specs.Block.{Block, alone}
 use Rattle.ceal_base.specs.Fitting.{block_fits}
 use Rattle.ceal_engine.proofs.Keeping.{on-err, sound-left, state-left}
 use Rattle.ceal_engine.proofs.NewInput.{run-unread, sound-longer}
@@ -8,9 +8,8 @@ use Rattle.ceal_engine.proofs.Inputs.{extended-longer}
 use Rattle.ceal_engine.proofs.LooksOfCalls.{looks-input, nothing-same}
 use Rattle.ceal_engine.specs.Keeping.{state_of}
 use Rattle.ceal_engine.specs.Looks.{LooksAtNothing}
-use Rattle.ceal_engine.specs.Partial.{CarriesFrom}
+use Rattle.ceal_engine.specs.Partial.{CarriesRepair}
 use Rattle.ceal_engine.specs.Runs.{OfRuns, SetsInput, same_stage}
-use Rattle.ceal_engine.specs.Engine.{alone}
 use Rattle.ceal_engine.proofs.engine.Engine.add_input.Goals as goal
 
 pub invariant_of-self : goal.invariant_of-self
@@ -46,7 +45,8 @@ invariant_of-self-2 c =
     let set : OfRuns (SetsInput v.code.structs (length v.inputs) c.args.shape c.args.words.now) same_stage c.touch.new.self c.add.new.self = rw c.items.ensures.value at c.add.ensures in
     let sound = sound-left v.code v.fuel v.inputs v.call v.run c.touch.new.self c.touch.ensures.same c.self.invariant in
     rw (c.in_ok-push.ensures.ok, is)
-    (sound-longer v.code v.fuel v.inputs b (subst (λ e. block_fits e.code.structs (alone e.inputs) b ≡ true) (sym c.self.view_is) c.requires.fits) c.self.invariant.fit v.call c.touch.new.self c.add.new.self set
+    (sound-longer v.code v.fuel v.inputs b
+        (subst (λ e. block_fits e.code.structs (alone e.inputs) b ≡ true) (sym c.self.view_is) c.requires.fits) c.self.invariant.fit v.call c.touch.new.self c.add.new.self set
     (subst (λ e. length e.inputs + 1 < 2 ^ 32) (sym c.self.view_is) c.requires.room) sound)
 
 pub returns-in_err-from_slice-clause-looks : goal.returns-in_err-from_slice-clause-looks
@@ -85,4 +85,4 @@ returns-clause-carries c = λ next r carries.
     let same = state-left v.code v.fuel v.inputs v.call.call v.run c.touch.new.self c.touch.ensures.same ∙ c.self.view_is in
     rw (c.in_ok-push.ensures.ok, is)
     (carries-still v.code v.fuel v.inputs (v.inputs ++ b ∷ []) v.call (extended-longer v.code v.inputs b) same_stage (λ g work. refl) c.touch.new.self c.add.new.self left longer
-    (same-input v.code.structs (length v.inputs) c.args.shape c.args.words.now c.touch.new.self c.add.new.self set) next r (subst (λ e. CarriesFrom e next r) (sym same) carries))
+    (same-input v.code.structs (length v.inputs) c.args.shape c.args.words.now c.touch.new.self c.add.new.self set) next r (subst (λ e. CarriesRepair e next r) (sym same) carries))

@@ -1,4 +1,5 @@
 use Rattle.std.proofs.Common.{◌≡◌, ◌∙◌, true, sym, subst}
+use Rattle.ceal_base.specs.Block.{alone}
 use Rattle.ceal_engine.proofs.Keeping.{run-kept, on-err, sound-edited, sound-left, state-left}
 use Rattle.ceal_base.specs.Fitting.{kind_at}
 use Rattle.ceal_code.proofs.Words.SameIsEqual.{both}
@@ -6,10 +7,10 @@ use Rattle.ceal_code.specs.Value.{is_cell}
 use Rattle.ceal_engine.proofs.EngineLaws.{carries-still, same-base}
 use Rattle.ceal_engine.proofs.Inputs.{extended-edit}
 use Rattle.ceal_engine.proofs.LooksOfCalls.{looks-edit, looks-same, spent-edited}
-use Rattle.ceal_engine.specs.Engine.{alone, fits_in, takes, with_base}
+use Rattle.ceal_engine.specs.Engine.{fits_in, takes, with_base}
 use Rattle.ceal_engine.specs.Keeping.{state_of}
 use Rattle.ceal_engine.specs.Looks.{LooksOfEdit}
-use Rattle.ceal_engine.specs.Partial.{CarriesFrom}
+use Rattle.ceal_engine.specs.Partial.{CarriesRepair}
 use Rattle.ceal_engine.specs.Runs.{edited_at}
 use Rattle.ceal_engine.proofs.engine.Engine.edit.Goals as goal
 
@@ -23,7 +24,8 @@ pub invariant_of-self-2 : goal.invariant_of-self-2
 invariant_of-self-2 c =
     let v = c.self.inside in
     rw c.set_base.ensures
-    (sound-edited v.code v.inputs c.args.place c.args.value c.self.invariant.fit (subst (λ e. takes e c.args.place c.args.value ≡ true) (sym c.self.view_is) c.requires) v.fuel v.call v.run c.edit.new.self c.in_ok-edit.ensures.ok c.self.invariant)
+    (sound-edited v.code v.inputs c.args.place c.args.value c.self.invariant.fit
+        (subst (λ e. takes e c.args.place c.args.value ≡ true) (sym c.self.view_is) c.requires) v.fuel v.call v.run c.edit.new.self c.in_ok-edit.ensures.ok c.self.invariant)
 
 pub returns-in_err-edit-clause-err : goal.returns-in_err-edit-clause-err
 returns-in_err-edit-clause-err c =
@@ -48,7 +50,8 @@ returns-clause-carries c = λ next r carries.
     let takes-it = subst (λ e. takes e c.args.place c.args.value ≡ true) (sym c.self.view_is) c.requires in
     let more = with_base v.inputs c.args.place c.args.value in
     let sound = sound-edited v.code v.inputs c.args.place c.args.value c.self.invariant.fit takes-it v.fuel v.call v.run c.edit.new.self c.in_ok-edit.ensures.ok c.self.invariant in
-    let cell = (both (is_cell (kind_at v.code.structs (alone v.inputs) c.args.place)) (fits_in v.code.structs (alone v.inputs) (kind_at v.code.structs (alone v.inputs) c.args.place) c.args.value) takes-it).0 in
+    let cell = (both (is_cell (kind_at v.code.structs (alone v.inputs) c.args.place))
+        (fits_in v.code.structs (alone v.inputs) (kind_at v.code.structs (alone v.inputs) c.args.place) c.args.value) takes-it).0 in
     rw c.set_base.ensures
     (carries-still v.code v.fuel v.inputs more v.call (extended-edit v.code v.inputs c.args.place c.args.value cell) edited_at spent-edited v.run c.edit.new.self c.self.invariant sound
-    (same-base c.args.place c.args.value v.run c.edit.new.self c.in_ok-edit.ensures.ok) next r (subst (λ e. CarriesFrom e next r) (sym c.self.view_is) carries))
+    (same-base c.args.place c.args.value v.run c.edit.new.self c.in_ok-edit.ensures.ok) next r (subst (λ e. CarriesRepair e next r) (sym c.self.view_is) carries))

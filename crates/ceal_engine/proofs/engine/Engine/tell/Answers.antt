@@ -18,4 +18,5 @@ pub returns : goal.returns
 returns c =
     let v = c.self.inside in
     ap (state_of v.code v.fuel v.inputs v.call.call) c.tell.ensures
-    ∙ (told-state v.code v.fuel v.inputs c.args.work v.call.call v.run (subst (λ e. e.phase ≡ Finished) (sym c.self.view_is) c.requires) ∙ ap (λ (e : EngineState). record e { work = c.args.work }) c.self.view_is)
+    ∙ (told-state v.code v.fuel v.inputs c.args.work v.call.call v.run (subst (λ e. e.phase ≡ Finished) (sym c.self.view_is) c.requires)
+    ∙ ap (λ (e : EngineState). record e { work = c.args.work }) c.self.view_is)

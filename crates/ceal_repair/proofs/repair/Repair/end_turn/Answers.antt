@@ -2,7 +2,7 @@ use Rattle.std.proofs.Common.{◌≡◌, inr, None, Some, reverse, sym, ap, ◌�
 use Rattle.ceal_code.specs.Stacks.{aside_in}
 use Rattle.ceal_order.specs.declared.stamp.Stamp.{Stamp}
 use Rattle.ceal_repair.proofs.Propagation.TurnEnd.{now-there, lies-ended, limit-ended, first-ended, turn-ends}
-use Rattle.ceal_repair.specs.Entries.{stamped}
+use Rattle.ceal_repair.specs.Entries.{stamp_of_number}
 use Rattle.ceal_repair.specs.Frames.{frames_in}
 use Rattle.ceal_repair.specs.Moment.{through}
 use Rattle.ceal_repair.specs.Repairs.{code_of, inputs_of, view}
@@ -16,7 +16,7 @@ unreachable-requires c =
     let q = c.requires.over in
     let now = now-there old q.0 q.1 q.2 q.3 q.4 q.5 q.6 in
     let none = ap (λ fs. frames_in (aside_in old.stack.now) (reverse fs)) q.6.last in
-    let both : Some (stamped q.5.spot.end) ≡ None = sym (limit-ended (code_of old) (inputs_of old) q.0 q.1 q.2 q.3 q.4 q.5 q.6.stack (view old) now none) ∙ c.in-None.is in
+    let both : Some (stamp_of_number q.5.spot.end) ≡ None = sym (limit-ended (code_of old) (inputs_of old) q.0 q.1 q.2 q.3 q.4 q.5 q.6.stack (view old) now none) ∙ c.in-None.is in
     cc
 
 pub cut_until-requires-clause-lies : goal.cut_until-requires-clause-lies
@@ -25,8 +25,8 @@ cut_until-requires-clause-lies c =
     let q = c.requires.over in
     let now = now-there old q.0 q.1 q.2 q.3 q.4 q.5 q.6 in
     let none = ap (λ fs. frames_in (aside_in old.stack.now) (reverse fs)) q.6.last in
-    let both : Some (stamped q.5.spot.end) ≡ Some c.in-Some.end = sym (limit-ended (code_of old) (inputs_of old) q.0 q.1 q.2 q.3 q.4 q.5 q.6.stack (view old) now none) ∙ c.in-Some.is in
-    let same : stamped q.5.spot.end ≡ c.in-Some.end = cc in (
+    let both : Some (stamp_of_number q.5.spot.end) ≡ Some c.in-Some.end = sym (limit-ended (code_of old) (inputs_of old) q.0 q.1 q.2 q.3 q.4 q.5 q.6.stack (view old) now none) ∙ c.in-Some.is in
+    let same : stamp_of_number q.5.spot.end ≡ c.in-Some.end = cc in (
       through now.placed.done now.placed.last,
       now.left,
       now.tail,
@@ -39,8 +39,8 @@ returns-clause-ends c = λ f args o before start b z.
     let old : Repair = c.args.self.now in
     let now = now-there old f args o before start b z in
     let none = ap (λ fs. frames_in (aside_in old.stack.now) (reverse fs)) z.last in
-    let both : Some (stamped b.spot.end) ≡ Some c.in-Some.end = sym (limit-ended (code_of old) (inputs_of old) f args o before start b z.stack (view old) now none) ∙ c.in-Some.is in
-    let same : stamped b.spot.end ≡ c.in-Some.end = cc in
+    let both : Some (stamp_of_number b.spot.end) ≡ Some c.in-Some.end = sym (limit-ended (code_of old) (inputs_of old) f args o before start b z.stack (view old) now none) ∙ c.in-Some.is in
+    let same : stamp_of_number b.spot.end ≡ c.in-Some.end = cc in
     let e = c.in_ok-cut_until.ensures in
     turn-ends (code_of old) (inputs_of old) f args o before start b z.stack (view old) now none z.over c.cut_until.new.self
     (e.all (through now.placed.done now.placed.last) now.left now.tail (lies-ended (code_of old) (inputs_of old) f args o before start b z.stack (view old) now none)

@@ -16,34 +16,41 @@ pub turn_from-requires-clause-found : goal.turn_from-requires-clause-found
 turn_from-requires-clause-found c =
     let e = c.in-Some.ensures in
     let q = c.requires.comes in
-    (q.0, q.1, later c.loop-turn.turn q.2, found_by c.args.self.now c.loop-turn.self c.loop-turn.turn c.loop-turn.invariant.turning c.first_stale.new.self e.kept e.cells c.in-Some.read.0 e.stale e.nodes e.behind q.0 q.1 q.2 q.3 q.4)
+    (q.0, q.1, later c.loop-turn.turn q.2, found_by c.args.self.now c.loop-turn.self c.loop-turn.turn c.loop-turn.invariant.turning c.first_stale.new.self e.kept e.cells c.in-Some.read.0 e.stale
+        e.nodes e.behind q.0 q.1 q.2 q.3 q.4)
 
 pub returns-in_err-turn_from-in-Some-clause-sure : goal.returns-in_err-turn_from-in-Some-clause-sure
 returns-in_err-turn_from-in-Some-clause-sure c = λ f args o before h honest.
     let e = c.in-Some.ensures in
-    absurd (found-never c.args.self.now c.loop-turn.self c.loop-turn.turn c.loop-turn.invariant.turning c.first_stale.new.self e.kept e.cells c.in-Some.read.0 e.stale e.nodes e.behind f args o before h honest)
+    absurd (found-never c.args.self.now c.loop-turn.self c.loop-turn.turn c.loop-turn.invariant.turning c.first_stale.new.self e.kept e.cells c.in-Some.read.0 e.stale e.nodes e.behind f args o before
+        h honest)
 
 pub returns-then-not-branch-clause-ended : goal.returns-then-not-branch-clause-ended
 returns-then-not-branch-clause-ended c = λ f args o before h.
     let e = c.in-Some.ensures in
-    let found = found_by c.args.self.now c.loop-turn.self c.loop-turn.turn c.loop-turn.invariant.turning c.first_stale.new.self e.kept e.cells c.in-Some.read.0 e.stale e.nodes e.behind f args o before h in
-    (c.loop-turn.turn, not-last c.loop-turn.turn c.args.reads c.loop-turn.invariant.few (c.is_last.ensures.fewer c.if-is_last.false), rw (c.if-not-branch.true, c.loop-turn.invariant.turning.call.code, c.loop-turn.invariant.turning.call.inputs) at (c.in_ok-turn_from-in-Some.ensures.turn f args (later c.loop-turn.turn o) found))
+    let found =
+        found_by c.args.self.now c.loop-turn.self c.loop-turn.turn c.loop-turn.invariant.turning c.first_stale.new.self e.kept e.cells c.in-Some.read.0 e.stale e.nodes e.behind f args o before h in
+    (c.loop-turn.turn, not-last c.loop-turn.turn c.args.reads c.loop-turn.invariant.few (c.is_last.ensures.fewer c.if-is_last.false), rw
+        (c.if-not-branch.true, c.loop-turn.invariant.turning.call.code, c.loop-turn.invariant.turning.call.inputs) at (c.in_ok-turn_from-in-Some.ensures.turn f args (later c.loop-turn.turn o) found))
 
 pub loop-turn-preserved : goal.loop-turn-preserved
 loop-turn-preserved c =
     let e = c.in-Some.ensures in
     let g = c.in_ok-turn_from-in-Some.ensures in
     record {
-      turning = turn-more c.args.self.now c.loop-turn.self c.loop-turn.turn c.loop-turn.invariant.turning c.first_stale.new.self e.kept e.cells c.in-Some.read.0 e.stale e.nodes e.behind c.turn_from.new.self (record { code = g.call.code; inputs = g.call.inputs; place = g.call.place })
+      turning = turn-more c.args.self.now c.loop-turn.self c.loop-turn.turn c.loop-turn.invariant.turning c.first_stale.new.self e.kept e.cells c.in-Some.read.0 e.stale e.nodes e.behind
+          c.turn_from.new.self (record { code = g.call.code; inputs = g.call.inputs; place = g.call.place })
           (g.idle c.if-not-branch.false)
           (λ f args o before h.
           rw c.if-not-branch.false at (g.turn f args (later c.loop-turn.turn o)
-          (found_by c.args.self.now c.loop-turn.self c.loop-turn.turn c.loop-turn.invariant.turning c.first_stale.new.self e.kept e.cells c.in-Some.read.0 e.stale e.nodes e.behind f args o before h)));
+          (found_by c.args.self.now c.loop-turn.self c.loop-turn.turn c.loop-turn.invariant.turning c.first_stale.new.self e.kept e.cells c.in-Some.read.0 e.stale e.nodes e.behind f args o before
+              h)));
       few = one-more c.loop-turn.turn c.args.reads (not-last c.loop-turn.turn c.args.reads c.loop-turn.invariant.few (c.is_last.ensures.fewer c.if-is_last.false));
       within = λ h. g.within c.if-not-branch.false;
       pays = turn-pays c.loop-turn.turn c.args.self.now.running.now c.loop-turn.self.running.now c.turn_from.new.self.running.now c.loop-turn.invariant.pays
           (pays-then 1 c.loop-turn.self.running.now (record c.loop-turn.self.running.now { tables = c.first_stale.new.self }) c.turn_from.new.self.running.now
-          (one-left c.loop-turn.self.running.now (record c.loop-turn.self.running.now { tables = c.first_stale.new.self }) (due-value c.loop-turn.self.running.now.tables c.first_stale.new.self _ _ 1 e.nodes.3 c.first_stale.ensures.looks) refl e.differs) g.pays);
+          (one-left c.loop-turn.self.running.now (record c.loop-turn.self.running.now { tables = c.first_stale.new.self })
+              (due-value c.loop-turn.self.running.now.tables c.first_stale.new.self _ _ 1 e.nodes.3 c.first_stale.ensures.looks) refl e.differs) g.pays);
     }
 
 pub returns-clause-sure : goal.returns-clause-sure
@@ -54,7 +61,8 @@ returns-then-has_stale-clause-ended c = λ f args o before h.
     let s = c.has_stale.ensures.stale c.if-has_stale.true in (
       c.loop-turn.turn,
       c.is_last.ensures.last c.if-is_last.true,
-      is-under-way c.args.self.now c.loop-turn.self c.loop-turn.turn c.loop-turn.invariant.turning c.has_stale.new.self c.has_stale.ensures.kept c.has_stale.ensures.cells c.has_stale.ensures.trace s.0 s.1 f args o before h,
+      is-under-way c.args.self.now c.loop-turn.self c.loop-turn.turn c.loop-turn.invariant.turning c.has_stale.new.self c.has_stale.ensures.kept c.has_stale.ensures.cells c.has_stale.ensures.trace
+          s.0 s.1 f args o before h,
     )
 
 -- as many turns as there were to be are at least one
@@ -74,7 +82,8 @@ pub returns-then-is_last-clause-ended : goal.returns-then-is_last-clause-ended
 returns-then-is_last-clause-ended c = λ f args o before h.
     let e = c.has_stale.ensures in
     ends-so _ _ f args c.args.reads c.args.fuel o before (record c.loop-turn.self.running.now { tables = c.has_stale.new.self }) c.conclude.new.self c.loop-turn.turn c.loop-turn.invariant.few
-    (is-done c.args.self.now c.loop-turn.self c.loop-turn.turn c.loop-turn.invariant.turning c.has_stale.new.self e.kept e.cells e.trace (e.none c.if-has_stale.false) (e.honest c.if-has_stale.false) f args o before h) c.conclude.result
+    (is-done c.args.self.now c.loop-turn.self c.loop-turn.turn c.loop-turn.invariant.turning c.has_stale.new.self e.kept e.cells e.trace (e.none c.if-has_stale.false)
+        (e.honest c.if-has_stale.false) f args o before h) c.conclude.result
     c.conclude.ensures
 
 pub returns-then-is_last-clause-within : goal.returns-then-is_last-clause-within
@@ -94,8 +103,10 @@ returns-then-is_last-clause-pays c =
 pub returns-in-None-clause-ended : goal.returns-in-None-clause-ended
 returns-in-None-clause-ended c = λ f args o before h.
     let e = c.in-None.ensures in
-    ends-so _ _ f args c.args.reads c.args.fuel o before (record c.loop-turn.self.running.now { tables = c.first_stale.new.self }) c.conclude-in-None.new.self c.loop-turn.turn c.loop-turn.invariant.few
-    (is-up-to-date c.args.self.now c.loop-turn.self c.loop-turn.turn c.loop-turn.invariant.turning c.first_stale.new.self e.kept e.cells e.none (λ s i. e.left s i tt) f args o before h) c.conclude-in-None.result
+    ends-so _ _ f args c.args.reads c.args.fuel o before
+        (record c.loop-turn.self.running.now { tables = c.first_stale.new.self }) c.conclude-in-None.new.self c.loop-turn.turn c.loop-turn.invariant.few
+    (is-up-to-date c.args.self.now c.loop-turn.self c.loop-turn.turn c.loop-turn.invariant.turning c.first_stale.new.self e.kept e.cells e.none
+        (λ s i. e.left s i tt) f args o before h) c.conclude-in-None.result
     c.conclude-in-None.ensures
 
 pub returns-in-None-clause-within : goal.returns-in-None-clause-within
@@ -119,4 +130,5 @@ returns-then-not-branch-clause-pays c =
     let e = c.in-Some.ensures in
     pays-less (c.loop-turn.turn + 1) c.args.self.now.running.now c.turn_from.new.self.running.now
     (turn-pays c.loop-turn.turn c.args.self.now.running.now b c.turn_from.new.self.running.now c.loop-turn.invariant.pays
-    (pays-then 1 b m c.turn_from.new.self.running.now (one-left b m (due-value b.tables c.first_stale.new.self _ _ 1 e.nodes.3 c.first_stale.ensures.looks) refl e.differs) c.in_ok-turn_from-in-Some.ensures.pays))
+    (pays-then 1 b m c.turn_from.new.self.running.now
+        (one-left b m (due-value b.tables c.first_stale.new.self _ _ 1 e.nodes.3 c.first_stale.ensures.looks) refl e.differs) c.in_ok-turn_from-in-Some.ensures.pays))

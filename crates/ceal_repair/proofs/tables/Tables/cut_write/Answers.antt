@@ -20,10 +20,12 @@ there : (s : ℕ) (p : Place) (v : Word) (a b : Timeline) → a ≡ b → node_a
 there s p v a b e h = rw e h
 
 pub is_needless-needless-requires-clause-kept : goal.is_needless-needless-requires-clause-kept
-is_needless-needless-requires-clause-kept c = room-kept c.args.self.now c.reserve.new.self c.requires.kept c.reserve.ensures.stamps (c.reserve.ensures.follows (stamps_in c.args.self.now.trace.nodes) c.requires.kept.step.stale)
+is_needless-needless-requires-clause-kept c =
+    room-kept c.args.self.now c.reserve.new.self c.requires.kept c.reserve.ensures.stamps (c.reserve.ensures.follows (stamps_in c.args.self.now.trace.nodes) c.requires.kept.step.stale)
 
 pub remove_write-requires-clause-here : goal.remove_write-requires-clause-here
-remove_write-requires-clause-here c = rw (c.order.ensures, c.is_needless-needless.ensures.trace) (node-has c.args.write.0 (Write c.args.place c.requires.here.0) c.args.self.now.trace.nodes c.requires.here.1)
+remove_write-requires-clause-here c =
+    rw (c.order.ensures, c.is_needless-needless.ensures.trace) (node-has c.args.write.0 (Write c.args.place c.requires.here.0) c.args.self.now.trace.nodes c.requires.here.1)
 
 pub remove_write-requires-clause-there : goal.remove_write-requires-clause-there
 remove_write-requires-clause-there c =
@@ -34,7 +36,8 @@ pub wake_unless-requires-clause-here : goal.wake_unless-requires-clause-here
 wake_unless-requires-clause-here c = rw c.is_needless-needless.ensures.trace (node-has c.args.write.0 (Write c.args.place c.requires.here.0) c.args.self.now.trace.nodes c.requires.here.1)
 
 pub discard-requires-clause-here : goal.discard-requires-clause-here
-discard-requires-clause-here c = rw (c.wake_unless.ensures.trace, c.is_needless-needless.ensures.trace) (node-has c.args.write.0 (Write c.args.place c.requires.here.0) c.args.self.now.trace.nodes c.requires.here.1)
+discard-requires-clause-here c =
+    rw (c.wake_unless.ensures.trace, c.is_needless-needless.ensures.trace) (node-has c.args.write.0 (Write c.args.place c.requires.here.0) c.args.self.now.trace.nodes c.requires.here.1)
 
 either : {X Y : Type 0} (t : Bool) → (t ≡ true → X) → (t ≡ false → Y) → X ⊎ Y
 either true f g = inl (f refl)
@@ -43,7 +46,8 @@ either false f g = inr (g refl)
 pub returns-clause-behind : goal.returns-clause-behind
 returns-clause-behind c = λ s lt late r i.
     let b : Tables = c.is_needless-needless.new.self in
-    let at_it : node_at c.args.write.0 b.trace.nodes ≡ Some (Write c.args.place c.requires.here.0) = there c.args.write.0 c.args.place c.requires.here.0 b.trace c.args.self.now.trace c.is_needless-needless.ensures.trace c.requires.here.1 in
+    let at_it : node_at c.args.write.0 b.trace.nodes ≡ Some (Write c.args.place c.requires.here.0) =
+        there c.args.write.0 c.args.place c.requires.here.0 b.trace c.args.self.now.trace c.is_needless-needless.ensures.trace c.requires.here.1 in
     write-cut-behind c.is_needless-needless.new.self c.is_needless-needless.ensures.kept c.args.write.0 (Write c.args.place c.requires.here.0) at_it c.discard.new.self
     (rw c.wake_unless.ensures.trace at c.discard.ensures.nodes) (rw c.wake_unless.ensures.trace at c.discard.ensures.others)
     c.discard.ensures.whole (c.discard.ensures.closed (rw c.wake_unless.ensures.trace c.is_needless-needless.ensures.kept.step.closed)
@@ -55,7 +59,8 @@ returns-clause-behind c = λ s lt late r i.
 pub returns-clause-kept : goal.returns-clause-kept
 returns-clause-kept c =
     let b : Tables = c.is_needless-needless.new.self in
-    let at_it : node_at c.args.write.0 b.trace.nodes ≡ Some (Write c.args.place c.requires.here.0) = there c.args.write.0 c.args.place c.requires.here.0 b.trace c.args.self.now.trace c.is_needless-needless.ensures.trace c.requires.here.1 in
+    let at_it : node_at c.args.write.0 b.trace.nodes ≡ Some (Write c.args.place c.requires.here.0) =
+        there c.args.write.0 c.args.place c.requires.here.0 b.trace c.args.self.now.trace c.is_needless-needless.ensures.trace c.requires.here.1 in
     let before : Tables = tables c.args.self.now.trace c.args.self.now.mods c.reserve.new.self c.args.self.now.memo in
     rw (c.wake_unless.ensures.mods, c.wake_unless.ensures.memo)
     (write-cut-kept c.is_needless-needless.new.self c.is_needless-needless.ensures.kept c.args.write.0 (Write c.args.place c.requires.here.0) at_it c.discard.new.self

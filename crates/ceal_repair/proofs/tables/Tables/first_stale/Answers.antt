@@ -31,23 +31,28 @@ pub returns-in_err-read-clause-kept : goal.returns-in_err-read-clause-kept
 returns-in_err-read-clause-kept c = rw c.in_err-read.ensures.unchanged c.loop-looked.invariant.kept
 
 pub settle-requires-clause-step : goal.settle-requires-clause-step
-settle-requires-clause-step c = popped-step c.loop-looked.self c.loop-looked.invariant.kept c.in_ok-read.read.0 c.pop_before.new.self (rw c.order.ensures at c.in_ok-read.ensures.earliest) c.in_ok-read.ensures.without
+settle-requires-clause-step c =
+    popped-step c.loop-looked.self c.loop-looked.invariant.kept c.in_ok-read.read.0 c.pop_before.new.self (rw c.order.ensures at c.in_ok-read.ensures.earliest) c.in_ok-read.ensures.without
     (rw c.order.ensures at c.pop_before.ensures.follows)
 
 pub settle-requires-clause-chained : goal.settle-requires-clause-chained
-settle-requires-clause-chained c = popped-chained c.loop-looked.self c.loop-looked.invariant.kept c.in_ok-read.read.0 c.pop_before.new.self (rw c.order.ensures at c.in_ok-read.ensures.earliest) c.in_ok-read.ensures.without
+settle-requires-clause-chained c =
+    popped-chained c.loop-looked.self c.loop-looked.invariant.kept c.in_ok-read.read.0 c.pop_before.new.self (rw c.order.ensures at c.in_ok-read.ensures.earliest) c.in_ok-read.ensures.without
 
 pub settle-requires-clause-here : goal.settle-requires-clause-here
-settle-requires-clause-here c = popped-read c.loop-looked.self c.loop-looked.invariant.kept c.in_ok-read.read.0 c.pop_before.new.self (rw c.order.ensures at c.in_ok-read.ensures.earliest) c.in_ok-read.ensures.without
+settle-requires-clause-here c =
+    popped-read c.loop-looked.self c.loop-looked.invariant.kept c.in_ok-read.read.0 c.pop_before.new.self (rw c.order.ensures at c.in_ok-read.ensures.earliest) c.in_ok-read.ensures.without
 
 pub returns-then-settle-clause-stale : goal.returns-then-settle-clause-stale
 returns-then-settle-clause-stale c =
-    stale-same (tables c.loop-looked.self.trace c.loop-looked.self.mods c.pop_before.new.self c.loop-looked.self.memo) c.args.self.now c.in_ok-read.read.0 c.loop-looked.invariant.trace c.loop-looked.invariant.cells
+    stale-same (tables c.loop-looked.self.trace c.loop-looked.self.mods c.pop_before.new.self c.loop-looked.self.memo) c.args.self.now c.in_ok-read.read.0 c.loop-looked.invariant.trace
+        c.loop-looked.invariant.cells
     (c.settle.ensures.stale c.if-settle.true)
 
 pub returns-then-settle-clause-nodes : goal.returns-then-settle-clause-nodes
 returns-then-settle-clause-nodes c =
-    nodes-same (tables c.loop-looked.self.trace c.loop-looked.self.mods c.pop_before.new.self c.loop-looked.self.memo) c.args.self.now c.in_ok-read.read.0 c.settle.new.self.trace.nodes c.loop-looked.invariant.trace c.loop-looked.invariant.cells
+    nodes-same (tables c.loop-looked.self.trace c.loop-looked.self.mods c.pop_before.new.self c.loop-looked.self.memo) c.args.self.now c.in_ok-read.read.0 c.settle.new.self.trace.nodes
+        c.loop-looked.invariant.trace c.loop-looked.invariant.cells
     (c.settle.ensures.nodes c.if-settle.true)
 
 pub returns-then-settle-clause-limit : goal.returns-then-settle-clause-limit
@@ -61,7 +66,8 @@ returns-then-settle-clause-memo c = c.settle.ensures.memo ∙ c.loop-looked.inva
 
 pub loop-looked-preserved : goal.loop-looked-preserved
 loop-looked-preserved c =
-    looked-more c.args.self.now c.loop-looked.self c.settle.new.self c.loop-looked._looked c.in_ok-read.read.0 c.loop-looked.invariant c.in_ok-read.ensures.earliest.there c.settle.ensures.kept (c.settle.ensures.same c.if-settle.false)
+    looked-more c.args.self.now c.loop-looked.self c.settle.new.self c.loop-looked._looked c.in_ok-read.read.0 c.loop-looked.invariant c.in_ok-read.ensures.earliest.there c.settle.ensures.kept
+        (c.settle.ensures.same c.if-settle.false)
     c.settle.ensures.cells c.settle.ensures.memo c.settle.ensures.behind
     (let a = c.settle.ensures.idle c.if-settle.false in
     let b = c.in_ok-read.ensures.fewer in omega (arith, a, b)) (c.settle.ensures.none_differs c.if-settle.false)

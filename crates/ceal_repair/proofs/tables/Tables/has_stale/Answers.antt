@@ -22,7 +22,8 @@ pub returns-in-None-clause-honest : goal.returns-in-None-clause-honest
 returns-in-None-clause-honest c = λ told s. all-honest c.loop-looked.self c.loop-looked.invariant.kept (λ r i. absurd (let clash : true ≡ false = sym i ∙ c.in-None.ensures.none r in cc)) s
 
 pub differs-requires-clause-here : goal.differs-requires-clause-here
-differs-requires-clause-here c = c.loop-looked.invariant.kept.step.queued c.in-Some.read.0 (c.in-Some.ensures.first (stamps_in c.loop-looked.self.trace.nodes) c.loop-looked.invariant.kept.step.stale).there
+differs-requires-clause-here c =
+    c.loop-looked.invariant.kept.step.queued c.in-Some.read.0 (c.in-Some.ensures.first (stamps_in c.loop-looked.self.trace.nodes) c.loop-looked.invariant.kept.step.stale).there
 
 pub dismiss-requires-clause-here : goal.dismiss-requires-clause-here
 dismiss-requires-clause-here c = rw c.differs.ensures.trace
@@ -40,7 +41,8 @@ pub loop-looked-preserved : goal.loop-looked-preserved
 loop-looked-preserved c =
     looked-more c.args.self.now c.loop-looked.self c.dismiss.new.self c.loop-looked._looked c.in-Some.read.0 c.loop-looked.invariant
     (c.in-Some.ensures.first (stamps_in c.loop-looked.self.trace.nodes) c.loop-looked.invariant.kept.step.stale).there c.dismiss.ensures.kept
-    (c.dismiss.ensures.trace ∙ c.differs.ensures.trace) (ap (λ (m : Contents). m.cells) c.dismiss.ensures.mods ∙ c.differs.ensures.cells) (c.dismiss.ensures.memo ∙ c.differs.ensures.memo) c.dismiss.ensures.behind
+    (c.dismiss.ensures.trace ∙ c.differs.ensures.trace) (ap (λ (m : Contents). m.cells) c.dismiss.ensures.mods ∙ c.differs.ensures.cells)
+        (c.dismiss.ensures.memo ∙ c.differs.ensures.memo) c.dismiss.ensures.behind
     (let there = (c.in-Some.ensures.first (stamps_in c.loop-looked.self.trace.nodes) c.loop-looked.invariant.kept.step.stale).there in
     let a = c.differs.ensures.looks in
     let b = ap (λ (m : Contents). m.looked) c.dismiss.ensures.mods in

@@ -12,7 +12,8 @@ use Rattle.ceal_mods.specs.Mods.{Contents}
 use Rattle.ceal_repair.proofs.tables.Tables.put_write.Goals as goal
 
 pub add_write-requires-clause-absent : goal.add_write-requires-clause-absent
-add_write-requires-clause-absent c = (is-free c.insert_write-added.result.0 c.args.self.now c.requires.kept.step (rw c.reserve.ensures.nodes at c.insert_write-added.ensures.inserted.new) c.args.place).0
+add_write-requires-clause-absent c =
+    (is-free c.insert_write-added.result.0 c.args.self.now c.requires.kept.step (rw c.reserve.ensures.nodes at c.insert_write-added.ensures.inserted.new) c.args.place).0
 
 pub wake-requires-clause-stale : goal.wake-requires-clause-stale
 wake-requires-clause-stale c =
@@ -21,7 +22,8 @@ wake-requires-clause-stale c =
 
 pub returns-clause-bases : goal.returns-clause-bases
 returns-clause-bases c = λ p. rw c.wake.ensures.mods
-    (bases-same c.args.self.now.mods c.add_write.new.self c.args.place (with_write (stamps_in c.insert_write-added.new.self.nodes) c.insert_write-added.result.0 c.args.value (cell_of c.args.self.now.mods c.args.place))
+    (bases-same c.args.self.now.mods c.add_write.new.self c.args.place
+        (with_write (stamps_in c.insert_write-added.new.self.nodes) c.insert_write-added.result.0 c.args.value (cell_of c.args.self.now.mods c.args.place))
     (rw c.order.ensures at c.in_ok-add_write.ensures.ok) refl p)
 
 pub returns-clause-behind : goal.returns-clause-behind

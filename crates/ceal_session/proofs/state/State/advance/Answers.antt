@@ -1,7 +1,7 @@
 use Rattle.std.proofs.Common.{◌≡◌, true, Some, is_some, ap, ◌∙◌, sym, subst}
 use Rattle.ceal_session.proofs.Moves.StateAfterRun.{advanced, holds-behind, not-new, the-call, fits-of}
-use Rattle.ceal_session.specs.Advancing.{phase_behind, IsAdvanced}
-use Rattle.ceal_session.specs.Keeping.{situation, situation_of}
+use Rattle.ceal_session.specs.Outcomes.{phase_after_outcome, SituationAfterOutcome}
+use Rattle.ceal_session.specs.SessionState.{situation, situation_of}
 use Rattle.ceal_session.proofs.state.State.advance.Goals as goal
 
 pub advanced-came-requires-clause-called : goal.advanced-came-requires-clause-called
@@ -10,7 +10,7 @@ advanced-came-requires-clause-called c = not-new c.self.inside.engine c.phase-be
 pub settle-requires : goal.settle-requires
 settle-requires c =
     let g = the-call c.self.inside.engine (subst (λ m. is_some m.state.call ≡ true) (sym c.self.view_is) c.requires.called) in
-    λ e. (c.advanced-came.ensures.brings g.0 g.1).phase ∙ ap phase_behind e
+    λ e. (c.advanced-came.ensures.brings g.0 g.1).phase ∙ ap phase_after_outcome e
 
 pub invariant_of-self : goal.invariant_of-self
 invariant_of-self c =
@@ -27,7 +27,7 @@ returns c =
     let o = c.advanced-came in
     λ call again.
     let same = subst (λ m. m.state.call ≡ Some call) (sym c.self.view_is) again in
-    subst (λ m. IsAdvanced (situation m) call c.args.reads o.result (situation_of i.program i.names o.new.engine c.settle.new.journal c.goes_on-self-inside.result)) c.self.view_is
+    subst (λ m. SituationAfterOutcome (situation m) call c.args.reads o.result (situation_of i.program i.names o.new.engine c.settle.new.journal c.goes_on-self-inside.result)) c.self.view_is
     (rw (c.settle.ensures, c.goes_on-self-inside.ensures)
     (advanced i.program i.names i.engine i.journal i.pending c.self.invariant call (fits-of i.engine c.phase-before.ensures.whole call same)
     c.args.reads o.new.engine c.phase-after.ensures.whole o.result (o.ensures.brings call same)))

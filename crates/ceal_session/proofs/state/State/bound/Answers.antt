@@ -1,8 +1,8 @@
 use Rattle.std.proofs.Common.{◌≡◌, IfOk, true, is_some, sym, subst}
 use Rattle.ceal_session.proofs.Replies.TextOfReply.{if-ok}
 use Rattle.ceal_session.proofs.Memory.EngineTellsRun.{told-run, told-cost, now-measured}
-use Rattle.ceal_session.specs.Asking.{IsReady}
-use Rattle.ceal_session.specs.Keeping.{situation}
+use Rattle.ceal_session.specs.Questions.{IsReady}
+use Rattle.ceal_session.specs.SessionState.{situation}
 use Rattle.ceal_session.specs.Runs.{present_run}
 use Rattle.ceal_session.proofs.state.State.bound.Goals as goal
 
@@ -10,7 +10,8 @@ pub bound_of-requires : goal.bound_of-requires
 bound_of-requires c =
     let i = c.self.inside in
     record {
-      measured = rw c.bounding.ensures (now-measured i.program i.names i.engine i.journal i.pending c.self.invariant c.phase-phase.ensures.whole (subst (λ m. IsReady m.state) (sym c.self.view_is) c.requires));
+      measured = rw c.bounding.ensures
+          (now-measured i.program i.names i.engine i.journal i.pending c.self.invariant c.phase-phase.ensures.whole (subst (λ m. IsReady m.state) (sym c.self.view_is) c.requires));
     }
 
 pub returns-clause-bound : goal.returns-clause-bound
@@ -18,7 +19,8 @@ returns-clause-bound c =
     let i = c.self.inside in
     subst (λ m. IfOk c.bound_of.result (λ n. n ≡ (situation m).bound)) c.self.view_is
     (if-ok c.bound_of.result
-    (λ n h. told-cost i.program i.names i.engine i.journal i.pending c.self.invariant c.phase-phase.ensures.whole (subst (λ m. IsReady m.state) (sym c.self.view_is) c.requires) n (rw c.bounding.ensures at h))
+    (λ n h. told-cost i.program i.names i.engine i.journal i.pending c.self.invariant c.phase-phase.ensures.whole (subst (λ m. IsReady m.state) (sym c.self.view_is) c.requires) n
+        (rw c.bounding.ensures at h))
     c.bound_of.ensures)
 
 pub returns-clause-run : goal.returns-clause-run

@@ -1,12 +1,12 @@
 use Rattle.std.proofs.Common.{◌≡◌, ◌∙◌, ap, sym, subst}
 use Rattle.ceal_session.proofs.Replies.KeptBound.{keeps, keeps-situation}
-use Rattle.ceal_session.specs.Keeping.{Holds, held_of, situation}
+use Rattle.ceal_session.specs.SessionState.{SessionInvariant, held_of, situation}
 use Rattle.ceal_session.proofs.state.State.keep_bound.Goals as goal
 
 pub invariant_of-self : goal.invariant_of-self
 invariant_of-self c =
     let i = c.self.inside in
-    subst (λ j. Holds i.program i.names i.engine j i.pending) (sym c.keep.ensures) (keeps i.program i.names i.engine i.journal i.pending c.args.bound c.self.invariant)
+    subst (λ j. SessionInvariant i.program i.names i.engine j i.pending) (sym c.keep.ensures) (keeps i.program i.names i.engine i.journal i.pending c.args.bound c.self.invariant)
 
 pub returns : goal.returns
 returns c =

@@ -1,8 +1,8 @@
 use Rattle.std.proofs.Common.{sym, subst, arith}
 use Rattle.ceal_session.proofs.Engine.RecordOfTrace.{record-is}
-use Rattle.ceal_session.specs.Asking.{IsReady}
-use Rattle.ceal_session.specs.Keeping.{situation}
-use Rattle.ceal_session.specs.Recording.{IsRecorded}
+use Rattle.ceal_session.specs.Questions.{IsReady}
+use Rattle.ceal_session.specs.SessionState.{situation}
+use Rattle.ceal_session.specs.RunRecord.{IsRecorded}
 use Rattle.ceal_session.proofs.state.State.recorded.Goals as goal
 
 pub returns : goal.returns

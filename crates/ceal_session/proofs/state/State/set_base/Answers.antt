@@ -1,11 +1,11 @@
 use Rattle.std.proofs.Common.{◌≡◌, true, ap, ◌∙◌, sym, subst}
 use Rattle.ceal_session.proofs.Moves.StateAfterEdit.{edited-state, edited-keeps, edited-holds}
-use Rattle.ceal_session.specs.Asking.{IsCellOf}
-use Rattle.ceal_session.specs.Following.{Keeps}
+use Rattle.ceal_session.specs.Questions.{IsCellOf}
+use Rattle.ceal_session.specs.AfterLine.{KeepsRuns}
 use Rattle.ceal_session.specs.Journal.{with_edit}
-use Rattle.ceal_session.specs.Keeping.{state_of, situation, situation_of, Holds}
+use Rattle.ceal_session.specs.SessionState.{state_of, situation, situation_of, SessionInvariant}
 use Rattle.ceal_session.specs.Steps.{with_base}
-use Rattle.ceal_session.specs.Undoing.{base_at}
+use Rattle.ceal_session.specs.UndoneEdits.{base_at}
 use Rattle.ceal_session.proofs.state.State.set_base.Goals as goal
 
 pub invariant_of-self-in-Ok : goal.invariant_of-self-in-Ok
@@ -14,7 +14,7 @@ invariant_of-self-in-Ok c =
     let o = c.in-Ok.ensures in
     let same = c.in_ok-push.ensures.ok
     ∙ ap (λ w. with_edit i.journal (record { place = c.args.place; base = w })) (c.base_of-base.ensures ∙ ap (λ xs. base_at xs c.args.place) c.input_blocks.ensures.value) in
-    subst (λ k. Holds i.program i.names c.edit.new.self k true) (sym same)
+    subst (λ k. SessionInvariant i.program i.names c.edit.new.self k true) (sym same)
     (edited-holds i.program i.names i.engine i.journal i.pending c.self.invariant c.edit.new.self o.code o.fuel o.call o.forest o.heap o.work c.args.place c.args.word
     (subst (λ m. IsCellOf m.state c.args.place) (sym c.self.view_is) c.requires.cell) o.phase o.inputs)
 
@@ -35,7 +35,7 @@ returns-in-Ok-clause-trace c =
     let o = c.in-Ok.ensures in
     let same = c.in_ok-push.ensures.ok
     ∙ ap (λ w. with_edit i.journal (record { place = c.args.place; base = w })) (c.base_of-base.ensures ∙ ap (λ xs. base_at xs c.args.place) c.input_blocks.ensures.value) in
-    subst (λ m. Keeps (situation m) (situation_of i.program i.names c.edit.new.self c.push.new.self true)) c.self.view_is
-    (subst (λ k. Keeps (situation_of i.program i.names i.engine i.journal i.pending) (situation_of i.program i.names c.edit.new.self k true)) (sym same)
+    subst (λ m. KeepsRuns (situation m) (situation_of i.program i.names c.edit.new.self c.push.new.self true)) c.self.view_is
+    (subst (λ k. KeepsRuns (situation_of i.program i.names i.engine i.journal i.pending) (situation_of i.program i.names c.edit.new.self k true)) (sym same)
     (edited-keeps i.program i.names i.engine i.journal i.pending c.self.invariant c.edit.new.self o.code o.fuel o.call o.forest o.heap o.work c.args.place c.args.word
     (subst (λ m. IsCellOf m.state c.args.place) (sym c.self.view_is) c.requires.cell) o.phase o.inputs))

@@ -1,8 +1,8 @@
 use Rattle.std.proofs.Common.{◌≡◌, None, refl, ap, ◌∙◌, sym, subst}
 use Rattle.ceal_session.proofs.Moves.StateAfterRun.{advanced, holds-behind}
 use Rattle.ceal_session.proofs.Engine.ProgramAndCode.{call-fits}
-use Rattle.ceal_session.specs.Advancing.{phase_behind, IsAdvanced}
-use Rattle.ceal_session.specs.Keeping.{state_of, situation, situation_of}
+use Rattle.ceal_session.specs.Outcomes.{phase_after_outcome, SituationAfterOutcome}
+use Rattle.ceal_session.specs.SessionState.{state_of, situation, situation_of}
 use Rattle.ceal_session.specs.Steps.{IsCall}
 use Rattle.ceal_session.proofs.state.State.start.Goals as goal
 
@@ -12,11 +12,12 @@ first_advanced-came-requires-clause-new c = c.phase-before.ensures.whole.new (su
 pub first_advanced-came-requires-clause-fits : goal.first_advanced-came-requires-clause-fits
 first_advanced-came-requires-clause-fits c =
     let i = c.self.inside in
-    call-fits i.program i.engine.code c.self.invariant.compiled.code c.self.invariant.compiled.valid (state_of i.program i.names i.engine i.journal i.pending) c.args.call.now.function c.args.call.now.args refl c.phase-before.ensures.whole.inputs
+    call-fits i.program i.engine.code c.self.invariant.compiled.code c.self.invariant.compiled.valid
+        (state_of i.program i.names i.engine i.journal i.pending) c.args.call.now.function c.args.call.now.args refl c.phase-before.ensures.whole.inputs
     (subst (λ m. IsCall m.state c.args.call.now) (sym c.self.view_is) c.requires.fits)
 
 pub settle-requires : goal.settle-requires
-settle-requires c = λ e. c.first_advanced-came.ensures.brings.phase ∙ ap phase_behind e
+settle-requires c = λ e. c.first_advanced-came.ensures.brings.phase ∙ ap phase_after_outcome e
 
 pub invariant_of-self : goal.invariant_of-self
 invariant_of-self c =
@@ -24,7 +25,8 @@ invariant_of-self c =
     let o = c.first_advanced-came in
     rw (c.settle.ensures, c.goes_on-self-inside.ensures)
     (holds-behind i.program i.names i.engine i.journal i.pending c.self.invariant c.args.call.now
-    (call-fits i.program i.engine.code c.self.invariant.compiled.code c.self.invariant.compiled.valid (state_of i.program i.names i.engine i.journal i.pending) c.args.call.now.function c.args.call.now.args refl c.phase-before.ensures.whole.inputs
+    (call-fits i.program i.engine.code c.self.invariant.compiled.code c.self.invariant.compiled.valid
+        (state_of i.program i.names i.engine i.journal i.pending) c.args.call.now.function c.args.call.now.args refl c.phase-before.ensures.whole.inputs
     (subst (λ m. IsCall m.state c.args.call.now) (sym c.self.view_is) c.requires.fits))
     None o.new.engine c.phase-after.ensures.whole o.result o.ensures.brings)
 
@@ -32,9 +34,10 @@ pub returns : goal.returns
 returns c =
     let i = c.self.inside in
     let o = c.first_advanced-came in
-    subst (λ m. IsAdvanced (situation m) c.args.call.now None o.result (situation_of i.program i.names o.new.engine c.settle.new.journal c.goes_on-self-inside.result)) c.self.view_is
+    subst (λ m. SituationAfterOutcome (situation m) c.args.call.now None o.result (situation_of i.program i.names o.new.engine c.settle.new.journal c.goes_on-self-inside.result)) c.self.view_is
     (rw (c.settle.ensures, c.goes_on-self-inside.ensures)
     (advanced i.program i.names i.engine i.journal i.pending c.self.invariant c.args.call.now
-    (call-fits i.program i.engine.code c.self.invariant.compiled.code c.self.invariant.compiled.valid (state_of i.program i.names i.engine i.journal i.pending) c.args.call.now.function c.args.call.now.args refl c.phase-before.ensures.whole.inputs
+    (call-fits i.program i.engine.code c.self.invariant.compiled.code c.self.invariant.compiled.valid
+        (state_of i.program i.names i.engine i.journal i.pending) c.args.call.now.function c.args.call.now.args refl c.phase-before.ensures.whole.inputs
     (subst (λ m. IsCall m.state c.args.call.now) (sym c.self.view_is) c.requires.fits))
     None o.new.engine c.phase-after.ensures.whole o.result o.ensures.brings))

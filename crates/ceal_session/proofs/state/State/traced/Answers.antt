@@ -1,7 +1,7 @@
 use Rattle.std.proofs.Common.{subst}
 use Rattle.ceal_session.proofs.Moves.SessionTrace.{has-trace}
-use Rattle.ceal_session.specs.Keeping.{situation}
-use Rattle.ceal_session.specs.Standing.{HasTrace}
+use Rattle.ceal_session.specs.SessionState.{situation}
+use Rattle.ceal_session.specs.Consistency.{HasTrace}
 use Rattle.ceal_session.proofs.state.State.traced.Goals as goal
 
 pub returns : goal.returns

@@ -13,7 +13,7 @@ use Rattle.ceal_theory.specs.Computed.{Repaired}
 use Rattle.ceal_theory.specs.Pasts.{Past, NoTrace, Traced, Going, SamePast}
 use Rattle.ceal_theory.specs.Repair.{own}
 use Rattle.ceal_theory.specs.Slices.{Repair, RepairHolds}
-use Rattle.ceal_session.specs.Naming.{AreSpelled, AreDistinct, HaveKnownShapes}
+use Rattle.ceal_session.specs.InputNames.{AreSpelled, AreDistinct, HaveKnownShapes}
 use Rattle.ceal_session.specs.State.{State, Situation, last}
 use Rattle.ceal_session.specs.Steps.{IsCall}
 
@@ -59,7 +59,7 @@ HasTrace m = IfSome (last m) (λ l. (call : Call) × (m.state.call ≡ Some call
 
 -- The program has this code; each input has a different name and a known shape; the inputs fit, and so does the
 -- accepted call; the past is one of it.
-pub record Stands (m : Situation) : Type 0 where
+pub record IsConsistent (m : Situation) : Type 0 where
   pub compiled : IsCompiled (record { typed = m.state.program; code = m.code })
   pub named : length m.state.names ≡ length m.state.inputs
   pub spelled : AreSpelled m.state.names
@@ -80,5 +80,5 @@ pub record IsIn (session m : Situation) : Type 0 where
   pub state : session.state ≡ m.state
   pub code : session.code ≡ m.code
   pub bound : session.bound ≡ m.bound
-  pub sound : Stands m
+  pub sound : IsConsistent m
   pub past : IsSamePast m.code m.state.inputs m.state.call m.past session.past

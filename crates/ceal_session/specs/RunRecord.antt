@@ -4,7 +4,7 @@ use Rattle.ceal_base.specs.declared.call.Call.{Call}
 use Rattle.ceal_base.specs.declared.recorded.Record.{Record}
 use Rattle.ceal_record.specs.Recorded.{IsRecordOf, IsTraceOf}
 use Rattle.ceal_theory.specs.Computed.{Repaired}
-use Rattle.ceal_session.specs.Asking.{IsReady}
+use Rattle.ceal_session.specs.Questions.{IsReady}
 use Rattle.ceal_session.specs.State.{Situation, last}
 
 -- There is a finished run, whose trace is one of the accepted call on the inputs of this moment, and the

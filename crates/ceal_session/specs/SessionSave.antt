@@ -8,10 +8,10 @@ use Rattle.ceal_snap.specs.SaveText.{Save}
 use Rattle.ceal_theory.specs.Pasts.{Traced}
 use Rattle.ceal_traceck.specs.Verdicts.{Means}
 use Rattle.ceal_traceck.specs.declared.verdict.Verdict.TheVariants.{Yes}
-use Rattle.ceal_session.specs.Following.{IsAllowed}
-use Rattle.ceal_session.specs.Naming.{AreSpelled, AreDistinct}
-use Rattle.ceal_session.specs.Recording.{IsRecorded}
-use Rattle.ceal_session.specs.Standing.{IsIn}
+use Rattle.ceal_session.specs.AfterLine.{IsAllowed}
+use Rattle.ceal_session.specs.InputNames.{AreSpelled, AreDistinct}
+use Rattle.ceal_session.specs.RunRecord.{IsRecorded}
+use Rattle.ceal_session.specs.Consistency.{IsIn}
 use Rattle.ceal_session.specs.State.{State, Situation, numbers_in}
 
 -- The save is that of the session: its fuel, its numbers, its names, and the record of its run.
@@ -24,7 +24,7 @@ pub record IsSaved (m : Situation) (s : Save) : Type 0 where
 
 -- The save holds: a session may have that fuel, each input has a name, no name occurs twice, and the checker
 -- says yes to the record, whose run is in the fuel.
-pub record Holding (code : Code) (s : Save) : Type 0 where
+pub record SaveHolds (code : Code) (s : Save) : Type 0 where
   pub fuel : IsAllowed s.fuel
   pub spelled : AreSpelled s.names
   pub once : AreDistinct s.names
@@ -46,8 +46,8 @@ saved_state program s = record {
 }
 
 -- the situation of a save, whose items are those of this trace, with its numbers
-abbrev pub resumed : Typed → Code → Save → Trace → Situation
-resumed program code s items = record {
+abbrev pub situation_of_save : Typed → Code → Save → Trace → Situation
+situation_of_save program code s items = record {
   state = saved_state program s;
   code = code;
   past = Traced (record { items = items; work = s.work });
@@ -58,4 +58,4 @@ resumed program code s items = record {
 pub record IsResumed (program : Program) (s : Save) (session : Situation) : Type 0 where
   pub trace : Trace
   pub items : s.kept.forest ≡ flat trace
-  pub is_in : IsIn session (resumed program.typed program.code s trace)
+  pub is_in : IsIn session (situation_of_save program.typed program.code s trace)

@@ -4,7 +4,7 @@ use Rattle.ceal_code.specs.Program.{Code}
 use Rattle.ceal_compile.specs.declared.program.Program.{Program}
 use Rattle.ceal_lex.specs.Parts.{source_of}
 use Rattle.ceal_lex.specs.declared.parts.Split.{Split}
-use Rattle.ceal_session.specs.Saving.{Holding, IsResumed}
+use Rattle.ceal_session.specs.SessionSave.{SaveHolds, IsResumed}
 use Rattle.ceal_session.specs.State.{Situation}
 use Rattle.ceal_snap.specs.SaveText.{Save, IsSave}
 use Rattle.ceal_snap.specs.declared.read.SaveError.{SaveError}
@@ -19,13 +19,13 @@ IsSaveRead bytes part (Err Memory) = Unit {0}
 IsSaveRead bytes part (Err Unreadable) = ¬ Resumption bytes
 
 -- The session continues from the save before the second mark, which holds.
-pub record GoesOn (program : Program) (bytes : List ℕ) (part : Split) (session : Situation) : Type 0 where
+pub record ContinuesFromSave (program : Program) (bytes : List ℕ) (part : Split) (session : Situation) : Type 0 where
   pub marked : part.marked ≡ true
   pub saved : Save
   pub is : IsSave (source_of bytes part) saved
-  pub holds : Holding program.code saved
+  pub holds : SaveHolds program.code saved
   pub resumed : IsResumed program saved session
 
 -- There is a save that does not hold.
 abbrev pub IsUnsound : Code → List ℕ → Type 0
-IsUnsound code bytes = (r : Resumption bytes) × ¬ Holding code r.saved
+IsUnsound code bytes = (r : Resumption bytes) × ¬ SaveHolds code r.saved

@@ -14,9 +14,9 @@ use Rattle.ceal_engine.specs.declared.run_error.RunError.TheVariants.{Memory, Ou
 use Rattle.ceal_theory.specs.Computed.{first_of}
 use Rattle.ceal_theory.specs.Pasts.{Past, SamePast, IsPastOf, goes, slice_of, next_repair, past_after}
 use Rattle.ceal_theory.specs.Slices.{Repair, is_done}
-use Rattle.ceal_session.specs.Following.{Retraces, dropped}
-use Rattle.ceal_session.specs.Journal.{JournalState, settled_at, completed}
-use Rattle.ceal_session.specs.Keeping.{past_of}
+use Rattle.ceal_session.specs.AfterLine.{RunsAsDefined, situation_out_of_fuel}
+use Rattle.ceal_session.specs.Journal.{JournalState, journal_of_bound, journal_after_completion}
+use Rattle.ceal_session.specs.SessionState.{past_of}
 use Rattle.ceal_session.specs.Runs.{run_of, with_run, with_part}
 use Rattle.ceal_session.specs.State.{State, Situation}
 use Rattle.ceal_session.specs.Steps.{run_reply}
@@ -34,18 +34,18 @@ is_more (Ok Done) = false
 is_more (Ok Anew) = false
 is_more (Err e) = false
 
-abbrev pub phase_behind : Outcome → Phase
-phase_behind (Ok More) = Partial
-phase_behind (Ok Done) = Finished
-phase_behind (Ok Anew) = Finished
-phase_behind (Err e) = Dropped
+abbrev pub phase_after_outcome : Outcome → Phase
+phase_after_outcome (Ok More) = Partial
+phase_after_outcome (Ok Done) = Finished
+phase_after_outcome (Ok Anew) = Finished
+phase_after_outcome (Err e) = Dropped
 
 -- the journal after it, where the run has these steps
-abbrev pub journal_behind : ℕ → JournalState → Outcome → JournalState
-journal_behind steps j (Ok More) = j
-journal_behind steps j (Ok Done) = completed j
-journal_behind steps j (Ok Anew) = settled_at steps
-journal_behind steps j (Err e) = settled_at 0
+abbrev pub journal_after_outcome : ℕ → JournalState → Outcome → JournalState
+journal_after_outcome steps j (Ok More) = j
+journal_after_outcome steps j (Ok Done) = journal_after_completion j
+journal_after_outcome steps j (Ok Anew) = journal_of_bound steps
+journal_after_outcome steps j (Err e) = journal_of_bound 0
 
 -- the reply, by the table of replies; there is none where there was no memory
 abbrev pub reply_after : Option ℕ → Outcome → Result Reply NoMemory
@@ -77,21 +77,21 @@ Began (Ok Anew) e call reads = ⊤
 Began (Err error) e call reads = ⊤
 
 -- what the engine has is what the definition makes of this past
-abbrev pub Makes : Outcome → EngineState → Call → Option ℕ → Past → EngineState → Type 0
-Makes (Err Memory) e call reads p e' = ⊤
-Makes (Err OutOfFuel) e call reads p e' = ⊤
-Makes (Ok c) e call reads p e' =
+abbrev pub PastMatches : Outcome → EngineState → Call → Option ℕ → Past → EngineState → Type 0
+PastMatches (Err Memory) e call reads p e' = ⊤
+PastMatches (Err OutOfFuel) e call reads p e' = ⊤
+PastMatches (Ok c) e call reads p e' =
     SamePast e.code e.inputs call.function call.args
     (past_after e.code e.inputs e.fuel (first_of e.code e.inputs e.fuel call.function call.args) reads p) (past_of e')
 
 -- The second engine is the first one after the call, with this outcome.
-pub record Brings
+pub record EngineAfterCall
     (e : EngineState) (call : Call) (reads : Option ℕ) (outcome : Outcome) (e' : EngineState) : Type 0 where
   pub code : e'.code ≡ e.code
   pub fuel : e'.fuel ≡ e.fuel
   pub inputs : e'.inputs ≡ e.inputs
   pub called : e'.call ≡ Some call
-  pub phase : e'.phase ≡ phase_behind outcome
+  pub phase : e'.phase ≡ phase_after_outcome outcome
   pub completes : Completes outcome e'
   pub began : Began outcome e call reads
   pub slice : (p : Past) → IsPastOf e.code e.inputs call.function call.args p
@@ -99,11 +99,12 @@ pub record Brings
       → IsSliceOf outcome e.code e.inputs (slice_of e.code e.inputs e.fuel reads (next_repair e.code e.inputs p))
   pub makes : (p : Past) → IsPastOf e.code e.inputs call.function call.args p
       → SamePast e.code e.inputs call.function call.args p (past_of e)
-      → Makes outcome e call reads p e'
+      → PastMatches outcome e call reads p e'
 
 -- so it is with the call that was accepted
-abbrev pub Brought : EngineState → Option ℕ → Outcome → EngineState → Type 0
-Brought e reads outcome e' = (call : Call) → e.call ≡ Some call → Brings e call reads outcome e'
+abbrev pub EngineAfterAcceptedCall : EngineState → Option ℕ → Outcome → EngineState → Type 0
+EngineAfterAcceptedCall e reads outcome e' =
+    (call : Call) → e.call ≡ Some call → EngineAfterCall e call reads outcome e'
 
 -- the outcome of a run that ended in this way, if it ended
 abbrev pub with_came : {A : Type 0} → Came → Result A RunError → Outcome
@@ -111,19 +112,20 @@ with_came c (Ok x) = Ok c
 with_came c (Err e) = Err e
 
 -- The state is this one, and what the session has of runs is what the definition makes of what it had.
-pub record Leaves
+pub record SituationAfterCall
     (m : Situation) (call : Call) (reads : Option ℕ) (s : State) (more : Bool) (n : Situation) : Type 0 where
   pub state : n.state ≡ s
   pub going : goes n.past ≡ more
-  pub retraces : Retraces m call reads n
+  pub retraces : RunsAsDefined m call reads n
 
 -- what the call leaves, by its outcome; a run that was completed is that from scratch
-abbrev pub IsAdvanced : Situation → Call → Option ℕ → Outcome → Situation → Type 0
-IsAdvanced m call reads (Ok More) n = (is_some reads ≡ true) × Leaves m call reads (with_part m.state) true n
-IsAdvanced m call reads (Ok Done) n =
-    (is_some (run_of m.state call) ≡ true) × Leaves m call reads (with_run m.state call false) false n
-IsAdvanced m call reads (Ok Anew) n =
-    (is_some (run_of m.state call) ≡ true) × Leaves m call reads (with_run m.state call false) false n
-IsAdvanced m call reads (Err OutOfFuel) n =
-    (run_of m.state call ≡ None) × Leaves m call reads (with_run m.state call true) false n
-IsAdvanced m call reads (Err Memory) n = n ≡ dropped m call
+abbrev pub SituationAfterOutcome : Situation → Call → Option ℕ → Outcome → Situation → Type 0
+SituationAfterOutcome m call reads (Ok More) n =
+    (is_some reads ≡ true) × SituationAfterCall m call reads (with_part m.state) true n
+SituationAfterOutcome m call reads (Ok Done) n =
+    (is_some (run_of m.state call) ≡ true) × SituationAfterCall m call reads (with_run m.state call false) false n
+SituationAfterOutcome m call reads (Ok Anew) n =
+    (is_some (run_of m.state call) ≡ true) × SituationAfterCall m call reads (with_run m.state call false) false n
+SituationAfterOutcome m call reads (Err OutOfFuel) n =
+    (run_of m.state call ≡ None) × SituationAfterCall m call reads (with_run m.state call true) false n
+SituationAfterOutcome m call reads (Err Memory) n = n ≡ situation_out_of_fuel m call

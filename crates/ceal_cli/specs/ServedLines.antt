@@ -2,23 +2,23 @@
 use Rattle.std.specs.Prelude.{◌≡◌, ◌⊎◌, List, [], ◌∷◌, ◌++◌, ℕ, Option}
 use Rattle.ceal_base.specs.declared.recorded.Record.{Record}
 use Rattle.ceal_dump.specs.DumpText.{IsDump}
-use Rattle.ceal_session.specs.Asking.{IsReady}
-use Rattle.ceal_session.specs.Following.{Repairs}
-use Rattle.ceal_session.specs.Recording.{IsRecorded}
+use Rattle.ceal_session.specs.Questions.{IsReady}
+use Rattle.ceal_session.specs.AfterLine.{IsAfterLine}
+use Rattle.ceal_session.specs.RunRecord.{IsRecorded}
 use Rattle.ceal_session.specs.Replies.{Answers}
-use Rattle.ceal_session.specs.Saving.{IsSaved}
+use Rattle.ceal_session.specs.SessionSave.{IsSaved}
 use Rattle.ceal_session.specs.State.{Situation, numbers_in}
 use Rattle.ceal_snap.specs.SaveText.{Save, save_text, IsSave}
 use Rattle.ceal_theory.specs.Pasts.{goes}
 use Rattle.ceal_cli.specs.Dumps.{no_run_text}
-use Rattle.ceal_cli.specs.Growth.{Grows}
+use Rattle.ceal_cli.specs.SinkGrowth.{Grows}
 use Rattle.ceal_cli.specs.Output.{IsPrefix, IsRunLine}
 use Rattle.ceal_cli.specs.Saves.{with_source}
 
 -- A session answers the line by the text, and this is left of it.
 pub record Serves (m : Situation) (line text : List ℕ) (n : Situation) : Type 0 where
   pub answers : Answers m.state (numbers_in m) (goes n.past) line text n.state
-  pub repairs : Repairs m line n
+  pub repairs : IsAfterLine m line n
 
 -- A session answers the lines, one after another, by these bytes.
 unfoldable pub AreServed : Situation → List (List ℕ) → List ℕ → Type 0
@@ -27,8 +27,7 @@ AreServed m (line ∷ lines) out =
     (text : List ℕ) × (next : Situation) × (rest : List ℕ) × Serves m line text next
     × AreServed next lines rest × (out ≡ text ++ rest)
 
--- The text begins them: it is the replies to the first of the lines, and the beginning of the
--- next one.
+-- The text begins them: it is the replies to the first of the lines, and the beginning of the next one.
 unfoldable pub BeginServed : Situation → List (List ℕ) → List ℕ → Type 0
 BeginServed m [] out = out ≡ []
 BeginServed m (line ∷ lines) out =
@@ -107,14 +106,14 @@ IsSaveFrom source m out =
     ⊎ ((s : Save) × IsSaved m s × IsSave (save_text s) s × (out ≡ with_source source s))
 
 -- A text of this sort is written of the session after the lines.
-pub record IsBehind
+pub record IsAfterLines
     (P : Situation → List ℕ → Type 0) (m : Situation) (lines : List (List ℕ)) (out : List ℕ) : Type 0 where
   pub end : Situation
   pub carries : Carries m lines end
   pub is : P end out
 
-abbrev pub IsDumpBehind : Situation → List (List ℕ) → List ℕ → Type 0
-IsDumpBehind m lines out = IsBehind IsDumpFrom m lines out
+abbrev pub IsDumpAfterLines : Situation → List (List ℕ) → List ℕ → Type 0
+IsDumpAfterLines m lines out = IsAfterLines IsDumpFrom m lines out
 
-abbrev pub IsSaveBehind : List ℕ → Situation → List (List ℕ) → List ℕ → Type 0
-IsSaveBehind source m lines out = IsBehind (IsSaveFrom source) m lines out
+abbrev pub IsSaveAfterLines : List ℕ → Situation → List (List ℕ) → List ℕ → Type 0
+IsSaveAfterLines source m lines out = IsAfterLines (IsSaveFrom source) m lines out

@@ -18,9 +18,9 @@ use Rattle.ceal_theory.specs.Adjust.{Extended}
 use Rattle.ceal_theory.specs.Computed.{Repaired, first_of}
 use Rattle.ceal_theory.specs.Pasts.{Past, NoTrace, Traced, Going}
 use Rattle.ceal_session.specs.Journal.{Measure, Number, Between, JournalState}
-use Rattle.ceal_session.specs.Naming.{AreSpelled}
+use Rattle.ceal_session.specs.InputNames.{AreSpelled}
 use Rattle.ceal_session.specs.State.{State, Situation}
-use Rattle.ceal_session.specs.Undoing.{undone, AreWithin}
+use Rattle.ceal_session.specs.UndoneEdits.{undone, AreWithin}
 
 abbrev pub is_dropped : Phase → Bool
 is_dropped New = false
@@ -138,7 +138,7 @@ pub record WasHonest (e : EngineState) (settled : List Block) (call : Call) (l :
   pub few : steps_of l ≤ e.fuel
 
 -- what is true of every session inside
-pub record Holds
+pub record SessionInvariant
     (program : Typed) (names : List (List ℕ)) (e : EngineState) (j : JournalState) (pending : Bool) : Type 0 where
   pub compiled : IsCompiled (record { typed = program; code = e.code })
   pub named : length names ≡ length e.inputs

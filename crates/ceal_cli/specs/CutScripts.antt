@@ -1,11 +1,11 @@
 -- A script that is cut in two: its first lines are saved, and the session is resumed with the others.
 use Rattle.std.specs.Prelude.{◌≡◌, ◌⊎◌, ℕ, ◌<◌, ◌^◌, true, List, [], ◌∷◌, ◌++◌, length}
 use Rattle.ceal_lex.specs.Parts.{source_of}
-use Rattle.ceal_session.specs.Following.{IsAllowed}
-use Rattle.ceal_session.specs.Replies.{opening, Leads}
+use Rattle.ceal_session.specs.AfterLine.{IsAllowed}
+use Rattle.ceal_session.specs.Replies.{situation_without_run, Leads}
 use Rattle.ceal_session.specs.State.{Situation}
 use Rattle.ceal_cli.specs.Lines.{script_lines}
-use Rattle.ceal_cli.specs.Output.{Programmed, IsAnswer, IsTaken, first_state, lines_behind}
+use Rattle.ceal_cli.specs.Output.{Programmed, IsAnswer, IsTaken, first_state, lines_after_mark}
 use Rattle.ceal_cli.specs.ReadBack.{IsSaveAfter}
 use Rattle.ceal_cli.specs.Saves.{mark_line}
 use Rattle.ceal_cli.specs.declared.words.Mode.TheVariants.{Run, Resume}
@@ -17,7 +17,7 @@ pub record Resumes (fuel : ℕ) (input written more again long : List ℕ) : Typ
   pub allowed : IsAllowed fuel
   -- a run was saved: of what `save` writes this is so, unless it says that there is none
   pub saved :
-      IsSaveAfter first.code (first_state first fuel) (source_of input first.part) (lines_behind first) written
+      IsSaveAfter first.code (first_state first fuel) (source_of input first.part) (lines_after_mark first) written
   pub again_is : again ≡ written ++ (mark_line ++ more)
   pub small : length again < 2 ^ 32
   pub whole : Programmed long
@@ -25,8 +25,8 @@ pub record Resumes (fuel : ℕ) (input written more again long : List ℕ) : Typ
   pub source : source_of input first.part ≡ source_of long whole.part
   -- a last empty line, after the last line feed, may be left out
   pub front : List (List ℕ)
-  pub lines : (lines_behind first ≡ front) ⊎ (lines_behind first ≡ front ++ [] ∷ [])
-  pub both : lines_behind whole ≡ front ++ script_lines more
+  pub lines : (lines_after_mark first ≡ front) ⊎ (lines_after_mark first ≡ front ++ [] ∷ [])
+  pub both : lines_after_mark whole ≡ front ++ script_lines more
 
 -- Such an input is taken.
 abbrev pub ResumableLaw : Type 0
@@ -40,7 +40,7 @@ pub record Continued
   pub replies : List ℕ
   pub middle : Situation
   pub end : Situation
-  pub before : Leads (opening p.code (first_state p fuel)) front replies middle
+  pub before : Leads (situation_without_run p.code (first_state p fuel)) front replies middle
   pub after : Leads middle back out end
   pub whole : IsAnswer (Run fuel) long (replies ++ out)
 
