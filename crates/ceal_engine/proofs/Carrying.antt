@@ -193,7 +193,7 @@ pub record Renames (code : Code) (next' : ℕ) (before now : Repair) (l m : Trac
 
 module _ (code : Code) (inputs : List Block) (f : ℕ) (args : List Word) (fuel : ℕ) (q : Repair) (run : Running) (part : IsPartRun code inputs f args fuel q run) (k : Option ℕ) (next' : ℕ) (r : Repair)
     (sound : RepairHolds code own inputs f args r) (carried : Carried code inputs next' r q) (z z' : Repair) (s : IsSliceOf code inputs k fuel q (Some z))
-        (is : sliced code own inputs k fuel r ≡ Some z') where
+    (is : sliced code own inputs k fuel r ≡ Some z') where
   names-sound : RepairHolds code s.names inputs f args (counted_anew q)
   names-sound = anew-sound code inputs f args fuel q run part k z s
 
@@ -215,7 +215,7 @@ module _ (code : Code) (inputs : List Block) (f : ℕ) (args : List Word) (fuel 
   renames = of (subst (λ o. RenamedSlices code own s.names inputs same-carried.pairs r (counted_anew q) o (Some z)) is
       (subst (λ o. RenamedSlices code own s.names inputs same-carried.pairs r (counted_anew q) (sliced code own inputs k fuel r) o) s.is
       (slice-renamed code inputs part.fits.blocks own s.names own-single s.single same-carried.pairs r (counted_anew q)
-          (alike code s.names inputs f args part.fits r (counted_anew q) sound names-sound next' same-carried) k fuel)))
+      (alike code s.names inputs f args part.fits r (counted_anew q) sound names-sound next' same-carried) k fuel)))
     where
       of : RenamedSlices code own s.names inputs same-carried.pairs r (counted_anew q) (Some z') (Some z) → Renames code next' r q z'.items z.items
       of (RenamedSlices.some qs wide a from) = record {

@@ -187,7 +187,7 @@ module _ (code : Code) (inputs : List Block) (p : Place) (w : Word) (fit : input
         → IsKeptRun code (with_base inputs p w) call.function call.args fuel l run
     on-edited call old run o l k =
         kept-on code inputs (with_base inputs p w) call.function call.args fuel l old run k (extended-edit code inputs p w cell-at) fits (omega (arith, long)) o.same
-            (bases-edited old run o k.stands.blocks.bases)
+        (bases-edited old run o k.stands.blocks.bases)
 
     -- a finished run is pending then
     run-edited : (call : Call) (old run : Running) → SetsBase p w old run → (s : Stage) → KeepsRun code fuel inputs call old s → KeepsRun code fuel (with_base inputs p w) call run (edited_at s)
@@ -231,7 +231,7 @@ module _ (code : Code) (fuel : ℕ) (inputs : List Block) where
   on-left : (call : Call) (old run : Running) → LeavesCells old run → (l : Trace) → IsKeptRun code inputs call.function call.args fuel l old → IsKeptRun code inputs call.function call.args fuel l run
   on-left call old run o l k =
       kept-on code inputs inputs call.function call.args fuel l old run k (extended-refl code inputs) k.fits.blocks (omega arith) o.same
-          (bases-left code.structs inputs old run o k.stands.blocks.bases)
+      (bases-left code.structs inputs old run o k.stands.blocks.bases)
 
   -- a run whose nodes, heap and cells are as they were
   run-left : (call : Call) (old run : Running) → LeavesCells old run → (s : Stage) → KeepsRun code fuel inputs call old s → KeepsRun code fuel inputs call run s

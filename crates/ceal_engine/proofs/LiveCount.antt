@@ -59,7 +59,7 @@ count-live (b ∷ xs) numbers d live all = go (count-live xs) (live b here)
           | inl p ↦
               let same : record { shape = t.number.shape; state = ReleasedState } ≡ x =
               some-same (record { shape = t.number.shape; state = ReleasedState }) x
-                  (sym (get_set_same numbers b t.number (record { shape = t.number.shape; state = ReleasedState }) t.is) ∙ (rw p.1 at e)) in
+              (sym (get_set_same numbers b t.number (record { shape = t.number.shape; state = ReleasedState }) t.is) ∙ (rw p.1 at e)) in
               let no : false ≡ true = ap is_live same ∙ h in
               absurd (cc)
           | inr p ↦

@@ -41,7 +41,7 @@ module _ (code : Code) (fuel : ℕ) (inputs : List Block) (call : Option Call) w
       → LooksOfEdit (state_of code fuel inputs call old) (state_of code fuel more call run)
   looks-edit p value more its.New run o =
       subst (λ r. LooksOfEdit (state_of code fuel inputs call its.New) (state_of code fuel more call r)) (sym o)
-          (record { looked = refl; queued = omega arith; writes = refl; differed = refl; spent = refl })
+      (record { looked = refl; queued = omega arith; writes = refl; differed = refl; spent = refl })
   looks-edit p value more (its.Kept old g) its.New o = elim o [ ]
   looks-edit p value more (its.Kept old g) (its.Kept run h) o = record {
     looked = o.0.looked;
@@ -53,7 +53,7 @@ module _ (code : Code) (fuel : ℕ) (inputs : List Block) (call : Option Call) w
   looks-edit p value more (its.Kept old g) its.Dropped o = elim o [ ]
   looks-edit p value more its.Dropped run o =
       subst (λ r. LooksOfEdit (state_of code fuel inputs call its.Dropped) (state_of code fuel more call r)) (sym o)
-          (record { looked = refl; queued = omega arith; writes = refl; differed = refl; spent = refl })
+      (record { looked = refl; queued = omega arith; writes = refl; differed = refl; spent = refl })
 
   pub looks-input : (structs : List StructInfo) (input : ℕ) (shape : Shape) (words : List Word) (more : List Block) (old run : Run) → OfRuns (SetsInput structs input shape words) same_stage old run
       → LooksAtNothing (state_of code fuel inputs call old) (state_of code fuel more call run)

@@ -61,7 +61,7 @@ module _ (code : Code) (fuel : ℕ) (inputs : List Block) where
           let r = read-node (at field) w.0 s (node_at s run.tables.trace.nodes) w.1 w.2 in
           let there = blocks.reads s r.0 r.1 r.2 in
           let early : length inputs < length inputs = subst (λ (b : Rattle.ceal_base.specs.declared.word.BlockId.BlockId). Rattle.ceal_repair.specs.Blocks.There (length inputs) run.heap b)
-              (ap (λ (q : Place). q.block) (place-same r.0 (at field) r.3)) there in
+          (ap (λ (q : Place). q.block) (place-same r.0 (at field) r.3)) there in
           absurd (omega (arith, early))
 
       go : (xs : List ℕ) → ((s : ℕ) → is_in s xs ≡ true → ⊥) → xs ≡ []

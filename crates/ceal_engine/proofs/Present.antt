@@ -226,7 +226,7 @@ module _ (code : Code) (fuel : ℕ) (inputs : List Block) (kept : Kept) (run : R
       → IsWhole (phase_of run) → IfSome (stands_for (forest_in (running_in run))) (P (state_of code fuel inputs kept.call run))
   of-trace P f = by (λ r c. IsWhole (phase_of r) → IfSome (stands_for (forest_in (running_in r))) (P (state_of code fuel inputs c r))) (λ w. tt) (λ c w. tt)
       (λ c r s k w. subst (λ o. IfSome o (P (state_of code fuel inputs (Some c) (its.Kept r s)))) (sym (trace-kept code fuel inputs c r k.trace k.of)) (f c r s k))
-          (λ c r k w. absurd (grind (arith, w)))
+      (λ c r k w. absurd (grind (arith, w)))
 
   traced : phase_of run ≡ IsFinished → IfSome (stands_for (forest_in (running_in run))) (IsTraced (state_of code fuel inputs kept.call run))
   traced = by (λ r c. phase_of r ≡ IsFinished → IfSome (stands_for (forest_in (running_in r))) (IsTraced (state_of code fuel inputs c r))) (λ e. tt) (λ c e. tt)

@@ -103,7 +103,7 @@ module _ (code : Code) (inputs : List Block) where
           (ap (λ b. option_map (filled code (contents r.tables.mods) b) (slice_get inputs n)) (e ∙ ap Input (sym (zero-more n))) ∙ sym (get-after code (contents r.tables.mods) 0 inputs n))
       go (Core n) e k =
           cell-word r p (heap_words r.heap (Core n))
-              (sym (ap is_cell (kind-filled (contents r.tables.mods) (Core n) (heap_words r.heap (Core n)) p.field)) ∙ (ap (λ o. is_cell (kind_in code.structs o p.field)) (sym (core-is r n)) ∙ k))
+          (sym (ap is_cell (kind-filled (contents r.tables.mods) (Core n) (heap_words r.heap (Core n)) p.field)) ∙ (ap (λ o. is_cell (kind_in code.structs o p.field)) (sym (core-is r n)) ∙ k))
           ∙ ap (λ o. word_in o p.field Null) (ap (λ b. option_map (filled code (contents r.tables.mods) b) (heap_words r.heap (Core n))) e ∙ sym (core-is r n))
 
   -- a plain field, and the shape, of an input or of a core block
@@ -142,7 +142,7 @@ module _ (code : Code) (inputs : List Block) where
   few-steps fuel run call i = by-run code fuel inputs (λ b c. phase_of b ≡ IsFinished → (r : Running) → running_in b ≡ Some r → steps_in (forest_of r.tables.trace.nodes) < 2 ^ 32)
       (λ e r is. none-some r is) (λ c e r is. none-some r is)
       (λ c b g k e r is. let n = steps-held code inputs c.function c.args fuel k.trace b k.of in let same =
-          ap (λ (r : Running). steps_in (forest_of r.tables.trace.nodes)) (some-same b r is) in omega (arith, n, same, k.of.few, i.1))
+      ap (λ (r : Running). steps_in (forest_of r.tables.trace.nodes)) (some-same b r is) in omega (arith, n, same, k.of.few, i.1))
       (λ c b k e. absurd (grind (arith, e)))
       run call
 

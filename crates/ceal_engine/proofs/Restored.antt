@@ -47,5 +47,5 @@ module _ (code : Code) (fuel : ℕ) (inputs : List Block) (f : ℕ) (args : List
       go None h s t = absurd (cc h)
       go (Some m) h s t =
           let q : IfSome {T = Call} (Some (record { function = f; args = args })) (λ call. Replays e.code e.inputs call.function call.args m) =
-              subst (λ o. IfSome {T = Call} o (λ call. Replays e.code e.inputs call.function call.args m)) k s in
+          subst (λ o. IfSome {T = Call} o (λ call. Replays e.code e.inputs call.function call.args m)) k s in
           renamed m (subst (λ i. Replays code i f args m) i (subst (λ c. Replays c e.inputs f args m) c q)) (subst (λ i. IsHonest code i m) i (subst (λ c. IsHonest c e.inputs m) c t.honest))

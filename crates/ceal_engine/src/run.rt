@@ -171,7 +171,8 @@ impl Run {
             IsTouched code.now.structs input shape r.tables.mods) }
         requires few { IfSome (running_in self.old) (λ r.
             field_kind code.now.structs shape NO_FIELD ≡ None) }
-        requires unread { IfSome (running_in self.old) (λ r. (field : ℕ) → (cell_of r.tables.mods
+        requires unread { IfSome (running_in self.old)
+            (λ r. (field : ℕ) → (cell_of r.tables.mods
             (record { block = Input input; field = field })).reads ≡ []) }
         ensures { OfRuns (SetsInput code.now.structs input shape words.now) same_stage
             self.old self.new }

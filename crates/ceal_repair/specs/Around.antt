@@ -53,4 +53,4 @@ mutual
         → Inside (Takes below ∷ ws) (r ∷ rs) vs qs es
         → Tails limit beyond (Some until) fs ws rs tail
         → Passes limit beyond (stamp_of_number e) (Taken below until ∷ fs) vs qs
-            (es ++ end_entry e r m ∷ (entries g ++ tail))
+        (es ++ end_entry e r m ∷ (entries g ++ tail))

@@ -59,8 +59,11 @@ still P Q (inr q) = absurd (cc q.0)
 -- the replies to nothing are nothing
 pub nothing-served : (m : Situation) → (end : Situation) × Leads m (script_lines []) [] end
 unfolding Leads
-nothing-served m = (situation_after m (Some Blank), subst (λ (l : List (List ℕ)). Leads m l [] (situation_after m (Some Blank))) (sym empty-lines)
-    ([], situation_after m (Some Blank), [], blank-reply m, (refl, refl), refl))
+nothing-served m = (
+  situation_after m (Some Blank),
+  subst (λ (l : List (List ℕ)). Leads m l [] (situation_after m (Some Blank))) (sym empty-lines)
+      ([], situation_after m (Some Blank), [], blank-reply m, (refl, refl), refl),
+)
 
 -- the session begins after the mark
 pub begins-there : BegunLaw → (p : Program) (fuel : ℕ) (text : List ℕ) → IsHead false text [] → IsBeforeLine text → IsProgram text p.typed → IsCompiled p

@@ -80,8 +80,11 @@ module _ (fuel : ℕ) (text rest : List ℕ) (e : Exchange) (p : Program) (reads
           record {
             parts = record { head = text; script = []; is_head = head; whole = k.2 ∙ sym (append-nil text) };
             program = program-at true [] head;
-            replies = record { end = none.0; leads =
-                subst (λ (l : List ℕ). Leads (situation_without_run p.code (first_state (program-at true [] head) e.fuel)) (script_lines []) l none.0) (sym h.unsaid) none.1 };
+            replies = record {
+              end = none.0;
+              leads =
+                  subst (λ (l : List ℕ). Leads (situation_without_run p.code (first_state (program-at true [] head) e.fuel)) (script_lines []) l none.0) (sym h.unsaid) none.1;
+            };
           },
         ))
   ]

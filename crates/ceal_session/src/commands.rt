@@ -140,7 +140,7 @@ fn start_again(state: &mut State, reads: Option<u32>) -> Result<Reply, NoMemory>
         (situation state.new)) }
     ensures err { OnErr result
         (IsAfterNoMemoryOf (situation state.old) (call_again state.old.state.call)
-            (situation state.new)) }
+        (situation state.new)) }
 {
     if !state.has_call() {
         return Ok(Reply::Refused(Refusal::C7));
@@ -158,7 +158,7 @@ pub fn reply_to(alloc: Global, state: &mut State, command: &Command) -> Result<R
     ensures quiet { IfOk result (λ reply. IsQuiet reply → state.new ≡ state.old) }
     ensures trace { OnOk result
         (RunsOrKeeps (situation state.old) (call_of state.old.state command.now)
-            (reads_of command.now)
+        (reads_of command.now)
         (situation state.new)) }
     ensures err { OnErr result
         (IsAfterNoMemoryOf (situation state.old) (call_of state.old.state command.now)

@@ -276,11 +276,11 @@ impl Session {
         ensures set { OnOk result
             (record { reply = Reply.Ok; state = self.new.state }
             ≡ step_of_set self.old.state (sense_of_handle self.old.state handle)
-                (IsWord (Num number))) }
+            (IsWord (Num number))) }
         ensures refused { IfRefused result
             (λ r. refuses self.old.state r
             ≡ step_of_set self.old.state (sense_of_handle self.old.state handle)
-                (IsWord (Num number))) }
+            (IsWord (Num number))) }
         ensures trace { OnOk result (KeepsRuns (situation self.old) (situation self.new)) }
         ensures err { OnErr result (self.new ≡ self.old) }
     {

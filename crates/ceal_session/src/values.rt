@@ -170,11 +170,11 @@ pub fn set_number(state: &mut State, handle: Handle, number: i64) -> Result<(), 
     ensures set { OnOk result
         (record { reply = Reply.Ok; state = state.new.state }
         ≡ step_of_set state.old.state (sense_of_handle state.old.state handle)
-            (IsWord (Num number))) }
+        (IsWord (Num number))) }
     ensures refused { IfRefused result
         (λ r. refuses state.old.state r
         ≡ step_of_set state.old.state (sense_of_handle state.old.state handle)
-            (IsWord (Num number))) }
+        (IsWord (Num number))) }
     ensures trace { OnOk result (KeepsRuns (situation state.old) (situation state.new)) }
     ensures err { OnErr result (state.new ≡ state.old) }
 {

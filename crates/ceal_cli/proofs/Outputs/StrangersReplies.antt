@@ -53,5 +53,5 @@ stranger-output split answer code compiled some stranger input out (p, h) =
     let program : Program = record { typed = p.program; code = p.code } in
     let as-first = stranger program h.from.saved h.trace (compiled-as split answer code compiled input p) h.holds h.items (lines_after h.from) in
     let r = line-by-line some (lines_after h.from) (situation_of_save p.program p.code h.from.saved h.trace)
-        (with_first p.program p.code h.from.saved) out h.end as-first.alike as-first.stands h.leads in
+    (with_first p.program p.code h.from.saved) out h.end as-first.alike as-first.stands h.leads in
     (r.texts, r.others, r.whole, r.beside)

@@ -285,7 +285,7 @@ module _ (code : Code) (inputs : List Block) (start : Start) (until : Stamp) (v 
           (running_at (state_at code inputs v moment-end.course.store (start.chosen ++ moment-end.course.made)) around-it.below around-it.waits (ticks around-it.steps ++ forest_of last-part))
           (forest-put walked until.0 (End (stamp_of_number around-it.read)))
           (λ names. end-turn code names (state_at code inputs v moment-end.course.store (start.chosen ++ moment-end.course.made)) around-it.below around-it.waits
-              (ticks around-it.steps ++ forest_of last-part)) refl
+          (ticks around-it.steps ++ forest_of last-part)) refl
           (bare-ticks code (state_at code inputs v moment-end.course.store (start.chosen ++ moment-end.course.made)) around-it.below around-it.waits around-it.steps (forest_of last-part))
           (λ q c. moment-end.course.same q (known-then q c)
           ∙ (contents-base (base_in v.tables.mods) (base_in t.mods) q (sym (bases-then q)) walked

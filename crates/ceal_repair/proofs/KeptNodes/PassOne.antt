@@ -80,7 +80,7 @@ along-join (Put s p w n rest) i a = Along.write s p w n (along-join rest i a)
 along-join {vs} {qs} {ws} {rs} {es} (Got s p w u x args n inside e m rest) i a =
     let after : Inside vs qs ws rs (entries rest ++ es) = inside-join rest i in
     let same : entries inside ++ end_entry e s m ∷ (entries rest ++ es) ≡ (entries inside ++ end_entry e s m ∷ entries rest) ++ es =
-        sym (append_assoc (entries inside) (end_entry e s m ∷ entries rest) es) in
+    sym (append_assoc (entries inside) (end_entry e s m ∷ entries rest) es) in
     Along.read s p w u x args n inside e m (sym same) after
     (subst (λ fs. Along vs qs (Fixes ∷ ws) (s ∷ rs) fs) same (along-join inside (Inside.deeper Bare e s m after) (Along.close e s m (along-join rest i a))))
 
@@ -203,7 +203,7 @@ module _ (code : Code) (inputs : List Block) (start : Start) (v : View) (has : H
       subst (λ js. At front js ws is) (append_assoc items (item.Step ∷ []) (ticks n))
       (pass-ticks front ws is n (items ++ item.Step ∷ [])
       (course-turn code inputs start v front items (λ s. fixing_at s ws (item.Step ∷ (ticks n ++ is))) c v front (items ++ item.Step ∷ []) (λ s. fixing_at s ws (ticks n ++ is))
-          (item.Step ∷ []) c.store refl (λ names. refl) refl
+      (item.Step ∷ []) c.store refl (λ names. refl) refl
       (λ q k. c.same q (subst (λ bs. KnownBlock (length inputs) bs q.block) (known-append [] items (item.Step ∷ [])) k)) c.given))
 
   -- the items of all in front
@@ -222,7 +222,7 @@ module _ (code : Code) (inputs : List Block) (start : Start) (v : View) (has : H
     unfolding turn
     pass-write s p w n is c =
         course-turn code inputs start v front (forest_of front) (λ s. fixing_at s ws (item.Write p w ∷ is)) c v (front ++ entry s (Write p w) n ∷ []) (forest_of front ++ item.Write p w ∷ [])
-            (λ s. fixing_at s ws is) (item.Write p w ∷ []) (stored c.store p w) refl (λ names. refl) refl
+        (λ s. fixing_at s ws is) (item.Write p w ∷ []) (stored c.store p w) refl (λ names. refl) refl
         (λ q k. stored-base c.store (contents_after (base_in v.tables.mods) front) q
         (c.same q (subst (λ bs. KnownBlock (length inputs) bs q.block) (known-append [] (forest_of front) (item.Write p w ∷ [])) k)) p w
         ∙ sym (ap (λ (f : Store). f q) (contents-append (base_in v.tables.mods) front (entry s (Write p w) n ∷ []))))
@@ -232,7 +232,7 @@ module _ (code : Code) (inputs : List Block) (start : Start) (v : View) (has : H
     unfolding turn
     pass-end e r m is c =
         course-turn code inputs start v front (forest_of front) (λ s. fixing_at s (Fixes ∷ ws) (item.End ∷ is)) c v (front ++ end_entry e r m ∷ []) (forest_of front ++ item.End ∷ [])
-            (λ s. fixing_at s ws is) (item.End ∷ []) c.store refl (λ names. refl) refl
+        (λ s. fixing_at s ws is) (item.End ∷ []) c.store refl (λ names. refl) refl
         (λ q k. c.same q (subst (λ bs. KnownBlock (length inputs) bs q.block) (known-append [] (forest_of front) (item.End ∷ [])) k)
         ∙ sym (ap (λ (f : Store). f q) (contents-append (base_in v.tables.mods) front (end_entry e r m ∷ []))))
         c.given
@@ -253,7 +253,7 @@ module _ (code : Code) (inputs : List Block) (start : Start) (v : View) (has : H
         → At front (forest_of front) ws (item.Read p w u x args ∷ is) → At (front ++ entry s (Read p w u x args) n ∷ []) (forest_of front ++ item.Read p w u x args ∷ []) (Fixes ∷ ws) is
     pass-read s p w u x args n is h c =
         course-turn code inputs start v front (forest_of front) (λ s. fixing_at s ws (item.Read p w u x args ∷ is)) c v (front ++ entry s (Read p w u x args) n ∷ [])
-            (forest_of front ++ item.Read p w u x args ∷ []) (λ s. fixing_at s (Fixes ∷ ws) is) (item.Read p w u x args ∷ []) c.store refl
+        (forest_of front ++ item.Read p w u x args ∷ []) (λ s. fixing_at s (Fixes ∷ ws) is) (item.Read p w u x args ∷ []) c.store refl
         (λ names. kept-turn (state_at code inputs v c.store (start.chosen ++ c.made)) p w u x args is (ap (λ z. same_word z w) holds ∙ word-refl w) names
         ∙ ap (λ z. Went (item.Read p z u x args ∷ []) (fixing_at (state_at code inputs v c.store (start.chosen ++ c.made)) (Fixes ∷ ws) is)) holds) refl
         (λ q k. c.same q (subst (λ bs. KnownBlock (length inputs) bs q.block) (known-append [] (forest_of front) (item.Read p w u x args ∷ [])) k)
@@ -301,7 +301,7 @@ module _ (code : Code) (inputs : List Block) (start : Start) (v : View) (has : H
     unfolding turn
     pass-core =
         course-turn code inputs start v front (forest_of front) (λ s. fixing_at s ws (item.Alloc (Core b) key ∷ is)) c v (front ++ entry s (Alloc (Core b) key) n ∷ [])
-            (forest_of front ++ item.Alloc (Core b) key ∷ []) (λ s. fixing_at s ws is) (item.Alloc (Core b) key ∷ []) (cleared code c.store (Core b) key) refl (λ names. refl) refl
+        (forest_of front ++ item.Alloc (Core b) key ∷ []) (λ s. fixing_at s ws is) (item.Alloc (Core b) key ∷ []) (cleared code c.store (Core b) key) refl (λ names. refl) refl
         (λ q k. same-then q (subst (λ bs. KnownBlock (length inputs) bs q.block) (known-append [] (forest_of front) (item.Alloc (Core b) key ∷ [])) k))
         c.given
 
@@ -312,7 +312,7 @@ module _ (code : Code) (inputs : List Block) (start : Start) (v : View) (has : H
       let j : In b (blocks_at front) = subst (In b) (allocs-nodes front) (known-allocs (forest_of front) b i) in
       let all : count b (blocks_at v.tables.trace.nodes) ≤ 1 = subst (λ bs. count b bs ≤ 1) (allocs-nodes v.tables.trace.nodes) (has.lives.once b) in
       let parts : count b (blocks_at v.tables.trace.nodes) ≡ count b (b ∷ blocks_at back) + count b (blocks_at front) =
-          ap (λ es. count b (blocks_at es)) e ∙ blocks-append b front (entry s (Alloc (Core b) key) n ∷ back) in
+      ap (λ es. count b (blocks_at es)) e ∙ blocks-append b front (entry s (Alloc (Core b) key) n ∷ back) in
       omega (arith, all, parts, in-count b (blocks_at front) j, in-count b (b ∷ blocks_at back) here)
 
   pass-alloc : (front : List Entry) (ws : List Wait) (s : ℕ) (b : BlockId) (key : Key) (n : ℕ) (is : List Item) (back : List Entry) → v.tables.trace.nodes ≡ front ++ entry s (Alloc b key) n ∷ back
@@ -367,21 +367,21 @@ module _ (code : Code) (inputs : List Block) (start : Start) (v : View) (has : H
         }
     walk {ws = ws} {rs = rs} (Walks.alloc {es = es} s d key n k) front h o b c =
         walk k (front ++ entry s (Alloc d key) n ∷ []) (next-is front (entry s (Alloc d key) n) es h) (opened-put front (rs ++ start.reads) o (entry s (Alloc d key) n))
-            (began-put start front (entry s (Alloc d key) n) b)
+        (began-put start front (entry s (Alloc d key) n) b)
         (pass-steps front (entry s (Alloc d key) n) ws (forest_of (es ++ tail))
-            (pass-alloc front ws s d key n (ticks n ++ forest_of (es ++ tail)) (es ++ tail) (all-is front (entry s (Alloc d key) n) es h) c))
+        (pass-alloc front ws s d key n (ticks n ++ forest_of (es ++ tail)) (es ++ tail) (all-is front (entry s (Alloc d key) n) es h) c))
     walk {ws = ws} {rs = rs} (Walks.write {es = es} s p w n k) front h o b c =
         walk k (front ++ entry s (Write p w) n ∷ []) (next-is front (entry s (Write p w) n) es h) (opened-put front (rs ++ start.reads) o (entry s (Write p w) n))
-            (began-put start front (entry s (Write p w) n) b)
+        (began-put start front (entry s (Write p w) n) b)
         (pass-steps front (entry s (Write p w) n) ws (forest_of (es ++ tail)) (pass-write front ws s p w n (ticks n ++ forest_of (es ++ tail)) c))
     walk {ws = ws} {rs = rs} (Walks.read {es = es} s p w u x args n k) front h o b c =
         let fact : w ≡ contents_after (base_in v.tables.mods) front p =
         honest s p w (record { unit = u; var = x; args = args; is = node-is front (entry s (Read p w u x args) n) es h })
         ∙ ap (λ fs. contents_after (base_in v.tables.mods) fs p) (before-is front (entry s (Read p w u x args) n) es h) in
         walk k (front ++ entry s (Read p w u x args) n ∷ []) (next-is front (entry s (Read p w u x args) n) es h) (opened-put front (rs ++ start.reads) o (entry s (Read p w u x args) n))
-            (began-put start front (entry s (Read p w u x args) n) b)
+        (began-put start front (entry s (Read p w u x args) n) b)
         (pass-steps front (entry s (Read p w u x args) n) (Fixes ∷ ws) (forest_of (es ++ tail)) (pass-read front ws s p w u x args n (ticks n ++ forest_of (es ++ tail)) fact c))
     walk (Walks.close {ws = ws} {rs = rs} {es = es} e r m k) front h o b c =
         walk k (front ++ end_entry e r m ∷ []) (next-is front (end_entry e r m) es h)
-            (opened-put front (r ∷ (rs ++ start.reads)) o (end_entry e r m) ∙ closed-last (stamp_of_number r) (rs ++ start.reads) e) (began-put start front (end_entry e r m) b)
+        (opened-put front (r ∷ (rs ++ start.reads)) o (end_entry e r m) ∙ closed-last (stamp_of_number r) (rs ++ start.reads) e) (began-put start front (end_entry e r m) b)
         (pass-steps front (end_entry e r m) ws (forest_of (es ++ tail)) (pass-end front ws e r m (ticks m ++ forest_of (es ++ tail)) c))

@@ -89,7 +89,7 @@ module _ (code : Code) (inputs : List Block) (start : Start) (until : Stamp) (v 
   not-yet = elim (cases_Bool (has_node read (through now.placed.done now.placed.last))) [
     | inl h ↦
         let here : position read v.tables.trace.nodes ≤ length now.placed.done =
-            subst (λ es. position read es ≤ length now.placed.done) (sym now.placed.nodes) (position-front read now.placed.done now.placed.last now.behind h) in
+        subst (λ es. position read es ≤ length now.placed.done) (sym now.placed.nodes) (position-front read now.placed.done now.placed.last now.behind h) in
         let cursor : position v.cursor v.tables.trace.nodes ≡ length now.placed.done = ap (position v.cursor) now.placed.nodes
         ∙ (ap (λ s. position s (through now.placed.done now.placed.last ++ now.behind)) (sym now.placed.cursor)
         ∙ position-there now.placed.done now.placed.last now.behind (nodes-distinct start v now.reads now.behind now.placed)) in
@@ -103,14 +103,14 @@ module _ (code : Code) (inputs : List Block) (start : Start) (until : Stamp) (v 
     | inr h ↦
         let x = around-it code inputs start until v now in
         let all : v.tables.trace.nodes ≡ (through now.placed.done now.placed.last ++ x.nodes) ++ next-end code inputs start until v now ∷ last-part code inputs start until v now =
-            all-nodes code inputs start until v now in
+        all-nodes code inputs start until v now in
         let none : has_node x.end (through now.placed.done now.placed.last ++ x.nodes) ≡ false =
-            not_before (through now.placed.done now.placed.last ++ x.nodes) (next-end code inputs start until v now) (last-part code inputs start until v now)
+        not_before (through now.placed.done now.placed.last ++ x.nodes) (next-end code inputs start until v now) (last-part code inputs start until v now)
         (subst (λ es. order.Distinct (stamps_in es)) all now.placed.kept.step.whole.order.distinct) in
         let far : length (through now.placed.done now.placed.last ++ x.nodes) ≤ position read v.tables.trace.nodes =
-            subst (λ es. length (through now.placed.done now.placed.last ++ x.nodes) ≤ position read es) (sym all)
+        subst (λ es. length (through now.placed.done now.placed.last ++ x.nodes) ≤ position read es) (sym all)
         (position-far read (through now.placed.done now.placed.last ++ x.nodes) (next-end code inputs start until v now ∷ last-part code inputs start until v now)
-            (neither read (through now.placed.done now.placed.last) x.nodes not-yet h)) in
+        (neither read (through now.placed.done now.placed.last) x.nodes not-yet h)) in
         let end : position until.0 v.tables.trace.nodes ≡ length (through now.placed.done now.placed.last ++ x.nodes) =
         ap (λ (s : Stamp). position s.0 v.tables.trace.nodes) x.until_is ∙ (ap (position x.end) all
         ∙ position-part (next-end code inputs start until v now) (last-part code inputs start until v now) (through now.placed.done now.placed.last ++ x.nodes) none) in
@@ -122,7 +122,7 @@ module _ (code : Code) (inputs : List Block) (start : Start) (until : Stamp) (v 
       let x = around-it code inputs start until v now in
       let found : node_at read v.tables.trace.nodes ≡ node_at read x.nodes =
       ap (node_at read)
-          (all-nodes code inputs start until v now ∙ append_assoc (through now.placed.done now.placed.last) x.nodes (next-end code inputs start until v now ∷ last-part code inputs start until v now))
+      (all-nodes code inputs start until v now ∙ append_assoc (through now.placed.done now.placed.last) x.nodes (next-end code inputs start until v now ∷ last-part code inputs start until v now))
       ∙ ap held_by (entry-back read (through now.placed.done now.placed.last) (x.nodes ++ next-end code inputs start until v now ∷ last-part code inputs start until v now) not-yet
       ∙ entry-front read x.nodes (next-end code inputs start until v now ∷ last-part code inputs start until v now) among) in
       ap is_read (sym found ∙ stale.read.is)
@@ -150,7 +150,7 @@ module _ (code : Code) (inputs : List Block) (start : Start) (until : Stamp) (v 
   nodes-split =
       ap (λ es. es ++ next-end code inputs start until v now ∷ last-part code inputs start until v now) the-read.is
       ∙ (append_assoc the-read.front (read-entry the-read.value the-read.steps ∷ (entries the-read.inside ++ end_entry the-read.end read the-read.end_steps ∷ the-read.later))
-          (next-end code inputs start until v now ∷ last-part code inputs start until v now)
+      (next-end code inputs start until v now ∷ last-part code inputs start until v now)
       ∙ ap (λ es. the-read.front ++ read-entry the-read.value the-read.steps ∷ es)
       (append_assoc (entries the-read.inside) (end_entry the-read.end read the-read.end_steps ∷ the-read.later) (next-end code inputs start until v now ∷ last-part code inputs start until v now)))
 
@@ -225,12 +225,12 @@ module _ (code : Code) (inputs : List Block) (start : Start) (until : Stamp) (v 
     moment-read = walk code inputs start v now.blocks now.placed.kept walked (read-entry the-read.value the-read.steps ∷ read-tail) nodes-now honest-then the-read.walks
         (through now.placed.done now.placed.last) refl now.placed.opened now.placed.began
         (subst (λ es. At code inputs start v now.blocks (through now.placed.done now.placed.last) (forest_of (through now.placed.done now.placed.last)) now.waits (forest_of es)) nodes-split
-            (moment-at code inputs start until v now))
+        (moment-at code inputs start until v now))
 
     store-now : moment-read.course.store the-read.place ≡ word
     store-now = moment-read.course.same the-read.place
         (place-known code inputs start v now.blocks walked the-read.waits the-read.place the-read.value the-read.unit the-read.var the-read.args
-            (ticks the-read.steps ++ forest_of read-tail) moment-read.course)
+        (ticks the-read.steps ++ forest_of read-tail) moment-read.course)
         ∙ sym content-read
 
     known-then : (q : Place) → KnownBlock (length inputs) (known_after [] (forest_of (through walked (read-entry word 0)))) q.block
@@ -242,14 +242,14 @@ module _ (code : Code) (inputs : List Block) (start : Start) (until : Stamp) (v 
         (fixing_at (state_at code inputs v moment-read.course.store (start.chosen ++ moment-read.course.made)) the-read.waits (forest_of (read-entry the-read.value the-read.steps ∷ read-tail)))
         ≡ Went (item.Read the-read.place word the-read.unit the-read.var the-read.args ∷ [])
         (running_at (state_at code inputs v moment-read.course.store (start.chosen ++ moment-read.course.made)) (resumed code the-read.unit the-read.var the-read.args word) (Fixes ∷ the-read.waits)
-            (ticks the-read.steps ++ forest_of read-tail))
+        (ticks the-read.steps ++ forest_of read-tail))
     turn-now names =
         mend-turn code names (state_at code inputs v moment-read.course.store
-            (start.chosen ++ moment-read.course.made)) the-read.waits the-read.place the-read.value the-read.unit the-read.var the-read.args (ticks the-read.steps ++ forest_of read-tail)
+        (start.chosen ++ moment-read.course.made)) the-read.waits the-read.place the-read.value the-read.unit the-read.var the-read.args (ticks the-read.steps ++ forest_of read-tail)
         (ap (λ z. same_word z the-read.value) store-now ∙ not-same word the-read.value (λ e. differs (sym e)))
         ∙ ap (λ z. Went (item.Read the-read.place z the-read.unit the-read.var the-read.args ∷ [])
         (running_at (state_at code inputs v moment-read.course.store (start.chosen ++ moment-read.course.made)) (resumed code the-read.unit the-read.var the-read.args z) (Fixes ∷ the-read.waits)
-            (ticks the-read.steps ++ forest_of read-tail))) store-now
+        (ticks the-read.steps ++ forest_of read-tail))) store-now
 
     -- the nodes before the read are passed, and its unit runs, with what is inside it left over; after its end nodes
     -- are passed then
@@ -287,10 +287,10 @@ module _ (code : Code) (inputs : List Block) (start : Start) (until : Stamp) (v 
           (λ s. running_at s (resumed code the-read.unit the-read.var the-read.args word) (Fixes ∷ the-read.waits) (forest_of read-tail))
           (item.Read the-read.place word the-read.unit the-read.var the-read.args ∷ []) moment-read.course.store
           (running_at (state_at code inputs v moment-read.course.store (start.chosen ++ moment-read.course.made)) (resumed code the-read.unit the-read.var the-read.args word)
-              (Fixes ∷ the-read.waits) (ticks the-read.steps ++ forest_of read-tail))
+          (Fixes ∷ the-read.waits) (ticks the-read.steps ++ forest_of read-tail))
           (forest-put walked read (Read the-read.place word the-read.unit the-read.var the-read.args)) turn-now refl
           (bare-ticks code (state_at code inputs v moment-read.course.store (start.chosen ++ moment-read.course.made)) (resumed code the-read.unit the-read.var the-read.args word)
-              (Fixes ∷ the-read.waits) the-read.steps (forest_of read-tail))
+          (Fixes ∷ the-read.waits) the-read.steps (forest_of read-tail))
           (λ q c. moment-read.course.same q (known-then q c)
           ∙ (contents-base (base_in v.tables.mods) (base_in t.mods) q (sym (bases-then q)) walked
           ∙ sym (ap (λ (f : Store). f q) (contents-append (base_in t.mods) walked (read-entry word 0 ∷ [])))))

@@ -149,7 +149,7 @@ module _ (code : Code) (inputs : List Block) (start : Start) (st : Stack) (w : V
 
     same-then : BareSame mid-machine
         (fixing_at (record { store = now.course.store; plain = words_of code inputs heap; number = length (start.chosen ++ now.course.made); work = w.spent }) next-kept.waits
-            (ticks next-kept.steps ++ forest_of next-kept.back))
+        (ticks next-kept.steps ++ forest_of next-kept.back))
     unfolding mid-machine
     same-then = record {
       state = state-then;

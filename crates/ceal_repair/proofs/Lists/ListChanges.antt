@@ -81,7 +81,7 @@ module _ (front : List Entry) (e : Entry) (back : List Entry) (distinct : Distin
   back-behind : (t : ℕ) → is_in t (stamps_in back) ≡ true → place e.stamp (stamps_in (front ++ e ∷ back)) ≤ place t (stamps_in (front ++ e ∷ back))
   back-behind t h = rw (stamps-append front (e ∷ back))
       (behind-part e.stamp t (stamps_in front) (e.stamp ∷ stamps_in back) (back-apart (stamps_in front) (e.stamp ∷ stamps_in back) parts t (in_tail t e.stamp (stamps_in back) h)) own-apart
-          (place_head e.stamp (stamps_in back)))
+      (place_head e.stamp (stamps_in back)))
 
   -- a write is put where its node is
   pub write-put : (p : Place) (v : Word) → e.node ≡ Write p v → with_one (stamps_in (front ++ e ∷ back)) e.stamp v (writes_in p front ++ writes_in p back) ≡ writes_in p (front ++ e ∷ back)
@@ -90,8 +90,15 @@ module _ (front : List Entry) (e : Entry) (back : List Entry) (distinct : Distin
       count-all (stamps_in (front ++ e ∷ back)) e.stamp (stamps_of (writes_in p front)) (stamps_of (writes_in p back)) (λ t h. front-before t (writes-among p front t h))
       ∙ (ap (λ n. length (stamps_of (writes_in p front)) + n) (count-none (stamps_in (front ++ e ∷ back)) e.stamp (stamps_of (writes_in p back)) (λ t h. back-behind t (writes-among p back t h)))
       ∙ omega (arith, stamps_of-length (writes_in p front))) in
-      rw (stamps_of-append (writes_in p front) (writes_in p back), count, insert-after (writes_in p front) (writes_in p back) (record { stamp = e.stamp; value = v }), writes-append p front
-          (e ∷ back), is, place-refl p) refl
+      rw (
+        stamps_of-append (writes_in p front) (writes_in p back),
+        count,
+        insert-after (writes_in p front) (writes_in p back) (record { stamp = e.stamp; value = v }),
+        writes-append p front
+            (e ∷ back),
+        is,
+        place-refl p,
+      ) refl
 
   pub where-put : (f : Node → Bool) → f e.node ≡ true
       → insert (stamps_where f (front ++ back)) (count_before (stamps_in (front ++ e ∷ back)) e.stamp (stamps_where f (front ++ back))) e.stamp ≡ stamps_where f (front ++ e ∷ back)
@@ -145,8 +152,12 @@ module _ (front : List Entry) (e : Entry) (back : List Entry) (distinct : Distin
   pub value-there : (p : Place) (cell : Cell) → cell.writes ≡ writes_in p (front ++ e ∷ back)
       → value_before (stamps_in (front ++ e ∷ back)) e.stamp cell ≡ last_of cell.base (writes_in p front)
   value-there p cell is =
-      rw (is, writes-append p front (e ∷ back), those-all p e.stamp (writes_in p front) (writes_in p (e ∷ back)) (λ t h. front-before t (writes-among p front t h))
-          (λ t h. from-own t (writes-among p (e ∷ back) t h))) refl
+      rw (
+        is,
+        writes-append p front (e ∷ back),
+        those-all p e.stamp (writes_in p front) (writes_in p (e ∷ back)) (λ t h. front-before t (writes-among p front t h))
+            (λ t h. from-own t (writes-among p (e ∷ back) t h)),
+      ) refl
 
 stored-here : (s : Store) (p q : Place) (v : Word) → q ≡ p → stored s q v p ≡ v
 unfolding stored

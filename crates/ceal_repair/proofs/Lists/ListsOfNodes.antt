@@ -61,7 +61,7 @@ read-key-same a b h =
 pub read-key-refl : (a : ReadKey) → same_as a a ≡ true
 read-key-refl a = both-true ((same_place a.place a.place && a.unit.0 == a.unit.0) && a.var == a.var) (same_words a.args a.args)
     (both-true (same_place a.place a.place && a.unit.0 == a.unit.0) (a.var == a.var) (both-true (same_place a.place a.place) (a.unit.0 == a.unit.0) (place-refl a.place) (nat-refl a.unit.0))
-        (nat-refl a.var)) (words-refl a.args)
+    (nat-refl a.var)) (words-refl a.args)
 
 -- ---- nodes that a list passes over
 

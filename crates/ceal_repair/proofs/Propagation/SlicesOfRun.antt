@@ -113,7 +113,7 @@ module _ (code : Code) (inputs : List Block) (f : ℕ) (args : List Word) (fuel 
     turned : Turned code going_on.names inputs n (counted_anew r) last
     turned = subst (λ m. Turned code going_on.names inputs m (counted_anew r) last) (no-turns-more n)
         (turns-law code going_on.names inputs f args part.fits (counted_anew r) (origin.sound going_on.names going_on.single going_on.apart) (turns_more n 0) last
-            (come.so_far.history going_on.names going_on.continues))
+        (come.so_far.history going_on.names going_on.continues))
 
     within : (reads : Option ℕ) (z : Repair) → Slices code going_on.names inputs reads (counted_anew r) z → z.spent ≤ fuel → IsSliceOf code inputs reads fuel r (Some z)
     within reads z s few = record {
@@ -223,7 +223,7 @@ pub is-repaired : (code : Code) (inputs : List Block) (f : ℕ) (args : List Wor
 is-repaired code inputs f args reads fuel l old kept before now More h = tt
 is-repaired code inputs f args reads fuel l old kept before now Done h =
     repaired code inputs f args l kept.fits kept.replays (next old.heap) h.0 before h.2 h.3 fuel h.4.few kept.numbers
-        (let m = few-blocks code inputs f args fuel l old kept in omega (arith, m, kept.few)) now
+    (let m = few-blocks code inputs f args fuel l old kept in omega (arith, m, kept.few)) now
     h.4.tables h.4.spent h.4.released h.4.slots
 is-repaired code inputs f args reads fuel l old kept before now Spent h = spent-out code inputs f args l kept.fits kept.replays (next old.heap) h.0 fuel h.2
 is-repaired code inputs f args reads fuel l old kept before now OutOfFuel h = too-many code inputs f args (later h.0 (since_begun code inputs l (next old.heap))) before now h.2 fuel h.3

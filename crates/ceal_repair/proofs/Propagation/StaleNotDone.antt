@@ -46,7 +46,7 @@ module _ (code : Code) (inputs : List Block) (f : ℕ) (args : List Word) (fits 
 
   both : AgreesAll code (starting code inputs r.known) (forest_of spot.before)
       × AgreesAll code (store_after code (starting code inputs r.known) (forest_of spot.before))
-          (item.Read stale.place stale.value stale.read.unit stale.read.var stale.read.args ∷ (ticks spot.steps ++ forest_of behind))
+      (item.Read stale.place stale.value stale.read.unit stale.read.var stale.read.args ∷ (ticks spot.steps ++ forest_of behind))
   both = agrees-front code (starting code inputs r.known) (forest_of spot.before)
       (item.Read stale.place stale.value stale.read.unit stale.read.var stale.read.args ∷ (ticks spot.steps ++ forest_of behind)) parted
 
@@ -56,7 +56,7 @@ module _ (code : Code) (inputs : List Block) (f : ℕ) (args : List Word) (fits 
   pub still-stale : ⊥
   still-stale =
       let known = known-read listed.items (forest_of spot.before) stale.place stale.value stale.read.unit stale.read.var stale.read.args (ticks spot.steps ++ forest_of behind)
-          (ap forest_of spot.whole ∙ forest-append spot.before (was ∷ behind)) in
+      (ap forest_of spot.whole ∙ forest-append spot.before (was ∷ behind)) in
       let now : store_after code (starting code inputs r.known) (forest_of spot.before) stale.place ≡ contents_after (base_in run.tables.mods) spot.before stale.place =
       store-listed code inputs f args r run fits listed-law ready-law stands spot.before (was ∷ behind) spot.whole both.0 stale.place known in
       let there : contents_at s run.tables stale.place ≡ contents_after (base_in run.tables.mods) spot.before stale.place =

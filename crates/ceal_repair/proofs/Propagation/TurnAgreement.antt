@@ -86,9 +86,9 @@ module _ (code : Code) (inputs : List Block) (f : ℕ) (args : List Word) (o : S
   not-there rest a =
       let items = sym so_far.stands.items ∙ spot-items spot in
       let listed : Listed code inputs so_far.repair (forest_of spot.before) =
-          listed-law code so_far.stands.names inputs f args called.fits so_far.repair so_far.stands.sound (forest_of spot.before) _ items agrees in
+      listed-law code so_far.stands.names inputs f args called.fits so_far.repair so_far.stands.sound (forest_of spot.before) _ items agrees in
       let ready = ready-law code so_far.stands.names inputs f args called.fits so_far.repair so_far.stands.sound
-          (forest_of spot.before) spot.place spot.value spot.unit spot.var spot.args _ items agrees stale in
+      (forest_of spot.before) spot.place spot.value spot.unit spot.var spot.args _ items agrees stale in
       let contents = known-content-law code (length inputs) (forest_of spot.before) (known_after [] (forest_of spot.before)) listed.items listed.once in
       let there = agrees-front code (bases code inputs) (forest_of spot.before) (item.Read spot.place spot.value spot.unit spot.var spot.args ∷ (ticks spot.steps ++ forest_of rest))
       (subst (λ is. AgreesAll code (bases code inputs) is) (forest-append spot.before (read_there ∷ rest)) a) in
@@ -239,9 +239,9 @@ module _ (old now : Repair) (turns : ℕ) (t : Turning old now turns) (looked : 
       found-never honest =
           not-honest (code_of now) (inputs_of now) f args (later turns o) (come-here f args o before h).called now.running.now (come-here f args o before h).so_far
           (spot (code_of now) (inputs_of now) f args (later turns o) read looked_run listed-law ready-law turn-known-law found)
-              (front-agrees (code_of now) (inputs_of now) f args (later turns o) read looked_run listed-law ready-law turn-known-law found)
+          (front-agrees (code_of now) (inputs_of now) f args (later turns o) read looked_run listed-law ready-law turn-known-law found)
           (store-differs (code_of now) (inputs_of now) f args (later turns o) read looked_run listed-law ready-law turn-known-law found) before (come-here f args o before h)
-              (rw (t.call.code, t.call.inputs) honest)
+          (rw (t.call.code, t.call.inputs) honest)
 
       further : (new : Repair) → TurnMade (code_of now) (inputs_of now) f args (later turns o) now.running.now new.running.now
           → HasCome (code_of old) (inputs_of old) f args (later (turns + 1) o) before new.running.now

@@ -139,7 +139,7 @@ end-is (Some end) e s some none is =
 -- the parts of a repair in code, where nothing follows
 view-is : (t : Tables) (heap heap' : Contents) → heap ≡ heap' → (n n' : ℕ) → n ≡ n' → (s s' : ℕ) → s ≡ s' → (o o' : Option Stamp) → o ≡ o' → (aside : Pile) (fs : List CodeFrame) → fs ≡ []
     → ◌≡◌ {A = View} (record { tables = t; heap = heap; spent = n; cursor = s; limit = o; frames = frames_in aside (reverse fs) })
-        (record { tables = t; heap = heap'; spent = n'; cursor = s'; limit = o'; frames = [] })
+    (record { tables = t; heap = heap'; spent = n'; cursor = s'; limit = o'; frames = [] })
 view-is t heap heap' a n n' b s s' c o o' d aside fs e = rw (a, b, c, d, e) refl
 
 module _ (code : Code) (inputs : List Block) (f : ℕ) (args : List Word) (o : Since) (read : ℕ) (run : Running) (listed : ListedLaw) (ready : ReadyLaw) (knowing : TurnKnownLaw)
@@ -207,7 +207,7 @@ module _ (code : Code) (inputs : List Block) (f : ℕ) (args : List Word) (o : S
   front-contents : HasContents (base_in old.mods) spot.before
   front-contents =
       let whole : run.tables.trace.nodes ≡ through spot.before (valued-as (contents_at read old at-place) spot.steps) ++ behind =
-          nodes-run ∙ sym (behind-all spot.before (valued-as (contents_at read old at-place) spot.steps) behind) in
+      nodes-run ∙ sym (behind-all spot.before (valued-as (contents_at read old at-place) spot.steps) behind) in
       subst (λ s. HasContents s spot.before) same-bases
       (contents-front (base_in run.tables.mods) spot.before (valued-as (contents_at read old at-place) spot.steps ∷ [])
       (honest-front run.tables run-distinct (through spot.before (valued-as (contents_at read old at-place) spot.steps)) behind whole
@@ -232,9 +232,9 @@ module _ (code : Code) (inputs : List Block) (f : ℕ) (args : List Word) (o : S
   read-stale : found.value ≢ contents_at read old at-place
   read-stale e =
       let place-too : found.stale.place ≡ at-place =
-          same-place (node_at read old.trace.nodes) at-place found.stale.place found.value found.stale.value unit var words found.is_read.is found.stale.read in
+      same-place (node_at read old.trace.nodes) at-place found.stale.place found.value found.stale.value unit var words found.is_read.is found.stale.read in
       let value-too : found.stale.value ≡ found.value =
-          same-value (node_at read old.trace.nodes) at-place found.stale.place found.value found.stale.value unit var words found.is_read.is found.stale.read in
+      same-value (node_at read old.trace.nodes) at-place found.stale.place found.value found.stale.value unit var words found.is_read.is found.stale.read in
       found.stale.differs (value-too ∙ (e ∙ ap (λ p. contents_at read old p) (sym place-too)))
 
   -- the store has not its value either
@@ -244,7 +244,7 @@ module _ (code : Code) (inputs : List Block) (f : ℕ) (args : List Word) (o : S
       agrees-both code (starting code inputs r.known) (forest_of spot.before) (item.Read at-place found.value unit var words ∷ []) front-agrees (e, tt) in
       let all : Listed code inputs r (forest_of spot.before ++ item.Read at-place found.value unit var words ∷ []) =
       listed code found.so_far.stands.names inputs f args found.called.fits r found.so_far.stands.sound (forest_of spot.before ++ item.Read at-place found.value unit var words ∷ [])
-          (ticks spot.steps ++ forest_of behind)
+      (ticks spot.steps ++ forest_of behind)
       (items-there ∙ sym (append_assoc (forest_of spot.before) (item.Read at-place found.value unit var words ∷ []) (ticks spot.steps ++ forest_of behind))) front in
       let known = known-read all.items (forest_of spot.before) at-place found.value unit var words [] refl in
       let now : store at-place ≡ contents_after (base_in old.mods) spot.before at-place =
@@ -276,7 +276,7 @@ module _ (code : Code) (inputs : List Block) (f : ℕ) (args : List Word) (o : S
       nodes-run ∙ sym (append_assoc spot.before (valued-as (contents_at read old at-place) spot.steps ∷ entries spot.inside) (end_entry spot.end read spot.end_steps ∷ spot.behind)) in
       found.kept.step.whole.one_end spot.end (stamp_of_number read)
       (ap (node_at spot.end) whole ∙ ap held_by (entry-part (end_entry spot.end read spot.end_steps) spot.behind front
-          (not_before front (end_entry spot.end read spot.end_steps) spot.behind (subst (λ es. Distinct (stamps_in es)) whole run-distinct))))
+      (not_before front (end_entry spot.end read spot.end_steps) spot.behind (subst (λ es. Distinct (stamps_in es)) whole run-distinct))))
 
   -- what the read holds now
   pub node-now : node_at read run.tables.trace.nodes ≡ Some (Read at-place (store at-place) unit var words)
@@ -366,7 +366,7 @@ module _ (code : Code) (inputs : List Block) (f : ℕ) (args : List Word) (o : S
           (sym (known-append [] (forest_of spot.before) (item.Read at-place (store at-place) unit var words ∷ [])))
           (known-items-append
           (listed code found.so_far.stands.names inputs f args found.called.fits r found.so_far.stands.sound (forest_of spot.before)
-              (item.Read at-place found.value unit var words ∷ (ticks spot.steps ++ forest_of behind)) items-there front-agrees).items
+          (item.Read at-place found.value unit var words ∷ (ticks spot.steps ++ forest_of behind)) items-there front-agrees).items
           (KnownItems.read there.place (there.store at-place) there.words KnownItems.none)));
       comes = comes-then;
       knows = subst (λ bs. Knows code (length inputs) found.so_far.stands.sound.blocks bs machine-then) (sym known-then)

@@ -85,14 +85,14 @@ module _ (code : Code) (inputs : List Block) (f : ℕ) (args : List Word) (o : S
 
     items-now : forest_of run.tables.trace.nodes
         ≡ forest_of b.spot.before ++ item.Read b.spot.place (store_there code inputs f args o before start b b.spot.place) b.spot.unit b.spot.var b.spot.args ∷
-            (now.course.out ++ item.End ∷ back_there code inputs f args o before start b)
+        (now.course.out ++ item.End ∷ back_there code inputs f args o before start b)
     items-now = ap forest_of nodes
         ∙ (forest-append front (end_entry b.spot.end b.spot.read b.spot.end_steps ∷ b.spot.behind)
         ∙ (ap (λ is. is ++ item.End ∷ back_there code inputs f args o before start b) now.course.written
         ∙ (append_assoc (forest_of b.spot.before ++ item.Read b.spot.place (store_there code inputs f args o before start b b.spot.place) b.spot.unit b.spot.var b.spot.args ∷ []) now.course.out
-            (item.End ∷ back_there code inputs f args o before start b)
+        (item.End ∷ back_there code inputs f args o before start b)
         ∙ append_assoc (forest_of b.spot.before) (item.Read b.spot.place (store_there code inputs f args o before start b b.spot.place) b.spot.unit b.spot.var b.spot.args ∷ [])
-            (now.course.out ++ item.End ∷ back_there code inputs f args o before start b))))
+        (now.course.out ++ item.End ∷ back_there code inputs f args o before start b))))
 
     comes : (names : ℕ → ℕ) → Continues chosen names → Come names
     comes names h =
@@ -132,7 +132,7 @@ module _ (code : Code) (inputs : List Block) (f : ℕ) (args : List Word) (o : S
       names = going.names;
       sound = (slice-law code going.names inputs f args b.called.fits b.so_far.repair
           (turns-sound code inputs f args o b.called going.names going.single going.apart o.turns b.so_far.repair (old-history going.names going.continues)) (Some 1)
-              (repair_at state one.items) one.slice).sound;
+          (repair_at state one.items) one.slice).sound;
     }
 
     so-far : TurnedSoFar code inputs f args (later 1 o) run

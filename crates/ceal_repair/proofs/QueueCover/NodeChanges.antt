@@ -244,7 +244,7 @@ first-queued front back own s order p cell q' is distinct in_own w r awake =
       parts = is;
       writes = λ t i k. in-parts (stamps_of (writes_in p front)) (stamps_of (writes_in p back)) t
           (subst (λ (l : List ℕ). is_in t l ≡ true) (stamps_of-append (writes_in p front) (writes_in p back))
-              (subst (λ (l : List WriteOf). is_in t (stamps_of l) ≡ true) (w ∙ writes-append p front back) i))
+          (subst (λ (l : List WriteOf). is_in t (stamps_of l) ≡ true) (w ∙ writes-append p front back) i))
           (false-of (is_in t (stamps_of (writes_in p front))) (λ h. sym (in_own t (writes-among p front t h)) ∙ k));
       reads = λ t i k. in-parts (stamps_where (reads_at p) front) (stamps_where (reads_at p) back) t
           (subst (λ (l : List ℕ). is_in t l ≡ true) (r ∙ where-append (reads_at p) front back) i)

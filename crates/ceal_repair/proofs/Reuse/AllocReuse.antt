@@ -123,7 +123,7 @@ module _ (code : Code) (inputs : List Block) (start : Start) (st : Stack) (v : V
     limit-behind =
         let here : position v.cursor v.tables.trace.nodes ≡ length now.placed.done =
         ap (position v.cursor) nodes-cursor ∙ (ap (λ k. position k (now.placed.done ++ now.placed.last ∷ (entries now.left ++ now.tail))) (sym now.placed.cursor)
-            ∙ position-part now.placed.last (entries now.left ++ now.tail) now.placed.done not-done-here) in
+        ∙ position-part now.placed.last (entries now.left ++ now.tail) now.placed.done not-done-here) in
         let far : position e.0 v.tables.trace.nodes ≡ length (through now.placed.done now.placed.last ++ entries now.left) =
         ap (position e.0) nodes-limit ∙ position-part (end_entry e.0 bound-some.0 bound-some.1) bound-some.2 (through now.placed.done now.placed.last ++ entries now.left) not-before-limit in
         let long : length (through now.placed.done now.placed.last ++ entries now.left) ≡ length now.placed.done + 1 + length (entries now.left) =
@@ -205,7 +205,7 @@ module _ (code : Code) (inputs : List Block) (start : Start) (v : View) (front :
       let old : Machine = m (state_at code inputs v c.store (start.chosen ++ c.made)) in
       let new : Machine = m' (state_at code inputs v' store' (start.chosen ++ c.made)) in
       let g : GoesKnowing code (length inputs) start.old (known_after [] items) w mid =
-          (knowing-law code).turns (λ k. 0) (length inputs) start.old (known_after [] items) old mid w c.knows (t (λ k. 0)) (inl number) in
+      (knowing-law code).turns (λ k. 0) (length inputs) start.old (known_after [] items) old mid w c.knows (t (λ k. 0)) (inl number) in
       let k : KnownItems (length inputs) [] (items ++ w) g.known = known-items-append c.mentions g.items in
       let after : g.known ≡ known_after [] (items ++ w) = known-items-after k in
       record {
@@ -216,7 +216,7 @@ module _ (code : Code) (inputs : List Block) (start : Start) (v : View) (front :
         mentions = subst (λ is. KnownItems (length inputs) [] is (known_after [] is)) (sym e) (subst (λ bs. KnownItems (length inputs) [] (items ++ w) bs) after k);
         comes = (chosen-law code).more start.machine old new (start.chosen ++ c.made) c.out w c.comes
             (λ names. subst (λ o. BecomesBy code names old new o) (append-nil w)
-                (leads-then code names old mid new w [] (leads-turn code names old mid w (t names)) (bare-law code names mid new bare)))
+            (leads-then code names old mid new w [] (leads-turn code names old mid w (t names)) (bare-law code names mid new bare)))
             (ap (λ (s : State). s.number) (sym bare.state) ∙ number);
         knows = subst (λ bs. Knows code (length inputs) start.old bs new) (after ∙ ap (known_after []) (sym e)) (knows-bare code (length inputs) start.old g.known mid new bare g.knows);
         same = same;
@@ -250,7 +250,7 @@ module _ (code : Code) (inputs : List Block) (start : Start) (st : Stack) (v : V
   nodes-then : t.trace.nodes ≡ through (through now.placed.done (more now.placed.last)) (entry found.0 (Alloc the-match.block the-match.own) 0) ++ (entries the-match.behind ++ now.tail)
   nodes-then = c.nodes ∙ (ap (with_steps found.0 0) nodes-mid
       ∙ (changed-part (entry found.0 (Alloc the-match.block the-match.own) the-match.steps) (entries the-match.behind ++ now.tail) (steps_set 0)
-          (through now.placed.done (more now.placed.last)) found-not-front
+      (through now.placed.done (more now.placed.last)) found-not-front
       ∙ sym (behind-all (through now.placed.done (more now.placed.last)) (entry found.0 (Alloc the-match.block the-match.own) 0) (entries the-match.behind ++ now.tail))))
 
   pub node-there : node_at found.0 t2.trace.nodes ≡ Some (Alloc the-match.block the-match.own)
@@ -269,7 +269,7 @@ module _ (code : Code) (inputs : List Block) (start : Start) (st : Stack) (v : V
       absurd (let bad : is_read (Some (Alloc the-match.block the-match.own)) ≡ true = subst (λ o. is_read o ≡ true) (ap (λ z. node_at z t2.trace.nodes) same ∙ node-there) reads in cc) in
       let first : position found.0 t2.trace.nodes ≡ length (through now.placed.done (more now.placed.last)) =
       ap (position found.0) nodes-mid ∙ position-part (entry found.0 (Alloc the-match.block the-match.own) the-match.steps) (entries the-match.behind ++ now.tail)
-          (through now.placed.done (more now.placed.last)) found-not-front in
+      (through now.placed.done (more now.placed.last)) found-not-front in
       let less : position found.0 t2.trace.nodes < position r t2.trace.nodes = omega (
         arith,
         first,
@@ -289,7 +289,7 @@ module _ (code : Code) (inputs : List Block) (start : Start) (st : Stack) (v : V
       ap (end_in r) c.nodes ∙ (ends-changed found.0 (steps_set 0) (λ e. refl) r t2.trace.nodes (λ e. refl)
       ∙ (ap (end_in r) c.lies.nodes
       ∙ (let parts = end-append r (through now.placed.done (more now.placed.last)) (entries now.left ++ now.tail)
-          (sym (ap (end_in r) (step-nodes start v now.reads (entries now.left ++ now.tail) now.placed t1 h)) ∙ e) in
+      (sym (ap (end_in r) (step-nodes start v now.reads (entries now.left ++ now.tail) now.placed t1 h)) ∙ e) in
       let back = end-append r (entries now.left) now.tail parts.1 in
       append-end r (through now.placed.done (more now.placed.last)) (entries rest ++ now.tail) parts.0 (append-end r (entries rest) now.tail (cut-to-end r c.cuts back.0) back.1))))
 
@@ -313,21 +313,21 @@ module _ (code : Code) (inputs : List Block) (start : Start) (st : Stack) (v : V
   core-count =
       let all : count the-sure.core (blocks_at t2.trace.nodes) ≤ 1 = subst (λ bs. count the-sure.core bs ≤ 1) (allocs-nodes t2.trace.nodes) (blocks-mid.lives.once the-sure.core) in
       let parts : count the-sure.core (blocks_at t2.trace.nodes)
-          ≡ count the-sure.core (blocks_at (entry found.0 (Alloc the-match.block the-match.own) the-match.steps ∷ (entries the-match.behind ++ now.tail)))
+      ≡ count the-sure.core (blocks_at (entry found.0 (Alloc the-match.block the-match.own) the-match.steps ∷ (entries the-match.behind ++ now.tail)))
       + count the-sure.core (blocks_at (through now.placed.done (more now.placed.last))) =
       ap (λ es. count the-sure.core (blocks_at es)) nodes-mid ∙ blocks-append the-sure.core (through now.placed.done (more now.placed.last))
-          (entry found.0 (Alloc the-match.block the-match.own) the-match.steps ∷ (entries the-match.behind ++ now.tail)) in
+      (entry found.0 (Alloc the-match.block the-match.own) the-match.steps ∷ (entries the-match.behind ++ now.tail)) in
       let own : 1 ≤ count the-sure.core (blocks_at (entry found.0 (Alloc the-match.block the-match.own) the-match.steps ∷ (entries the-match.behind ++ now.tail))) =
       subst (λ d. 1 ≤ count the-sure.core (node_blocks (Alloc d the-match.own) (blocks_at (entries the-match.behind ++ now.tail)))) (sym the-sure.is)
       (in-count the-sure.core (the-sure.core ∷ blocks_at (entries the-match.behind ++ now.tail)) here) in
       let same : count the-sure.core (blocks_at (through now.placed.done (more now.placed.last))) ≡ count the-sure.core (blocks_at (through now.placed.done now.placed.last)) =
-          ap (count the-sure.core) (blocks-through now.placed.done now.placed.last) in
+      ap (count the-sure.core) (blocks-through now.placed.done now.placed.last) in
       omega (arith, all, parts, own, same)
 
   not-known : In the-sure.core (known_after [] (forest_of (through now.placed.done now.placed.last))) → ⊥
   not-known i =
       let j : In the-sure.core (blocks_at (through now.placed.done now.placed.last)) =
-          subst (In the-sure.core) (allocs-nodes (through now.placed.done now.placed.last)) (known-allocs (forest_of (through now.placed.done now.placed.last)) the-sure.core i) in
+      subst (In the-sure.core) (allocs-nodes (through now.placed.done now.placed.last)) (known-allocs (forest_of (through now.placed.done now.placed.last)) the-sure.core i) in
       omega (arith, core-count, in-count the-sure.core (blocks_at (through now.placed.done now.placed.last)) j)
 
   bases-then : (p : Place) → base_in t.mods p ≡ base_in v.tables.mods p
@@ -384,14 +384,14 @@ module _ (code : Code) (inputs : List Block) (start : Start) (st : Stack) (v : V
       go (Input i) e j = same-other p (λ f. let no : Input i ≡ Core the-sure.core = sym e ∙ f in absurd (cc))
           (subst (KnownBlock (length inputs) (known_after [] (forest_of (through now.placed.done now.placed.last)))) (sym e)
           (let n : KnownBlock (length inputs) (the-sure.core ∷ known_after [] (forest_of (through now.placed.done now.placed.last))) (Input i) =
-              subst (KnownBlock (length inputs) (the-sure.core ∷ known_after [] (forest_of (through now.placed.done now.placed.last)))) e j in n))
+          subst (KnownBlock (length inputs) (the-sure.core ∷ known_after [] (forest_of (through now.placed.done now.placed.last)))) e j in n))
       go (Core b) e j = elim (in-case b the-sure.core (known_after [] (forest_of (through now.placed.done now.placed.last)))
           (subst (KnownBlock (length inputs) (the-sure.core ∷ known_after [] (forest_of (through now.placed.done now.placed.last)))) e j)) [
-        | inl q ↦ same-own p (e ∙ ap Core q)
-        | inr i ↦ same-other p (λ f. let no : Core b ≡ Core the-sure.core =
-            sym e ∙ f in not-known (subst (λ d. In d (known_after [] (forest_of (through now.placed.done now.placed.last)))) (let q : b ≡ the-sure.core = cc in q) i))
-            (subst (KnownBlock (length inputs) (known_after [] (forest_of (through now.placed.done now.placed.last)))) (sym e) i)
-      ]
+            | inl q ↦ same-own p (e ∙ ap Core q)
+            | inr i ↦ same-other p (λ f. let no : Core b ≡ Core the-sure.core =
+                sym e ∙ f in not-known (subst (λ d. In d (known_after [] (forest_of (through now.placed.done now.placed.last)))) (let q : b ≡ the-sure.core = cc in q) i))
+                (subst (KnownBlock (length inputs) (known_after [] (forest_of (through now.placed.done now.placed.last)))) (sym e) i)
+          ]
 
   mid-machine : Stack → Machine
   mid-machine after = record {
@@ -408,13 +408,13 @@ module _ (code : Code) (inputs : List Block) (start : Start) (st : Stack) (v : V
 
   state-then : clears code (works (state_at code inputs v now.course.store (start.chosen ++ now.course.made))) the-match.block key
       ≡ state_at code inputs (record { tables = t; heap = heap; spent = v.spent + 1; cursor = found.0; limit = v.limit; frames = v.frames }) (cleared code now.course.store the-match.block key)
-          (start.chosen ++ now.course.made)
+      (start.chosen ++ now.course.made)
   state-then = ap (λ (x : Plain). record { store = cleared code now.course.store the-match.block key; plain = x; number = length (start.chosen ++ now.course.made); work = v.spent + 1 })
       (sym (words-same code inputs v.heap heap c.blocks))
 
   bare-then : (after : Stack) → BareSame (mid-machine after)
       (running_at (state_at code inputs (record { tables = t; heap = heap; spent = v.spent + 1; cursor = found.0; limit = v.limit; frames = v.frames })
-          (cleared code now.course.store the-match.block key) (start.chosen ++ now.course.made))
+      (cleared code now.course.store the-match.block key) (start.chosen ++ now.course.made))
       after now.waits (forest_of (entries the-match.behind ++ now.tail)))
   unfolding mid-machine
   bare-then after = record {
@@ -436,7 +436,7 @@ module _ (code : Code) (inputs : List Block) (start : Start) (st : Stack) (v : V
   -- the block of the match is taken: its node is in front, and what is after it is left over
   pub now-take-alloc : (x u i : ℕ) (env : Variables) (below : Stack) → next code (words_of code inputs v.heap) st ≡ Makes key x u i env below
       → RunningNow code inputs start (Run u i (set env x (pointer key the-match.block)) below)
-          (record { tables = t; heap = heap; spent = v.spent + 1; cursor = found.0; limit = v.limit; frames = v.frames })
+      (record { tables = t; heap = heap; spent = v.spent + 1; cursor = found.0; limit = v.limit; frames = v.frames })
   now-take-alloc x u i env below does = record {
     reads = now.reads;
     left = the-match.behind;
@@ -463,10 +463,10 @@ module _ (code : Code) (inputs : List Block) (start : Start) (st : Stack) (v : V
         (λ s. running_at s st now.waits (forest_of (entries now.left ++ now.tail))) now.course
         (record { tables = t; heap = heap; spent = v.spent + 1; cursor = found.0; limit = v.limit; frames = v.frames })
         (through (through now.placed.done (more now.placed.last)) (entry found.0 (Alloc the-match.block the-match.own) 0))
-            (forest_of (through (through now.placed.done (more now.placed.last)) (entry found.0 (Alloc the-match.block the-match.own) 0)))
+        (forest_of (through (through now.placed.done (more now.placed.last)) (entry found.0 (Alloc the-match.block the-match.own) 0)))
         (λ s. running_at s (Run u i (set env x (pointer key the-match.block)) below) now.waits (forest_of (entries the-match.behind ++ now.tail)))
         (item.Step ∷ item.Alloc the-match.block key ∷ []) (cleared code now.course.store the-match.block key) (mid-machine (Run u i (set env x (pointer key the-match.block)) below))
         items-then (taken-turn x u i env below does) (mid-number (Run u i (set env x (pointer key the-match.block)) below))
-            (bare-then (Run u i (set env x (pointer key the-match.block)) below)) same-then
+        (bare-then (Run u i (set env x (pointer key the-match.block)) below)) same-then
         (given-same start.first start.numbers (start.chosen ++ now.course.made) v.heap heap c.blocks now.course.given);
   }

@@ -80,7 +80,7 @@ module _ (old new : Repair) (h : IsStepped old new) (start : Start) (st : Stack)
           → ((code : Code) (inputs : List Block) → HasBlocks code inputs new.running.now.heap new.running.now.tables → HasBlocks code inputs heap t2)
           → t.trace.nodes ≡ with_steps found.0 0 t2.trace.nodes → t.mods ≡ t2.mods → t.stale ≡ t2.stale → Kept t
           → CutMore (code_of old) (inputs_of old) old.cursor.0 found.0
-              (through now.placed.done (more now.placed.last)) now.left cut-result.0 now.tail old.running.now.heap heap new.running.now.tables t2 t
+          (through now.placed.done (more now.placed.last)) now.left cut-result.0 now.tail old.running.now.heap heap new.running.now.tables t2 t
       cut-more-code heap t bases blocks has nodes mods queue now_kept = record {
         cuts = cut-result.1;
         lies = cut-result.2;

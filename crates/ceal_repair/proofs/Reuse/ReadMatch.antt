@@ -137,7 +137,7 @@ module _ (holds : Node → Bool) (no_end : (r : Stamp) → holds (End r) ≡ fal
       → is_in s (stamps_where holds (entries inside ++ end_entry c t m ∷ entries rest)) ≡ true → is_in s (starts inside ++ starts rest) ≡ true
   in-both s t c m inside rest one two i =
       elim (in-either s (stamps_where holds (entries inside)) (stamps_where holds (entries rest))
-          (rw (where-append holds (entries inside) (end_entry c t m ∷ entries rest), no_end (record { 0 = t })) at i)) [
+      (rw (where-append holds (entries inside) (end_entry c t m ∷ entries rest), no_end (record { 0 = t })) at i)) [
         | inl k ↦ in-left s (starts inside) (starts rest) (one k)
         | inr k ↦ in-right s (starts inside) (starts rest) (two k)
       ]
@@ -203,7 +203,7 @@ module _ (laws : Takings) (key : ReadKey) where
   kept-read : (g h : Grove) (s : ℕ) → first_reads key.place key.unit key.var key.args g ≡ false → TakesRead key (cut g) s h → TakesRead key g s h
   kept-read g h s f (takes q v w y words n inside e m rest t same found is within left) =
       let r = read-same (take_read key.place key.unit key.var key.args (trace_in (cut g))) (take_read key.place key.unit key.var key.args (trace_in g)) t
-          (laws.read_kept key.place key.unit key.var key.args g f) found in
+      (laws.read_kept key.place key.unit key.var key.args g f) found in
       takes q v w y words n inside e m rest r.0 same r.1 (r.2 ∙ is) (r.3 ∙ within) (r.4 ∙ left)
 
   -- the first read with the key is what is taken

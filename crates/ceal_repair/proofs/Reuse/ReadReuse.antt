@@ -212,7 +212,7 @@ module _ (code : Code) (inputs : List Block) (start : Start) (st : Stack) (v : V
   no-end-mid : (r : ℕ) → end_in r t1.trace.nodes ≡ None → end_in r t2.trace.nodes ≡ None
   no-end-mid r e = ap (end_in r) c.lies.nodes
       ∙ (let parts = end-append r (through now.placed.done (more now.placed.last)) (entries now.left ++ now.tail)
-          (sym (ap (end_in r) (step-nodes start v now.reads (entries now.left ++ now.tail) now.placed t1 h)) ∙ e) in
+      (sym (ap (end_in r) (step-nodes start v now.reads (entries now.left ++ now.tail) now.placed t1 h)) ∙ e) in
       let back = end-append r (entries now.left) now.tail parts.1 in
       append-end r (through now.placed.done (more now.placed.last)) (entries rest ++ now.tail) parts.0 (append-end r (entries rest) now.tail (cut-to-end r c.cuts back.0) back.1))
 
@@ -247,7 +247,7 @@ module _ (code : Code) (inputs : List Block) (start : Start) (st : Stack) (v : V
     around-left now.left now.tail,
   )
       (BareFrames.after_mend (the-match.left_is ∙ sym (bare-stepped the-match.end_steps (trace_in the-match.behind)))
-          (frames-self code (λ k. 0) (frames_at now.waits (around (levels (forest_of now.tail))))))
+      (frames-self code (λ k. 0) (frames_at now.waits (around (levels (forest_of now.tail))))))
 
   items-then : (w : Word)
       → forest_of (through now.placed.done (more now.placed.last)) ++ item_of (Read p w u x args) ≡ forest_of (through now.placed.done now.placed.last) ++ (item.Step ∷ item.Read p w u x args ∷ [])
@@ -280,7 +280,7 @@ module _ (code : Code) (inputs : List Block) (start : Start) (st : Stack) (v : V
   unfolding turn mid-running
   stale-turn w is other names =
       subst (λ z. same_word z the-match.taken.value ≡ false
-          → turn code names (running_at (state_at code inputs v now.course.store (start.chosen ++ now.course.made)) st now.waits (forest_of (entries now.left ++ now.tail)))
+      → turn code names (running_at (state_at code inputs v now.course.store (start.chosen ++ now.course.made)) st now.waits (forest_of (entries now.left ++ now.tail)))
       ≡ Went (item.Step ∷ item.Read p z u x args ∷ []) (mid-running z)) is (λ differs. rw (does, takes-left, differs) refl) other
 
   state-then : works (state_at code inputs v now.course.store (start.chosen ++ now.course.made))
@@ -296,7 +296,7 @@ module _ (code : Code) (inputs : List Block) (start : Start) (st : Stack) (v : V
     state = state-then;
     mode = BareMode.runs (ap bare the-match.inside_is ∙ (bare-stepped the-match.steps (trace_in the-match.inside)
         ∙ ap bare (sym (first-left the-match.inside (Some (stamp_of_number the-match.end)) (end_entry the-match.end found.0 the-match.end_steps ∷ (entries the-match.behind ++ now.tail))
-            (found.0, the-match.end_steps, entries the-match.behind ++ now.tail, refl)))));
+        (found.0, the-match.end_steps, entries the-match.behind ++ now.tail, refl)))));
     frames = frames-mid;
   }
 
@@ -314,7 +314,7 @@ module _ (code : Code) (inputs : List Block) (start : Start) (st : Stack) (v : V
         ++ entry found.0 (Read p w u x args) the-match.steps ∷ (entries the-match.inside ++ end_entry the-match.end found.0 the-match.end_steps ∷ (entries the-match.behind ++ now.tail))
     nodes-seen = seen ∙ (ap (with_value found.0 w) nodes-mid
         ∙ changed-part (entry found.0 (Read p the-match.value u x args) the-match.steps)
-            (entries the-match.inside ++ end_entry the-match.end found.0 the-match.end_steps ∷ (entries the-match.behind ++ now.tail))
+        (entries the-match.inside ++ end_entry the-match.end found.0 the-match.end_steps ∷ (entries the-match.behind ++ now.tail))
         (value_set w) (through now.placed.done (more now.placed.last)) found-not-front)
 
     nodes-then : t.trace.nodes ≡ through (through now.placed.done (more now.placed.last)) (entry found.0 (Read p w u x args) 0)
@@ -356,7 +356,7 @@ module _ (code : Code) (inputs : List Block) (start : Start) (st : Stack) (v : V
     -- then
     pub now-retake : (until : Stamp) → v.limit ≡ Some until
         → RunningNow code inputs start (resumed code u x args w)
-            (record { tables = t; heap = heap; spent = v.spent + 1; cursor = found.0; limit = Some (stamp_of_number the-match.end); frames = Taken below until ∷ v.frames })
+        (record { tables = t; heap = heap; spent = v.spent + 1; cursor = found.0; limit = Some (stamp_of_number the-match.end); frames = Taken below until ∷ v.frames })
     now-retake until limit = record {
       reads = found.0 ∷ now.reads;
       left = the-match.inside;
@@ -382,13 +382,13 @@ module _ (code : Code) (inputs : List Block) (start : Start) (st : Stack) (v : V
           (λ s. running_at s st now.waits (forest_of (entries now.left ++ now.tail))) now.course
           (record { tables = t; heap = heap; spent = v.spent + 1; cursor = found.0; limit = Some (stamp_of_number the-match.end); frames = Taken below until ∷ v.frames })
           (through (through now.placed.done (more now.placed.last)) (entry found.0 (Read p w u x args) 0))
-              (forest_of (through (through now.placed.done (more now.placed.last)) (entry found.0 (Read p w u x args) 0)))
+          (forest_of (through (through now.placed.done (more now.placed.last)) (entry found.0 (Read p w u x args) 0)))
           (λ s. running_at s (resumed code u x args w) (Takes below ∷ now.waits)
-              (forest_of (entries the-match.inside ++ end_entry the-match.end found.0 the-match.end_steps ∷ (entries the-match.behind ++ now.tail))))
+          (forest_of (entries the-match.inside ++ end_entry the-match.end found.0 the-match.end_steps ∷ (entries the-match.behind ++ now.tail))))
           (item.Step ∷ item.Read p w u x args ∷ []) now.course.store (mid-running w)
           (items-next code inputs start st v now found.0 (Read p w u x args)) (stale-turn w word-now other-word) (running-number w) (bare-running w)
           (λ q k. same-then t bases-then w 0 q
-              (subst (λ is. KnownBlock (length inputs) (known_after [] is) q.block) (forest-put (through now.placed.done (more now.placed.last)) found.0 (Read p w u x args)) k))
+          (subst (λ is. KnownBlock (length inputs) (known_after [] is) q.block) (forest-put (through now.placed.done (more now.placed.last)) found.0 (Read p w u x args)) k))
           (given-same start.first start.numbers (start.chosen ++ now.course.made) v.heap heap c.blocks now.course.given);
     }
 
@@ -407,7 +407,7 @@ module _ (code : Code) (inputs : List Block) (start : Start) (st : Stack) (v : V
   unfolding turn mid-fixing
   honest-turn w is one names =
       subst (λ z. same_word z the-match.taken.value ≡ true
-          → turn code names (running_at (state_at code inputs v now.course.store (start.chosen ++ now.course.made)) st now.waits (forest_of (entries now.left ++ now.tail)))
+      → turn code names (running_at (state_at code inputs v now.course.store (start.chosen ++ now.course.made)) st now.waits (forest_of (entries now.left ++ now.tail)))
       ≡ Went (item.Step ∷ item.Read p z u x args ∷ []) (mid-fixing z)) is (λ same. rw (does, takes-left, same) refl) one
 
   bare-fixing : (w : Word) → BareSame (mid-fixing w)
@@ -418,7 +418,7 @@ module _ (code : Code) (inputs : List Block) (start : Start) (st : Stack) (v : V
     state = state-then;
     mode = subst (λ l. BareMode (Fixing the-match.taken.inside) (Fixing l))
         (the-match.inside_is ∙ (ap (stepped the-match.steps) (sym (first-left the-match.inside (Some (stamp_of_number the-match.end))
-            (end_entry the-match.end found.0 the-match.end_steps ∷ (entries the-match.behind ++ now.tail)) (found.0, the-match.end_steps, entries the-match.behind ++ now.tail, refl)))
+        (end_entry the-match.end found.0 the-match.end_steps ∷ (entries the-match.behind ++ now.tail)) (found.0, the-match.end_steps, entries the-match.behind ++ now.tail, refl)))
         ∙ sym (first-ticks the-match.steps (forest_of (entries the-match.inside ++ end_entry the-match.end found.0 the-match.end_steps ∷ (entries the-match.behind ++ now.tail)))))) BareMode.fixes;
     frames = rw (around-ticks the-match.steps (forest_of (entries the-match.inside ++ end_entry the-match.end found.0 the-match.end_steps ∷ (entries the-match.behind ++ now.tail)))) frames-mid;
   }
@@ -452,7 +452,7 @@ module _ (code : Code) (inputs : List Block) (start : Start) (st : Stack) (v : V
     -- the read is in front with its steps, and what is inside it must be passed, up to its end
     pub now-enter : (until : Stamp) → v.limit ≡ Some until
         → PassingNow code inputs start (stamp_of_number the-match.end)
-            (record { tables = t; heap = heap; spent = v.spent + 1; cursor = found.0; limit = Some (stamp_of_number the-match.end); frames = Taken below until ∷ v.frames })
+        (record { tables = t; heap = heap; spent = v.spent + 1; cursor = found.0; limit = Some (stamp_of_number the-match.end); frames = Taken below until ∷ v.frames })
     now-enter until limit = record {
       reads = found.0 ∷ now.reads;
       waits = Takes below ∷ now.waits;
@@ -479,9 +479,9 @@ module _ (code : Code) (inputs : List Block) (start : Start) (st : Stack) (v : V
           (λ s. running_at s st now.waits (forest_of (entries now.left ++ now.tail))) now.course
           (record { tables = t; heap = heap; spent = v.spent + 1; cursor = found.0; limit = Some (stamp_of_number the-match.end); frames = Taken below until ∷ v.frames })
           (through (through now.placed.done (more now.placed.last)) (entry found.0 (Read p the-match.value u x args) the-match.steps))
-              (forest_of (through now.placed.done (more now.placed.last)) ++ item_of (Read p the-match.value u x args))
+          (forest_of (through now.placed.done (more now.placed.last)) ++ item_of (Read p the-match.value u x args))
           (λ s. fixing_at s (Takes below ∷ now.waits)
-              (ticks the-match.steps ++ forest_of (entries the-match.inside ++ end_entry the-match.end found.0 the-match.end_steps ∷ (entries the-match.behind ++ now.tail))))
+          (ticks the-match.steps ++ forest_of (entries the-match.inside ++ end_entry the-match.end found.0 the-match.end_steps ∷ (entries the-match.behind ++ now.tail))))
           (item.Step ∷ item.Read p the-match.value u x args ∷ []) now.course.store (mid-fixing the-match.value)
           (items-then the-match.value) (honest-turn the-match.value value-now same-value) (fixing-number the-match.value) (bare-fixing the-match.value)
           (λ q k. same-then t cells the-match.value the-match.steps q k)

@@ -85,7 +85,7 @@ pub none-entered : (r : Repair) (start : Start) (st : Stack) (now : RunsAt start
 none-entered r start st now key h =
     ap (take_read key.place key.unit key.var key.args) (first-left now.left (view r).limit now.tail (bound-now (code_of r) (inputs_of r) start st (view r) now))
     ∙ none-read taking-law key now.left
-        (none-first (stamps_where (recalls key) (entries now.left)) (subst (λ es. head_of (stamps_where (recalls key) es) ≡ None) (left-is (code_of r) (inputs_of r) start st (view r) now) h))
+    (none-first (stamps_where (recalls key) (entries now.left)) (subst (λ es. head_of (stamps_where (recalls key) es) ≡ None) (left-is (code_of r) (inputs_of r) start st (view r) now) h))
   where
     none-first : (xs : List ℕ) → head_of xs ≡ None → xs ≡ []
     none-first [] e = refl

@@ -164,8 +164,15 @@ module _ (code : Code) (inputs : List Block) (start : Start) (st : Stack) (w : V
     }
 
     left-turn : (names : ℕ → ℕ)
-        → turn code names (running_at (state_at code inputs (record { tables = w.tables; heap = w.heap; spent = w.spent; cursor = w.cursor; limit = w.limit; frames =
-            Taken below until ∷ w.frames }) now.course.store (start.chosen ++ now.course.made)) st now.waits (forest_of (entries now.left ++ now.tail)))
+        → turn code names (running_at (state_at code inputs (record {
+          tables = w.tables;
+          heap = w.heap;
+          spent = w.spent;
+          cursor = w.cursor;
+          limit = w.limit;
+          frames =
+              Taken below until ∷ w.frames;
+        }) now.course.store (start.chosen ++ now.course.made)) st now.waits (forest_of (entries now.left ++ now.tail)))
         ≡ Went (item.End ∷ []) mid-machine
     unfolding mid-machine
     left-turn names = leave-turn code names (state_at code inputs
@@ -230,7 +237,7 @@ module _ (code : Code) (inputs : List Block) (start : Start) (st : Stack) (w : V
           (λ s. running_at s st now.waits (forest_of (entries now.left ++ now.tail))) now.course
           (record { tables = t; heap = heap; spent = w.spent; cursor = next-taken.end; limit = Some until; frames = w.frames })
           (through (through now.placed.done now.placed.last) (entry next-taken.end (End (stamp_of_number next-taken.read)) 0))
-              (forest_of (through (through now.placed.done now.placed.last) (entry next-taken.end (End (stamp_of_number next-taken.read)) 0)))
+          (forest_of (through (through now.placed.done now.placed.last) (entry next-taken.end (End (stamp_of_number next-taken.read)) 0)))
           (λ s. running_at s below next-taken.waits (forest_of (entries next-taken.behind ++ next-taken.rest)))
           (item.End ∷ []) now.course.store mid-machine (forest-put (through now.placed.done now.placed.last) next-taken.end (End (stamp_of_number next-taken.read)))
           left-turn mid-number bare-then

@@ -110,13 +110,13 @@ module _ (code : Code) where
   plain-out (Stepped rest) x b out e = plain-out rest x b out e
   plain-out (Allocated (Core c) key rest) x b out e =
       plain-out rest (learnt x (Core c) (made code x key)) b (λ i. out (there i))
-          (learnt-away x (Core c) (made code x key) b (λ k. let same : b ≡ c = cc in out (subst (λ d. In b (d ∷ allocs (flat rest))) same here)) e)
+      (learnt-away x (Core c) (made code x key) b (λ k. let same : b ≡ c = cc in out (subst (λ d. In b (d ∷ allocs (flat rest))) same here)) e)
   plain-out (Allocated (Input c) key rest) x b out e = plain-out rest (learnt x (Input c) (made code x key)) b out (learnt-away x (Input c) (made code x key) b (λ k. let clash = k in cc) e)
   plain-out (Wrote p value rest) x b out e = plain-out rest x b out e
   plain-out (WasRead p value u v args inside rest) x b out e =
       let all : ¬ In b (allocs (flat inside) ++ allocs (flat rest)) = λ i. out (subst (λ bs. In b bs) (sym (allocs-append (flat inside) (item.End ∷ flat rest))) i) in
       plain-out rest (plain_after code x inside) b (λ i. all (in-back b (allocs (flat inside)) (allocs (flat rest)) i))
-          (plain-out inside x b (λ i. all (in-front b (allocs (flat inside)) (allocs (flat rest)) i)) e)
+      (plain-out inside x b (λ i. all (in-front b (allocs (flat inside)) (allocs (flat rest)) i)) e)
 
 -- ---- the place of a read is that of an input, or of a block that the items allocate
 

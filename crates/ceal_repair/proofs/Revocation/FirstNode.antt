@@ -485,7 +485,7 @@ read-has code inputs heap old new s e kept r found nodes b h =
         let zero = count-plain q.0 c q.2 in
         let two = blocks-without e (End (stamp_of_number s)) c (without_entry s old.trace.nodes) end-left in
         ap (λ es. count c (blocks_at es)) nodes
-            ∙ (let n : count c (blocks_at (without_entry e (without_entry s old.trace.nodes))) ≡ count c (blocks_at old.trace.nodes) = omega (arith, one, zero, two) in n)
+        ∙ (let n : count c (blocks_at (without_entry e (without_entry s old.trace.nodes))) ≡ count c (blocks_at old.trace.nodes) = omega (arith, one, zero, two) in n)
 
 pub alloc-has : (code : Code) (inputs : List Block) (heap heap' : Contents) (old new : Tables) (s : ℕ) (c : BlockId) (key : Key) → order.Distinct (stamps_in old.trace.nodes)
     → node_at s old.trace.nodes ≡ Some (Alloc c key)

@@ -149,7 +149,7 @@ unread-kept old k p v mods change unread follows = record {
     go (x ∷ xs) e =
         let first : head_of (stamps_in old.trace.nodes) ≡ Some x.stamp = rw e refl in
         (edit-kept old k p v mods change x.stamp first (k.step.whole.first_root x.stamp first) old.stale (λ t i. i) (λ t a b. absurd (let no : true ≡ false = sym b ∙ a in cc))
-            (awake x.stamp) follows k.step.stale).chained
+        (awake x.stamp) follows k.step.stale).chained
 
 -- how far the bases are set
 pub record Placing (structs : List StructInfo) (input : ℕ) (shape : Shape) (words : List Word) (old t : Tables) (n : ℕ) : Type 0 where

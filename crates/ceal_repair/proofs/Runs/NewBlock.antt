@@ -407,7 +407,7 @@ module _ (code : Code) (inputs : List Block) (start : Start) (v : View) (front :
       let old : Machine = m (state_at code inputs v c.store (start.chosen ++ c.made)) in
       let new : Machine = m' (state_at code inputs v' store' (start.chosen ++ (c.made ++ b ∷ []))) in
       let g : GoesKnowing code (length inputs) start.old (known_after [] items) w new =
-          (knowing-law code).turns (λ k. b) (length inputs) start.old (known_after [] items) old new w c.knows (t (λ k. b) refl) (inr unused) in
+      (knowing-law code).turns (λ k. b) (length inputs) start.old (known_after [] items) old new w c.knows (t (λ k. b) refl) (inr unused) in
       let k : KnownItems (length inputs) [] (items ++ w) g.known = known-items-append c.mentions g.items in
       let after : g.known ≡ known_after [] (items ++ w) = known-items-after k in
       record {
@@ -452,7 +452,7 @@ module _ (code : Code) (inputs : List Block) (start : Start) (st : Stack) (v : V
 
   grown : grows code (λ n. b) (works (state_at code inputs v now.course.store (start.chosen ++ now.course.made))) key
       ≡ state_at code inputs (record { tables = t; heap = heap; spent = v.spent + 1; cursor = s; limit = v.limit; frames = v.frames }) (cleared code now.course.store (Core b) key)
-          (start.chosen ++ (now.course.made ++ b ∷ []))
+      (start.chosen ++ (now.course.made ++ b ∷ []))
   grown = ap₂ (λ (x : Plain) (n : ℕ). record { store = cleared code now.course.store (Core b) key; plain = x; number = n; work = v.spent + 1 })
       (sym (words-learnt code inputs b key v.heap heap t1 t2 k))
       (sym (ap length (sym (append_assoc start.chosen now.course.made (b ∷ []))) ∙ length-last (start.chosen ++ now.course.made) b))
@@ -462,7 +462,7 @@ module _ (code : Code) (inputs : List Block) (start : Start) (st : Stack) (v : V
       → (names : ℕ → ℕ) → names (length (start.chosen ++ now.course.made)) ≡ b
       → turn code names (running_at (state_at code inputs v now.course.store (start.chosen ++ now.course.made)) st now.waits (forest_of (entries now.left ++ now.tail)))
       ≡ Went (item.Step ∷ item.Alloc (Core b) key ∷ []) (running_at (state_at code inputs (record { tables = t; heap = heap; spent = v.spent + 1; cursor = s; limit = v.limit; frames = v.frames })
-          (cleared code now.course.store (Core b) key) (start.chosen ++ (now.course.made ++ b ∷ [])))
+      (cleared code now.course.store (Core b) key) (start.chosen ++ (now.course.made ++ b ∷ [])))
       (Run u i (set env x (pointer key (Core b))) below) now.waits (forest_of (entries now.left ++ now.tail)))
   unfolding turn
   made-turn none x u i env below does names e =
@@ -506,12 +506,12 @@ module _ (code : Code) (inputs : List Block) (start : Start) (st : Stack) (v : V
           → cleared code now.course.store (Core b) key p ≡ contents_after (base_in t.mods) (through (through now.placed.done (more now.placed.last)) (new_entry s (Alloc (Core b) key))) p
       go (Input i) e j = same-other p (subst (KnownBlock (length inputs) (known_after [] (forest_of (through now.placed.done now.placed.last)))) (sym e)
           (let n : KnownBlock (length inputs) (b ∷ known_after [] (forest_of (through now.placed.done now.placed.last))) (Input i) =
-              subst (KnownBlock (length inputs) (b ∷ known_after [] (forest_of (through now.placed.done now.placed.last)))) e j in n))
+          subst (KnownBlock (length inputs) (b ∷ known_after [] (forest_of (through now.placed.done now.placed.last)))) e j in n))
       go (Core c) e j = elim (in-case c b (known_after [] (forest_of (through now.placed.done now.placed.last)))
           (subst (KnownBlock (length inputs) (b ∷ known_after [] (forest_of (through now.placed.done now.placed.last)))) e j)) [
-        | inl q ↦ same-own p (e ∙ ap Core q)
-        | inr i ↦ same-other p (subst (KnownBlock (length inputs) (known_after [] (forest_of (through now.placed.done now.placed.last)))) (sym e) i)
-      ]
+            | inl q ↦ same-own p (e ∙ ap Core q)
+            | inr i ↦ same-other p (subst (KnownBlock (length inputs) (known_after [] (forest_of (through now.placed.done now.placed.last)))) (sym e) i)
+          ]
 
   placed-stepped : Placed start (record { tables = t1; heap = v.heap; spent = v.spent + 1; cursor = v.cursor; limit = v.limit; frames = v.frames }) now.reads (entries now.left ++ now.tail)
   placed-stepped = placed-step start v now.reads (entries now.left ++ now.tail) now.placed t1 (v.spent + 1) h
@@ -551,7 +551,7 @@ module _ (code : Code) (inputs : List Block) (start : Start) (st : Stack) (v : V
         (λ s. running_at s st now.waits (forest_of (entries now.left ++ now.tail))) now.course
         (record { tables = t; heap = heap; spent = v.spent + 1; cursor = s; limit = v.limit; frames = v.frames })
         (through (through now.placed.done (more now.placed.last)) (new_entry s (Alloc (Core b) key)))
-            (forest_of (through (through now.placed.done (more now.placed.last)) (new_entry s (Alloc (Core b) key))))
+        (forest_of (through (through now.placed.done (more now.placed.last)) (new_entry s (Alloc (Core b) key))))
         (λ s. running_at s (Run u i (set env x (pointer key (Core b))) below) now.waits (forest_of (entries now.left ++ now.tail)))
         (item.Step ∷ item.Alloc (Core b) key ∷ []) (cleared code now.course.store (Core b) key) b (items-next code inputs start st v now s (Alloc (Core b) key))
         unused-number
@@ -559,7 +559,7 @@ module _ (code : Code) (inputs : List Block) (start : Start) (st : Stack) (v : V
         (ap length (sym (append_assoc start.chosen now.course.made (b ∷ []))) ∙ length-last (start.chosen ++ now.course.made) b)
         same-made
         (subst (λ bs. Given start.first start.numbers bs heap) (append_assoc start.chosen now.course.made (b ∷ []))
-            (given-made code inputs b key v.heap heap t1 t2 k start.first start.numbers (start.chosen ++ now.course.made) now.course.given));
+        (given-made code inputs b key v.heap heap t1 t2 k start.first start.numbers (start.chosen ++ now.course.made) now.course.given));
   }
 
 -- ---- the same, in code

@@ -71,12 +71,12 @@ module _ (code : Code) (inputs : List Block) (start : Start) (st : Stack) (v : V
       → now.course.store p ≡ word → (names : ℕ → ℕ)
       → turn code names (running_at (state_at code inputs v now.course.store (start.chosen ++ now.course.made)) st now.waits (forest_of (entries now.left ++ now.tail)))
       ≡ Went (item.Step ∷ item.Read p word u x args ∷ []) (running_at (works (state_at code inputs v now.course.store (start.chosen ++ now.course.made))) (resumed code u x args word)
-          (Begins below ∷ now.waits) (forest_of (entries now.left ++ now.tail)))
+      (Begins below ∷ now.waits) (forest_of (entries now.left ++ now.tail)))
   unfolding turn
   begun-turn p u x args below word none does is names =
       subst (λ w. turn code names (running_at (state_at code inputs v now.course.store (start.chosen ++ now.course.made)) st now.waits (forest_of (entries now.left ++ now.tail)))
       ≡ Went (item.Step ∷ item.Read p w u x args ∷ []) (running_at (works (state_at code inputs v now.course.store (start.chosen ++ now.course.made))) (resumed code u x args w)
-          (Begins below ∷ now.waits) (forest_of (entries now.left ++ now.tail))))
+      (Begins below ∷ now.waits) (forest_of (entries now.left ++ now.tail))))
       is (rw (does, none) refl)
 
   -- a new read begins, where none that is left over is taken: its unit runs on what its place holds, and shares what is
@@ -93,7 +93,7 @@ module _ (code : Code) (inputs : List Block) (start : Start) (st : Stack) (v : V
     tail = now.tail;
     placed = placed-put start (record { tables = t1; heap = v.heap; spent = v.spent + 1; cursor = v.cursor; limit = v.limit; frames = v.frames }) now.reads (entries now.left ++ now.tail)
         (placed-step start v now.reads (entries now.left ++ now.tail) now.placed t1 (v.spent + 1) h) t read.0 (Read p word u x args) v.heap v.limit (Begun below read ∷ v.frames)
-            (read.0 ∷ now.reads) k refl (
+        (read.0 ∷ now.reads) k refl (
           unended,
           unfinished-ends v.frames t1.trace.nodes t.trace.nodes (λ r. ap (end_in r) k.nodes ∙ ends-after v.cursor (new_entry read.0 (Read p word u x args)) r t1.trace.nodes refl)
               (placed-step start v now.reads (entries now.left ++ now.tail) now.placed t1 (v.spent + 1) h).unfinished,
@@ -107,7 +107,7 @@ module _ (code : Code) (inputs : List Block) (start : Start) (st : Stack) (v : V
         (λ s. running_at s st now.waits (forest_of (entries now.left ++ now.tail))) now.course
         (record { tables = t; heap = v.heap; spent = v.spent + 1; cursor = read.0; limit = v.limit; frames = Begun below read ∷ v.frames })
         (through (through now.placed.done (more now.placed.last)) (new_entry read.0 (Read p word u x args)))
-            (forest_of (through (through now.placed.done (more now.placed.last)) (new_entry read.0 (Read p word u x args))))
+        (forest_of (through (through now.placed.done (more now.placed.last)) (new_entry read.0 (Read p word u x args))))
         (λ s. running_at s (resumed code u x args word) (Begins below ∷ now.waits) (forest_of (entries now.left ++ now.tail)))
         (item.Step ∷ item.Read p word u x args ∷ []) now.course.store (items-next code inputs start st v now read.0 (Read p word u x args))
         (begun-turn p u x args below word none does (value-there t1 h p word is place-known)) refl

@@ -71,8 +71,15 @@ module _ (code : Code) (inputs : List Block) (start : Start) (st : Stack) (w : V
   among = subst (λ rs. is_in read.0 rs ≡ true) (sym (comes-next now.tails).reads_are) (in_head read.0 (comes-next now.tails).reads)
 
   ended-turn : next code (words_of code inputs w.heap) st ≡ Over → (names : ℕ → ℕ)
-      → turn code names (running_at (state_at code inputs (record { tables = w.tables; heap = w.heap; spent = w.spent; cursor = w.cursor; limit = w.limit; frames =
-          Begun below read ∷ w.frames }) now.course.store (start.chosen ++ now.course.made)) st now.waits (forest_of (entries now.left ++ now.tail)))
+      → turn code names (running_at (state_at code inputs (record {
+        tables = w.tables;
+        heap = w.heap;
+        spent = w.spent;
+        cursor = w.cursor;
+        limit = w.limit;
+        frames =
+            Begun below read ∷ w.frames;
+      }) now.course.store (start.chosen ++ now.course.made)) st now.waits (forest_of (entries now.left ++ now.tail)))
       ≡ Went (item.End ∷ []) (running_at (state_at code inputs w now.course.store (start.chosen ++ now.course.made)) below (comes-next now.tails).waits (forest_of (entries now.left ++ now.tail)))
   ended-turn over names = end-turn code names (state_at code inputs w now.course.store (start.chosen ++ now.course.made)) st below now.waits (comes-next now.tails).waits
       (forest_of (entries now.left ++ now.tail)) (comes-next now.tails).waits_are over
@@ -83,8 +90,15 @@ module _ (code : Code) (inputs : List Block) (start : Start) (st : Stack) (w : V
     where
       differs : r ≢ read.0
       differs e =
-          let all : Distinct (now.reads ++ start.reads) = open-distinct start (record { tables = w.tables; heap = w.heap; spent = w.spent; cursor = w.cursor; limit = w.limit; frames =
-              Begun below read ∷ w.frames }) now.reads (entries now.left ++ now.tail) now.placed read.0 among in
+          let all : Distinct (now.reads ++ start.reads) = open-distinct start (record {
+            tables = w.tables;
+            heap = w.heap;
+            spent = w.spent;
+            cursor = w.cursor;
+            limit = w.limit;
+            frames =
+                Begun below read ∷ w.frames;
+          }) now.reads (entries now.left ++ now.tail) now.placed read.0 among in
           let parts : Distinct (read.0 ∷ ((comes-next now.tails).reads ++ start.reads)) = subst (λ rs. Distinct (rs ++ start.reads)) (comes-next now.tails).reads_are all in
           let there : is_in r ((comes-next now.tails).reads ++ start.reads) ≡ true = is-in-front r (comes-next now.tails).reads start.reads (waiting-open (comes-next now.tails).tails r i) in
           let none : is_in read.0 ((comes-next now.tails).reads ++ start.reads) ≡ false = not-in-is read.0 ((comes-next now.tails).reads ++ start.reads) parts.0 in
@@ -103,7 +117,7 @@ module _ (code : Code) (inputs : List Block) (start : Start) (st : Stack) (w : V
         (entries now.left ++ now.tail)
         now.placed t s (End read) w.heap w.limit w.frames (comes-next now.tails).reads k
         (subst (λ rs. unclosed (unclosed_after s (End read) (rs ++ start.reads)) [] ≡ Some ((comes-next now.tails).reads ++ start.reads)) (sym (comes-next now.tails).reads_are)
-            (closed-last read ((comes-next now.tails).reads ++ start.reads) s))
+        (closed-last read ((comes-next now.tails).reads ++ start.reads) s))
         (unfinished-waiting w.frames w.tables.trace.nodes t.trace.nodes (others-kept t s k) now.placed.unfinished.1);
     tails = (comes-next now.tails).tails;
     bare = now.bare;

@@ -56,7 +56,7 @@ pub stepped-view : (old new : Repair) → IsStepped old new
     → view new ≡ record { tables = new.running.now.tables; heap = (view old).heap; spent = (view old).spent + 1; cursor = (view old).cursor; limit = (view old).limit; frames = (view old).frames }
 stepped-view old new h = ap view h.rest
     ∙ ap₂ (λ (heap : Contents)
-        (n : ℕ). record { tables = new.running.now.tables; heap = heap; spent = n; cursor = (view old).cursor; limit = (view old).limit; frames = (view old).frames }) h.heap h.spent
+    (n : ℕ). record { tables = new.running.now.tables; heap = heap; spent = n; cursor = (view old).cursor; limit = (view old).limit; frames = (view old).frames }) h.heap h.spent
 
 pub cursor-kept : (old new : Repair) → IsStepped old new → new.cursor.0 ≡ old.cursor.0
 cursor-kept old new h = ap (λ (r : Repair). r.cursor.0) h.rest

@@ -56,7 +56,7 @@ module _ (code : Code) (inputs : List Block) (f : ℕ) (args : List Word) (fits 
   pub first-over : (fuel : ℕ) → fuel < v.spent → fresh code f args inputs fuel ≡ None
   first-over fuel more =
       laws.first_over inputs f args fits
-          (running_at (state_at code inputs v now.course.store now.course.made) st now.waits (forest_of (entries now.left ++ now.tail))) now.course.made now.course.out now.course.comes
+      (running_at (state_at code inputs v now.course.store now.course.made) st now.waits (forest_of (entries now.left ++ now.tail))) now.course.made now.course.out now.course.comes
       now.course.given.distinct fuel more
 
   module _ (over : next_step code (words_of code inputs v.heap) st ≡ Over) (frames : v.frames ≡ []) where
@@ -99,7 +99,7 @@ module _ (code : Code) (inputs : List Block) (f : ℕ) (args : List Word) (fits 
         let distinct = subst (λ es. Distinct (stamps_in es)) nodes-front now.placed.kept.step.whole.order.distinct in
         let at : position v.cursor v.tables.trace.nodes ≡ length now.placed.done =
         ap (position v.cursor) nodes-front
-            ∙ (ap (λ s. position s front) (sym now.placed.cursor) ∙ position-part now.placed.last [] now.placed.done (not_before now.placed.done now.placed.last [] distinct)) in
+        ∙ (ap (λ s. position s front) (sym now.placed.cursor) ∙ position-part now.placed.last [] now.placed.done (not_before now.placed.done now.placed.last [] distinct)) in
         let here = subst (λ es. has_node r es ≡ true) nodes-front (has-read r v.tables.trace.nodes (now.placed.kept.step.queued r i)) in
         let far : position r v.tables.trace.nodes < length front = subst (λ es. position r es < length front) (append-nil front ∙ sym nodes-front) (position-within r front [] here) in
         omega (arith, now.placed.late r i, at, far, length-more now.placed.done now.placed.last))
@@ -155,7 +155,7 @@ module _ (code : Code) (inputs : List Block) (f : ℕ) (args : List Word) (fits 
       → HasSlots run.heap → PaysFirst run → IsFirstRun code inputs f args fuel run
   first-done over few run tables spent rel slots paid =
       first-run code inputs f args fits laws over.stack (view r) (rw (same_code, same_inputs) at over.now) (rw (same_code, same_inputs) at over.over)
-          (ap (λ fs. frames_in (aside_in r.stack.now) (reverse fs)) over.last) run tables spent rel slots fuel few paid
+      (ap (λ fs. frames_in (aside_in r.stack.now) (reverse fs)) over.last) run tables spent rel slots fuel few paid
 
   pub first-out : Runs (first_start code inputs f args) r → fuel < (view r).spent → fresh code f args inputs fuel ≡ None
   first-out runs more = first-over code inputs f args fits laws (stack_in r.stack.now) (view r) (rw (same_code, same_inputs) at runs) fuel more

@@ -119,8 +119,15 @@ module _ (code : Code) (inputs : List Block) (f : ℕ) (args : List Word) (fits 
     comes = subst (λ m. ComesBy code (first_begins code inputs f args) m [] []) (sym same-machine) (chosen.begun (first_begins code inputs f args) [] refl);
     knows = subst (λ m. Knows code (length inputs) [] [] m) (sym same-machine) (knowing.first_begins inputs f args fits);
     same = λ p k. same-at p.block p.field k;
-    given = record { distinct = λ b. omega arith; apart = λ b i. refl; there = λ b i. no-block i; still = λ b i. no-block i; only =
-        λ b some. absurd (let no : false ≡ true = rw (empty.blocks (Core b)) at some in cc); few = inl (next-new v.heap empty) };
+    given = record {
+      distinct = λ b. omega arith;
+      apart = λ b i. refl;
+      there = λ b i. no-block i;
+      still = λ b i. no-block i;
+      only =
+          λ b some. absurd (let no : false ≡ true = rw (empty.blocks (Core b)) at some in cc);
+      few = inl (next-new v.heap empty);
+    };
   }
 
   -- the unit of the call runs after the root, with nothing left over
@@ -133,7 +140,7 @@ cursor-first nodes cursor e h = let first : Some 0 ≡ Some cursor = rw e at h i
 -- so it is with the repair that begins with a run at its beginning
 module _ (code : Code) (inputs : List Block) (f : ℕ) (args : List Word) (fits : Fits code inputs f args) (chosen : ChosenLaws code) (knowing : KnowingLaws code) (run : Running)
     (nodes : run.tables.trace.nodes ≡ new_entry 0 Root ∷ []) (queue : run.tables.stale.stamps ≡ []) (kept : Kept run.tables) (empty : IsNew run.heap)
-        (has : HasBases code.structs inputs run.heap run.tables.mods)
+    (has : HasBases code.structs inputs run.heap run.tables.mods)
     (spent : run.spent ≡ 0) where
   pub begun : (r : Repair) → code_of r ≡ code → inputs_of r ≡ inputs → (view r).tables ≡ run.tables → (view r).heap ≡ run.heap → (view r).spent ≡ run.spent → (view r).frames ≡ []
       → (view r).limit ≡ None
@@ -141,5 +148,5 @@ module _ (code : Code) (inputs : List Block) (f : ℕ) (args : List Word) (fits 
   begun r same_code same_inputs tables heap work frames limit stack cursor =
       rw (same_code, same_inputs, stack)
       (starts code inputs f args fits chosen knowing (view r) (rw tables nodes) (rw tables queue) (rw tables kept) (rw heap empty) (rw (tables, heap) has) (rw work spent)
-          (cursor-first run.tables.trace.nodes (view r).cursor nodes cursor)
+      (cursor-first run.tables.trace.nodes (view r).cursor nodes cursor)
       limit frames)

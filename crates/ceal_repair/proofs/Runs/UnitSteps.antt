@@ -171,7 +171,7 @@ module _ (code : Code) (inputs : List Block) (start : Start) (v : View) (front :
       let old : Machine = m (state_at code inputs v c.store (start.chosen ++ c.made)) in
       let new : Machine = m' (state_at code inputs v' store' (start.chosen ++ c.made)) in
       let g : GoesKnowing code (length inputs) start.old (known_after [] items) w new =
-          (knowing-law code).turns (λ k. 0) (length inputs) start.old (known_after [] items) old new w c.knows (t (λ k. 0)) (inl number) in
+      (knowing-law code).turns (λ k. 0) (length inputs) start.old (known_after [] items) old new w c.knows (t (λ k. 0)) (inl number) in
       let k : KnownItems (length inputs) [] (items ++ w) g.known = known-items-append c.mentions g.items in
       let after : g.known ≡ known_after [] (items ++ w) = known-items-after k in
       record {
@@ -210,7 +210,7 @@ module _ (code : Code) (inputs : List Block) (start : Start) (st : Stack) (v : V
         (item.Step ∷ []) now.course.store (forest-step now.placed.done now.placed.last)
         (λ names. rw does refl) refl
         (λ p k. now.course.same p (subst (λ bs. KnownBlock (length inputs) bs p.block)
-            (ap (known_after []) (forest-step now.placed.done now.placed.last) ∙ known-append [] (forest_of (through now.placed.done now.placed.last)) (item.Step ∷ [])) k)
+        (ap (known_after []) (forest-step now.placed.done now.placed.last) ∙ known-append [] (forest_of (through now.placed.done now.placed.last)) (item.Step ∷ [])) k)
         ∙ (sym (ap (λ (f : Store). f p) (contents-step (base_in v.tables.mods) now.placed.done now.placed.last))
         ∙ ap (λ d. contents_after (base_in d) (through now.placed.done (more now.placed.last)) p) (sym h.mods)))
         now.course.given;

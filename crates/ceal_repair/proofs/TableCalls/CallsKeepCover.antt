@@ -151,7 +151,7 @@ write-cut-chained front e back nodes p v was is distinct mods new base t q q' mo
     go (inl same) = chained-base (queue_of q') (base_in mods) (base_in new) (front ++ back) (λ x. sym (base x))
         (write-idle (queue_of q) (queue_of q') (base_in mods) front back e.stamp e.steps p v (keeps-among q q' front (λ z i. more z)) (keeps-among q q' back (λ z i. more z))
         (front-held (queue_of q) (base_in mods) front (record { stamp = e.stamp; node = Write p v; steps = e.steps } ∷ back)
-            (λ z i. is-queued z q false (none-in-front front e back nodes was distinct q first z i)) c' p ∙ same) c')
+        (λ z i. is-queued z q false (none-in-front front e back nodes was distinct q first z i)) c' p ∙ same) c')
     go (inr woken) = chained-base (queue_of q') (base_in mods) (base_in new) (front ++ back) (λ x. sym (base x))
         (write-removed (queue_of q) (queue_of q') (base_in mods) front back e.stamp e.steps p v (keeps-among q q' front (λ z i. more z)) (keeps-among q q' back (λ z i. more z))
         (awake-cut front e back nodes was distinct new p q' t woken) c')

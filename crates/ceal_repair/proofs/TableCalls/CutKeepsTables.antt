@@ -68,7 +68,7 @@ pub read-there : (old : Tables) → InStep old → (s : ℕ) (p : Place) (v : Wo
 read-there old k s p v r =
     let c = part-at s (Read p v r.unit r.var r.args) old.trace.nodes r.is in
     subst (λ z. is_in z (cell_of old.mods p).reads ≡ true) c.stamp
-        (read-listed c.front c.e c.back p v r.unit r.var r.args c.node old.mods (subst (λ (l : List Entry). IsTabled l old.mods) c.was k.tabled))
+    (read-listed c.front c.e c.back p v r.unit r.var r.args c.node old.mods (subst (λ (l : List Entry). IsTabled l old.mods) c.was k.tabled))
 
 pub by-queue : {X : Type 0} (r : ℕ) (q : List ℕ) → (is_in r q ≡ true → X) → (is_in r q ≡ false → X) → X
 by-queue {X} r q f g = go (is_in r q) refl
@@ -177,13 +177,13 @@ module _ (old : Tables) (k : Kept old) (s : ℕ) (n : Node) (at_it : node_at s o
         let inside = in_order r stale.stamps (stamps_in old.trace.nodes) qf i in
         let z-in = there-before z (stamps_in old.trace.nodes) (let b = place_below s (stamps_in old.trace.nodes) here in omega (arith, lt, b)) in
         let z-not : z ≢ s = λ w. absurd (let no : place s (stamps_in old.trace.nodes) < place s (stamps_in old.trace.nodes) =
-            subst (λ y. place y (stamps_in old.trace.nodes) < place s (stamps_in old.trace.nodes)) w lt in omega (arith, no)) in
+        subst (λ y. place y (stamps_in old.trace.nodes) < place s (stamps_in old.trace.nodes)) w lt in omega (arith, no)) in
         by-queue r old.stale.stamps
         (λ j. behind-cut s (stamps_in tr.nodes) (stamps_in old.trace.nodes) more.stamps z r z-in inside z-not
         (λ w. absurd (let no : true ≡ false = sym j ∙ (ap (λ y. is_in y old.stale.stamps) w ∙ unqueued (rw e refl)) in cc)) (late r j))
         (λ j. behind-cut s (stamps_in tr.nodes) (stamps_in old.trace.nodes) more.stamps z r z-in inside z-not
         (λ w. absurd (let no : place s (stamps_in old.trace.nodes) < place s (stamps_in old.trace.nodes) =
-            subst (λ y. place s (stamps_in old.trace.nodes) < place y (stamps_in old.trace.nodes)) w (ahead r j i) in omega (arith, no)))
+        subst (λ y. place s (stamps_in old.trace.nodes) < place y (stamps_in old.trace.nodes)) w (ahead r j i) in omega (arith, no)))
         (let a = ahead r j i in omega (arith, a, lt)))
 
     pub write-cut-kept : (stale : Waiting) → ((t : ℕ) → is_in t old.stale.stamps ≡ true → is_in t stale.stamps ≡ true)
@@ -244,7 +244,7 @@ tells (Write q w) = false
 
 module _ (old : Tables) (k : Kept old) (s z : ℕ) (p : Place) (v : Word) (r : Records p v (node_at s old.trace.nodes)) (fin : end_in s old.trace.nodes ≡ Some z)
     (one two : Timeline) (is1 : one.nodes ≡ without_entry s old.trace.nodes) (more1 : OneMoreNode s one.nodes old.trace.nodes) (is2 : two.nodes ≡ without_entry z one.nodes)
-        (more2 : OneMoreNode z two.nodes one.nodes)
+    (more2 : OneMoreNode z two.nodes one.nodes)
     (whole1 : IsTrace one) (mods : Contents) (change : Changes old.mods mods p (without_read s (cell_of old.mods p)))
     (memo : Entered) (entered : Holds memo (without_key s (entries_in old.trace.nodes))) where
   read-part : PartAt s (Read p v r.unit r.var r.args) old.trace.nodes
@@ -328,9 +328,9 @@ module _ (old : Tables) (k : Kept old) (s z : ℕ) (p : Place) (v : Word) (r : R
         let inside = in_order r stale.stamps (stamps_in old.trace.nodes) qf i in
         let y-in = there-before y (stamps_in old.trace.nodes) (let b = place_below z (stamps_in old.trace.nodes) z-here in omega (arith, lt, b, far)) in
         let y-s : y ≢ s = λ w. absurd (let no : place s (stamps_in old.trace.nodes) < place s (stamps_in old.trace.nodes) =
-            subst (λ x. place x (stamps_in old.trace.nodes) < place s (stamps_in old.trace.nodes)) w lt in omega (arith, no)) in
+        subst (λ x. place x (stamps_in old.trace.nodes) < place s (stamps_in old.trace.nodes)) w lt in omega (arith, no)) in
         let y-z : y ≢ z = λ w. absurd (let no : place z (stamps_in old.trace.nodes) < place s (stamps_in old.trace.nodes) =
-            subst (λ x. place x (stamps_in old.trace.nodes) < place s (stamps_in old.trace.nodes)) w lt in omega (arith, no, far)) in
+        subst (λ x. place x (stamps_in old.trace.nodes) < place s (stamps_in old.trace.nodes)) w lt in omega (arith, no, far)) in
         let r-s : r ≢ s = λ w. absurd (let no : true ≡ false = sym i ∙ (ap (λ x. is_in x stale.stamps) w ∙ none) in cc) in
         let r-z : r ≢ z = λ w. absurd (let no : true ≡ false = sym i ∙ (ap (λ x. is_in x stale.stamps) w ∙ end-none) in cc) in
         let a = ahead r i in
@@ -359,10 +359,10 @@ module _ (old : Tables) (k : Kept old) (s z : ℕ) (p : Place) (v : Word) (r : R
           (quiet-cut (queue_of stale.stamps) (base_in old.mods) end-part.front end-part.e end-part.back (end-as (stamp-of s) end-part.e.node end-part.node)
           (subst (λ (l : List Entry). Chained (queue_of stale.stamps) (base_in old.mods) l) (sym left1 ∙ end-part.was)
           (read-cut-chained read-part.front read-part.e read-part.back old.trace.nodes p v r.unit r.var r.args read-part.was read-part.node k.step.whole.order.distinct old.mods k.step.tabled
-              old.stale.stamps stale.stamps
+          old.stale.stamps stale.stamps
           (λ t ne. keep t (λ e. ne (e ∙ sym read-part.stamp)))
           (λ i. subst (λ y. IsAwake (stamps_in old.trace.nodes) (cell_of old.mods p) y stale.stamps) (sym read-part.stamp)
-              (awake (subst (λ y. is_in y old.stale.stamps ≡ true) read-part.stamp i))) k.chained))));
+          (awake (subst (λ y. is_in y old.stale.stamps ≡ true) read-part.stamp i))) k.chained))));
     }
 
 -- ---- a read is looked at
@@ -425,7 +425,7 @@ module _ (old : Tables) (k : InStep old) (s : ℕ) (p : Place) (v now : Word) (r
       };
       chained = chained-base (queue_of old.stale.stamps) (base_in old.mods) (base_in mods) old.trace.nodes bases
           (honest-chained look-part.front look-part.e look-part.back old.trace.nodes p v r.unit r.var r.args look-part.was look-part.node k.whole.order.distinct old.stale.stamps
-              (base_in old.mods) own-first (now-front ∙ sym same) own-chained);
+          (base_in old.mods) own-first (now-front ∙ sym same) own-chained);
     }
 
     -- or gets it
@@ -462,7 +462,7 @@ module _ (old : Tables) (k : InStep old) (s : ℕ) (p : Place) (v now : Word) (r
         settled = chained-base (queue_of stale.stamps) (base_in old.mods) (base_in mods)
             (look-part.front ++ record { stamp = look-part.e.stamp; node = Read p now r.unit r.var r.args; steps = look-part.e.steps } ∷ look-part.back) bases
             (settled-chained look-part.front look-part.e look-part.back old.trace.nodes p v now r.unit r.var r.args look-part.was look-part.node k.whole.order.distinct old.mods k.tabled
-                old.stale.stamps stale.stamps more
+            old.stale.stamps stale.stamps more
             (subst (λ z. IsAwake (stamps_in old.trace.nodes) (cell_of old.mods p) z stale.stamps) (sym look-part.stamp) awake) own-first now-front own-chained)
 
         reads-as : (q : Place) (i : Node) → i ≡ Read p v r.unit r.var r.args → reads_at q (Read p now r.unit r.var r.args) ≡ reads_at q i

@@ -81,13 +81,13 @@ module _ (f : Node → Bool) (front mid : List Entry) (u : Entry) (later : List 
   at-mid : (t : ℕ) → is_in t (stamps_in mid) ≡ true → place t (stamps_in nodes) ≡ length (stamps_in front) + place t (stamps_in mid)
   at-mid t i = rw order-is
       (let a = place-back t (stamps_in front) (stamps_in mid ++ stamps_in (u ∷ later))
-          (back-apart (stamps_in front) (stamps_in mid ++ stamps_in (u ∷ later)) parts t (in-front (stamps_in mid) (stamps_in (u ∷ later)) t i)) in
+      (back-apart (stamps_in front) (stamps_in mid ++ stamps_in (u ∷ later)) parts t (in-front (stamps_in mid) (stamps_in (u ∷ later)) t i)) in
       let b = place-front t (stamps_in mid) (stamps_in (u ∷ later)) i in omega (arith, a, b))
 
   at-later : (t : ℕ) → is_in t (stamps_in (u ∷ later)) ≡ true → place t (stamps_in nodes) ≡ length (stamps_in front) + (length (stamps_in mid) + place t (stamps_in (u ∷ later)))
   at-later t i = rw order-is
       (let a = place-back t (stamps_in front) (stamps_in mid ++ stamps_in (u ∷ later))
-          (back-apart (stamps_in front) (stamps_in mid ++ stamps_in (u ∷ later)) parts t (in-back (stamps_in mid) (stamps_in (u ∷ later)) t i)) in
+      (back-apart (stamps_in front) (stamps_in mid ++ stamps_in (u ∷ later)) parts t (in-back (stamps_in mid) (stamps_in (u ∷ later)) t i)) in
       let b = place-back t (stamps_in mid) (stamps_in (u ∷ later)) (back-apart (stamps_in mid) (stamps_in (u ∷ later)) rest t i) in omega (arith, a, b))
 
   at-until : place u.stamp (stamps_in nodes) ≡ length (stamps_in front) + length (stamps_in mid)

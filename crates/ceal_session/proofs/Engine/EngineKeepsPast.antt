@@ -248,7 +248,7 @@ module _ (e e' : EngineState) (call : Call) (code : e'.code ≡ e.code) (fuel : 
       let c : h.call ≡ call = some-same h.call call (sym h.called ∙ called) in
       let sound : RepairHolds e.code own e.inputs call.function call.args r =
       subst (λ (c : Call). RepairHolds e.code own e.inputs c.function c.args r) c
-          (subst (λ (i : List Block). RepairHolds e.code own i h.call.function h.call.args r) inputs (subst (λ (d : Code). RepairHolds d own e'.inputs h.call.function h.call.args r) code h.sound)) in
+      (subst (λ (i : List Block). RepairHolds e.code own i h.call.function h.call.args r) inputs (subst (λ (d : Code). RepairHolds d own e'.inputs h.call.function h.call.args r) code h.sound)) in
       let carried : Carried e.code e.inputs 0 r (carried_by e' h.items) =
       subst (λ (i : List Block). Carried e.code i 0 r (carried_by e' h.items)) inputs (subst (λ (d : Code). Carried d e'.inputs 0 r (carried_by e' h.items)) code h.carried) in
       let same : SamePast e.code e.inputs call.function call.args (Going r) (Going (carried_by e' h.items)) = SamePast.going sound carried in
@@ -323,7 +323,7 @@ module _ (e e' : EngineState) (k : IsEngine e) (call : Call) (fit : Fits e.code 
       slice = λ p of same. let n = next p of same in let g : SliceContinues e e' reads 0 n.repair = comes 0 n.repair n.carries in (g.repair, slice-is p n ∙ g.is, g.more);
       makes = λ p of same. let n = next p of same in let g : SliceContinues e e' reads 0 n.repair = comes 0 n.repair n.carries in
           subst (λ o. SamePast e.code e.inputs call.function call.args (left o) (past_of e')) (sym (slice-is p n ∙ g.is))
-              (after-part e e' call code fuel inputs called fit g.repair phase g.more g.carries);
+          (after-part e e' call code fuel inputs called fit g.repair phase g.more g.carries);
     }
     brought-on (Ok Done) phase present comes more out dropped = record {
       code = code;
@@ -336,7 +336,7 @@ module _ (e e' : EngineState) (k : IsEngine e) (call : Call) (fit : Fits e.code 
       slice = λ p of same. let n = next p of same in let g : SliceEnds e e' reads 0 n.repair = comes 0 n.repair n.carries in (g.repair, slice-is p n ∙ g.is, g.done);
       makes = λ p of same. let n = next p of same in let g : SliceEnds e e' reads 0 n.repair = comes 0 n.repair n.carries in
           subst (λ o. SamePast e.code e.inputs call.function call.args (left o) (past_of e')) (sym (slice-is p n ∙ g.is))
-              (after-done e e' call code fuel inputs called fit reads n.repair (ap is_whole phase) (present (λ i. absurd (grind (arith, i)))) g);
+          (after-done e e' call code fuel inputs called fit reads n.repair (ap is_whole phase) (present (λ i. absurd (grind (arith, i)))) g);
     }
     brought-on (Ok Anew) phase present comes more out dropped = record {
       code = code;
@@ -349,7 +349,7 @@ module _ (e e' : EngineState) (k : IsEngine e) (call : Call) (fit : Fits e.code 
       slice = λ p of same. let n = next p of same in let g : IsAnew e e' reads n.repair = comes 0 n.repair n.carries in slice-is p n ∙ g.none;
       makes = λ p of same. let n = next p of same in let g : IsAnew e e' reads n.repair = comes 0 n.repair n.carries in
           subst (λ o. SamePast e.code e.inputs call.function call.args (left o) (past_of e')) (sym (slice-is p n ∙ g.none))
-              (after-first e e' call code fuel inputs called fit (ap is_whole phase) (present (λ i. absurd (grind (arith, i)))) g.first);
+          (after-first e e' call code fuel inputs called fit (ap is_whole phase) (present (λ i. absurd (grind (arith, i)))) g.first);
     }
     brought-on (Err OutOfFuel) phase present comes more out dropped = record {
       code = code;

@@ -79,7 +79,7 @@ module _ (code : Code) (inputs : List Block) (f : ℕ) (args : List Word) (fits 
   next-sound (Traced l) h r e =
       subst (RepairHolds code own inputs f args) (some-same (beginning code inputs l.items (above l.items)) r e)
       (begin-law code own inputs inputs f args l.items (above l.items) (above l.items) (edited-so code inputs f args fits l.items h (above l.items) (is-above l.items)) own-single
-          (λ j i. is-above l.items j i))
+      (λ j i. is-above l.items j i))
   next-sound (Going q) h r e = subst (RepairHolds code own inputs f args) (some-same q r e) h
 
   -- what the past after a run is, by the run from scratch: none where that is out of fuel, a trace that is honest, or a

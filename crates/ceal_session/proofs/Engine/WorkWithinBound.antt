@@ -106,9 +106,11 @@ module _ (code : Code) (s : State) (call : Call) (now : Fits code s.inputs call.
         let replays = (done-law code own s.inputs call.function call.args now r sound honest).replays in
         let ends = first-ends code s.inputs call.function call.args now s.fuel b f in
         let few = few-steps code s.inputs call.function call.args now s.fuel r.items replays honest ends.0 ends.1 in
-        let k = bound-law code s.settled s.inputs call.function call.args l.items (above l.items) s.fuel x.repaired edited t.honest t.few x.is (subst (λ y. steps_of y ≤ s.fuel) x.items few) in
-        (subst (λ n. n ≤ first_cost code s.fuel s.settled s.inputs call.function call.args) (sym x.work) k.0, subst
-            (λ y. first_cost code s.fuel s.settled s.inputs call.function call.args ≤ steps_of y) (sym x.items) k.1)
+        let k = bound-law code s.settled s.inputs call.function call.args l.items (above l.items) s.fuel x.repaired edited t.honest t.few x.is (subst (λ y. steps_of y ≤ s.fuel) x.items few) in (
+          subst (λ n. n ≤ first_cost code s.fuel s.settled s.inputs call.function call.args) (sym x.work) k.0,
+          subst
+              (λ y. first_cost code s.fuel s.settled s.inputs call.function call.args ≤ steps_of y) (sym x.items) k.1,
+        )
 
     -- slices one after another that end with a repair that is done are the whole repair
     of-slices : (o : Option ℕ) (r : Repair) → Slices code own s.inputs o next r → r.spent ≤ s.fuel → is_done code s.inputs r ≡ true → (b : Repaired) → first ≡ Some b

@@ -153,5 +153,5 @@ module _ (p : Typed) (names : List (List ℕ)) (e : EngineState) (j : JournalSta
       let r : IsGraphText e.code.structs (block_at g.run.memory) (label names) (Input n) text =
       same e.code.structs (label names) (renamed_id g.is.numbers) (stored_at e.memory) (block_at g.run.memory) (Input n) text (renaming e g.run g.is) (whole-engine e k finished fitting) there t' in
       let s : IsGraphText p.structs (block_at g.run.memory) (label names) (Input n) text =
-          subst (λ structs. IsGraphText structs (block_at g.run.memory) (label names) (Input n) text) (same-structs p e.code h.compiled.code) r in
+      subst (λ structs. IsGraphText structs (block_at g.run.memory) (label names) (Input n) text) (same-structs p e.code h.compiled.code) r in
       rw g.fresh s

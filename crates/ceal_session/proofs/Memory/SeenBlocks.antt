@@ -168,7 +168,7 @@ module _ (e : EngineState) (k : IsEngine e) (law : ProgressLaw) where
         let l : field < length sb.block.words = some-in (slice_get sb.block.words field) sb.block.words refl some-word in
         let g = got (kinds_of_shape e.code.structs sb.block.shape) field (subst (λ n. field < n) n l) in
         let s : kind_in e.code.structs (block_in e b) field ≡ Some g.0 =
-            ap (λ o. kind_in e.code.structs o field) sb.shown.there ∙ ap (λ s. slice_get (kinds_of_shape e.code.structs s) field) sb.shown.shape ∙ g.1 in
+        ap (λ o. kind_in e.code.structs o field) sb.shown.there ∙ ap (λ s. slice_get (kinds_of_shape e.code.structs s) field) sb.shown.shape ∙ g.1 in
         cell-else (kind_in e.code.structs (block_in e b) field) (ap is_some s) p
 
 pub seen-same : (e : EngineState) → e.phase ≡ IsFinished → shown_blocks e ≡ stored_at e.memory

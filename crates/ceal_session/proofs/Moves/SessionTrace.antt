@@ -44,7 +44,7 @@ module _ (p : Typed) (names : List (List ℕ)) (e : EngineState) (j : JournalSta
   of-trace w l is call called =
       let s : IsSettledOn e (settled_of e j) call = subst (λ o. IfSome o (IsSettledOn e (settled_of e j))) called (h.settled (whole-runs e.phase w)) in
       let was : WasHonest e (settled_of e j) call l =
-          subst (λ o. IfSome o (WasHonest e (settled_of e j) call)) is (subst (λ o. IfSome o (λ c. IfSome (trace e) (WasHonest e (settled_of e j) c))) called (h.was w)) in
+      subst (λ o. IfSome o (WasHonest e (settled_of e j) call)) is (subst (λ o. IfSome o (λ c. IfSome (trace e) (WasHonest e (settled_of e j) c))) called (h.was w)) in
       record {
         now = fits-of e k call called;
         was = s.run.fits;

@@ -81,7 +81,7 @@ module _ (progress : ProgressLaw) (line_law : LineLaw) (whole_law : WholeLaw) (t
           slice-left code s call now was st.settled l h reads next (reaches-next code s call now was st.settled l h) m.bound (sliced code own s.inputs reads s.fuel next) refl
       of-past (Going r) h k =
           slice-left code s call now was st.settled k.trace k.is reads r (reaches-slice code s call now was st.settled k.trace k.is k.reads r k.slices) m.bound
-              (sliced code own s.inputs reads s.fuel r) refl
+          (sliced code own s.inputs reads s.fuel r) refl
 
       left : IsLeft code s call past bound
       left = elim (before-line progress line_law whole_law text_law m st call a) [

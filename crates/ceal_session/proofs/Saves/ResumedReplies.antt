@@ -152,7 +152,7 @@ resumed-law renaming alike program m s st code typed allowed h =
           subst (λ c. IsIn (situation_of_save program.typed c s t) m) code (subst (λ p. IsIn (situation_of_save p m.code s t) m) typed (resumed-in renaming m s st allowed h)) in
           let a = held program s compiled holds in
           let stands : IsConsistent (situation_of_save program.typed program.code s t) =
-              subst (λ l. IsConsistent (situation_of_save program.typed program.code s l)) (same-trace s.kept.forest a.0 t a.1 h.kept.is.items) a.2 in
+          subst (λ l. IsConsistent (situation_of_save program.typed program.code s l)) (same-trace s.kept.forest a.0 t a.1 h.kept.is.items) a.2 in
           let r = alike (situation_of_save program.typed program.code s t) m end lines out stands there leads in
           (r.0, r.1, r.3)
           );

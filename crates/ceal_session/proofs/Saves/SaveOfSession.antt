@@ -47,9 +47,9 @@ module _ (renamed : RenamedLaw) (session m : Situation) (h : IsIn session m) whe
       let called : m.state.call ≡ Some k.call = ap (λ (x : State). x.call) (sym h.state) ∙ k.called in
       let there : session.code ≡ m.code = h.code in
       let of : IsTraceOf m.code m.state.inputs k.call k.run.items =
-          subst (λ c. IsTraceOf c m.state.inputs k.call k.run.items) there (subst (λ (x : State). IsTraceOf session.code x.inputs k.call k.run.items) h.state k.of) in
+      subst (λ c. IsTraceOf c m.state.inputs k.call k.run.items) there (subst (λ (x : State). IsTraceOf session.code x.inputs k.call k.run.items) h.state k.of) in
       let is : IsRecordOf m.code m.state.inputs k.call k.run.items r =
-          subst (λ c. IsRecordOf c m.state.inputs k.call k.run.items r) there (subst (λ (x : State). IsRecordOf session.code x.inputs k.call k.run.items r) h.state k.is) in
+      subst (λ c. IsRecordOf c m.state.inputs k.call k.run.items r) there (subst (λ (x : State). IsRecordOf session.code x.inputs k.call k.run.items r) h.state k.is) in
       let same : SamePast m.code m.state.inputs k.call.function k.call.args m.past session.past = subst (λ o. IsSamePast m.code m.state.inputs o m.past session.past) called h.past in
       let g = same-traced same k.run (traced-in session.past k.run k.traced) in
       by-trace r (subst IsReady h.state k.ready) k.call called of.fits g.run k.run g.renamed g.is is

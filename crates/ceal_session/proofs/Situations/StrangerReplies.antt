@@ -272,7 +272,7 @@ module _ (facts : FactsLaw) (calls : CallLaw) (command_law : OneCommandLaw) (ans
               | inr (i, k) ↦
                   let none = subst (λ o. BesideIn code s.inputs o p q) i near.past in
                   subst (λ (x : Past). Beside code s.inputs call.function call.args x q) (sym none.0)
-                      (subst (λ (x : Past). Beside code s.inputs call.function call.args NoTrace x) (sym none.1) Beside.none)
+                  (subst (λ (x : Past). Beside code s.inputs call.function call.args NoTrace x) (sym none.1) Beside.none)
             ]
 
         next : NextAs code s.inputs call.function call.args there.fits (next_repair code s.inputs p) (next_repair code s.inputs q)
@@ -413,7 +413,7 @@ first-trace : (code : Code) (s : Save) → Fits code s.kept.inputs s.kept.functi
     → first_of code s.kept.inputs s.fuel s.kept.function s.kept.args ≡ Some a → IsFirstTrace code s a
 first-trace code s fits a e =
     go (first_of code s.kept.inputs s.fuel s.kept.function s.kept.args) (fresh code s.kept.function s.kept.args s.kept.inputs s.fuel) e
-        (first-law code s.kept.inputs s.kept.function s.kept.args fits s.fuel)
+    (first-law code s.kept.inputs s.kept.function s.kept.args fits s.fuel)
   where
     go : (o : Option Repaired) (p : Option Finished) → o ≡ Some a → FirstOutcome code s.kept.inputs s.kept.function s.kept.args o p → IsFirstTrace code s a
     go _ _ i FirstOutcome.none = none-some a i
@@ -467,5 +467,5 @@ stranger facts calls command_law answer alike program s trace compiled h items l
       stands = subst (λ (q : Past). IsConsistent (at code (saved_state program.typed s) q (steps_in s.kept.forest))) (sym (ap first_past t.is)) right;
       alike = subst (λ (q : Past). AreAlike (situation_of_save program.typed code s trace) (at code (saved_state program.typed s) q (steps_in s.kept.forest)) lines) (sym (ap first_past t.is))
           (are-alike facts calls command_law answer alike code (saved_state program.typed s) (Traced (record { items = trace; work = s.work })) (Traced t.first) s.bound
-              (steps_in s.kept.forest) near lines);
+          (steps_in s.kept.forest) near lines);
     }

@@ -19,13 +19,13 @@ steps_at-requires c = record {
 pub next-next-requires : goal.next-next-requires
 next-next-requires c =
     rw c.order.ensures
-        (walk-there c.args.trace.now.nodes c.loop-node.items.items c.in-Some.stamp (subst (λ n. Walking c.args.trace.now.nodes c.loop-node.items.items n) c.in-Some.is c.loop-node.invariant))
+    (walk-there c.args.trace.now.nodes c.loop-node.items.items c.in-Some.stamp (subst (λ n. Walking c.args.trace.now.nodes c.loop-node.items.items n) c.in-Some.is c.loop-node.invariant))
 
 pub loop-node-preserved : goal.loop-node-preserved
 loop-node-preserved c =
     walk-more c.args.trace.now.nodes c.root.ensures.whole.order.distinct c.loop-node.items.items c.in-Some.stamp
     (subst (λ n. Walking c.args.trace.now.nodes c.loop-node.items.items n) c.in-Some.is c.loop-node.invariant)
-        (seen c.node.result) c.node.ensures.node c.steps_at.result c.steps_at.ensures c.next-next.result
+    (seen c.node.result) c.node.ensures.node c.steps_at.result c.steps_at.ensures c.next-next.result
     (rw c.order.ensures at c.next-next.ensures.next) (rw c.order.ensures at c.next-next.ensures.last) c.push_node.new.items.items c.push_steps.new.items.items c.in_ok-push_node-in-Some.ensures
     c.in_ok-push_steps-in-Some.ensures
 

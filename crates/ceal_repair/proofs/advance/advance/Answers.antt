@@ -33,7 +33,7 @@ returns-clause-sliced c = λ f args r part.
     let same : c.turns.new.self.running.now ≡ c.running-1.given.0 = search (rules, e.place, t.call.place) in
     let come = begun-in code inputs f args c.args.fuel r c.args.running.now part c.at_root-repair.result e.code e.inputs e.view e.heap e.spent in
     let ended = subst (λ z. Propagated c.in_ok-progress.progress code inputs f args c.args.reads c.args.fuel o c.args.running.now z) same
-        (rw (e.code, e.inputs) at (t.ended f args o c.args.running.now come)) in
+    (rw (e.code, e.inputs) at (t.ended f args o c.args.running.now come)) in
     let few : c.in_ok-progress.progress ≢ Spent → c.running-1.given.0.spent ≤ c.args.fuel = λ n. subst (λ (z : Running). z.spent ≤ c.args.fuel) same (t.within n (omega (arith, part.few, e.spent))) in
     is-sliced code inputs f args c.args.fuel r c.args.running.now part c.in_ok-progress.progress c.args.running.now c.running-1.given.0 c.args.reads c.requires.some few ended
 
@@ -47,7 +47,7 @@ returns-clause-repaired c = λ f args l kept none.
     let same : c.turns.new.self.running.now ≡ c.running-1.given.0 = search (rules, e.place, t.call.place) in
     let come = has-come-in code inputs f args c.args.fuel l c.args.running.now kept c.at_root-repair.result e.code e.inputs e.view e.heap (e.spent ∙ none) in
     let ended = subst (λ z. Propagated c.in_ok-progress.progress code inputs f args c.args.reads c.args.fuel o c.args.running.now z) same
-        (rw (e.code, e.inputs) at (t.ended f args o c.args.running.now come)) in
+    (rw (e.code, e.inputs) at (t.ended f args o c.args.running.now come)) in
     is-repaired code inputs f args c.args.reads c.args.fuel l c.args.running.now kept c.args.running.now c.running-1.given.0 c.in_ok-progress.progress ended
 
 pub returns-clause-front : goal.returns-clause-front
@@ -61,7 +61,7 @@ returns-clause-front c = λ n.
     let same : c.turns.new.self.running.now ≡ c.running-1.given.0 = search (rules, e.place, t.call.place) in
     let come = begun-in code inputs q.0 q.1 c.args.fuel q.2 c.args.running.now q.3 c.at_root-repair.result e.code e.inputs e.view e.heap e.spent in
     let ended = subst (λ z. Propagated c.in_ok-progress.progress code inputs q.0 q.1 c.args.reads c.args.fuel o c.args.running.now z) same
-        (rw (e.code, e.inputs) at (t.ended q.0 q.1 o c.args.running.now come)) in
+    (rw (e.code, e.inputs) at (t.ended q.0 q.1 o c.args.running.now come)) in
     front-stays code inputs q.0 q.1 c.args.reads c.args.fuel o c.args.running.now c.running-1.given.0 c.in_ok-progress.progress n ended
 
 pub returns-clause-pays : goal.returns-clause-pays
@@ -70,11 +70,11 @@ returns-clause-pays c =
     let t = c.in_ok-progress.ensures in
     let same : c.turns.new.self.running.now ≡ c.running-1.given.0 = search (rules, e.place, t.call.place) in
     pays-as c.at_root-repair.result.running.now c.args.running.now c.turns.new.self.running.now c.running-1.given.0 e.view e.spent (ap (λ (z : Running). z.tables) same)
-        (ap (λ (z : Running). z.spent) same) t.pays
+    (ap (λ (z : Running). z.spent) same) t.pays
 
 pub returns-in_err-progress-clause-sure : goal.returns-in_err-progress-clause-sure
 returns-in_err-progress-clause-sure c = λ f args r part honest.
     let e = c.at_root-repair.ensures in
     let come = begun-in c.args.code.now c.args.inputs.now f args c.args.fuel r c.args.running.now part c.at_root-repair.result e.code e.inputs e.view e.heap e.spent in
     absurd (let no : false ≡ true =
-        c.in_err-progress.ensures.sure f args (since c.args.code.now c.args.inputs.now f args c.args.fuel r c.args.running.now part) c.args.running.now come (rw (e.code, e.inputs) honest) in cc)
+    c.in_err-progress.ensures.sure f args (since c.args.code.now c.args.inputs.now f args c.args.fuel r c.args.running.now part) c.args.running.now come (rw (e.code, e.inputs) honest) in cc)

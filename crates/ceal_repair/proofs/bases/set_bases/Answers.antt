@@ -9,14 +9,14 @@ loop-field-preserved c = elim c.if-is_modifiable.branch [
       let e = w.in_ok-edit-in-Some.ensures in
       rw w.tables-is
       (setting-more c.args.structs.now c.args.id c.args.shape
-          (field-word c.args.structs.now c.args.shape c.args.words.now) c.args.tables.now c.loop-field.tables w.edit.new.self c.loop-field.field w.word_or_default-value.result c.requires.kept
+      (field-word c.args.structs.now c.args.shape c.args.words.now) c.args.tables.now c.loop-field.tables w.edit.new.self c.loop-field.field w.word_or_default-value.result c.requires.kept
       c.loop-field.invariant c.in-Some.kind (sym c.in-Some.is ∙ c.field_kind.ensures.value) (sym c.is_modifiable.ensures.value ∙ w.if-is_modifiable.true)
       (set-word c.args.structs.now c.args.shape c.args.words.now c.loop-field.field c.in-Some.kind w.word_or_default-value.result
-          (sym c.in-Some.is ∙ c.field_kind.ensures.value) w.word_or_default-value.ensures)
+      (sym c.in-Some.is ∙ c.field_kind.ensures.value) w.word_or_default-value.ensures)
       e.trace e.memo e.looked e.differed e.base e.only e.kept)
   | else-is_modifiable w ↦
       rw w.tables-is
       (setting-plain c.args.structs.now c.args.id c.args.shape
-          (field-word c.args.structs.now c.args.shape c.args.words.now) c.args.tables.now c.loop-field.tables c.loop-field.field c.loop-field.invariant c.in-Some.kind
+      (field-word c.args.structs.now c.args.shape c.args.words.now) c.args.tables.now c.loop-field.tables c.loop-field.field c.loop-field.invariant c.in-Some.kind
       (sym c.in-Some.is ∙ c.field_kind.ensures.value) (sym c.is_modifiable.ensures.value ∙ w.if-is_modifiable.false))
 ]

@@ -9,9 +9,9 @@ loop-field-preserved c = elim c.if-is_modifiable.branch [
       let e = w.set_unread.ensures in
       rw w.tables-is
       (placing-more c.args.structs.now c.args.input c.args.shape c.args.words.now c.args.tables.now c.loop-field.tables w.set_unread.new.tables c.loop-field.field w.word_or_default-value.result
-          c.requires.kept
+      c.requires.kept
       c.loop-field.invariant c.in-Some.kind (sym c.in-Some.is ∙ c.field_kind.ensures.value)
-          (sym c.is_modifiable.ensures.value ∙ w.if-is_modifiable.true) w.word_or_default-value.ensures e.trace e.memo e.looked e.differed e.queue e.base
+      (sym c.is_modifiable.ensures.value ∙ w.if-is_modifiable.true) w.word_or_default-value.ensures e.trace e.memo e.looked e.differed e.queue e.base
       e.others e.kept)
   | else-is_modifiable w ↦
       rw w.tables-is

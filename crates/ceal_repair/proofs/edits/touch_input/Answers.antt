@@ -9,11 +9,11 @@ loop-field-preserved c = elim c.if-is_modifiable.branch [
       let e = w.in_ok-touch-in-Some.ensures in
       rw w.tables-is
       (touching-more c.args.structs.now c.args.input c.args.shape c.args.tables.now c.loop-field.tables w.touch.new.tables c.loop-field.field c.loop-field.invariant e.trace e.cells e.touched e.others
-          e.looks e.kept)
+      e.looks e.kept)
   | else-is_modifiable w ↦
       rw w.tables-is
       (touching-plain c.args.structs.now c.args.input c.args.shape c.args.tables.now c.loop-field.tables c.loop-field.field c.loop-field.invariant c.in-Some.kind
-          (sym c.in-Some.is ∙ c.field_kind.ensures.value)
+      (sym c.in-Some.is ∙ c.field_kind.ensures.value)
       (sym c.is_modifiable.ensures.value ∙ w.if-is_modifiable.false))
 ]
 

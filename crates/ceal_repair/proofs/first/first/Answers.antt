@@ -11,7 +11,7 @@ complete-requires c =
     let r = c.at_root-repair.ensures in
     let e = c.in_ok-running.ensures in
     let runs = begun c.args.code.now c.args.inputs.now c.args.function c.args.args.now c.requires.fits (c.chosen_law.ensures.law c.args.code.now)
-        (c.known_law.ensures.law c.args.code.now) c.in_ok-running.running e.nodes e.queue
+    (c.known_law.ensures.law c.args.code.now) c.in_ok-running.running e.nodes e.queue
     e.kept e.heap e.bases e.spent c.at_root-repair.result r.code r.inputs r.view r.heap r.spent r.frames r.limit (r.stack ∙ c.in_ok-room.ensures.started) r.cursor in
     record { runs = (first_start c.args.code.now c.args.inputs.now c.args.function c.args.args.now, runs) }
 
@@ -20,7 +20,7 @@ returns-in-Ok-true c =
     let r = c.at_root-repair.ensures in
     let e = c.in_ok-running.ensures in
     let runs = begun c.args.code.now c.args.inputs.now c.args.function c.args.args.now c.requires.fits (c.chosen_law.ensures.law c.args.code.now)
-        (c.known_law.ensures.law c.args.code.now) c.in_ok-running.running e.nodes e.queue
+    (c.known_law.ensures.law c.args.code.now) c.in_ok-running.running e.nodes e.queue
     e.kept e.heap e.bases e.spent c.at_root-repair.result r.code r.inputs r.view r.heap r.spent r.frames r.limit (r.stack ∙ c.in_ok-room.ensures.started) r.cursor in
     let back : c.running-3-1.given.0 ≡ c.complete.new.repair.running.now = search (rules, r.place, c.in-Ok-true.ensures.call.place) in
     let done = rw c.in-Ok-true.field-0-test at (c.in-Ok-true.ensures.done (first_start c.args.code.now c.args.inputs.now c.args.function c.args.args.now) runs) in
@@ -28,11 +28,11 @@ returns-in-Ok-true c =
     record {
       first =
           first-done c.args.code.now c.args.inputs.now c.args.function c.args.args.now c.requires.fits (c.chosen_law.ensures.law c.args.code.now) c.complete.new.repair (same.code ∙ r.code)
-              (same.inputs ∙ r.inputs) c.args.fuel
+          (same.inputs ∙ r.inputs) c.args.fuel
           done.0 done.1 (record { tables = c.running-3-1.given.0.tables; heap = c.release_revoked.new.self; spent = c.running-3-1.given.0.spent }) (ap (λ (run : Running). run.tables) back)
           (ap (λ (run : Running). run.spent) back) (rw back at c.release_revoked.ensures.released) c.release_revoked.ensures.slots
           (first-pays c.in_ok-running.running e.nodes e.queue e.looks e.spent c.complete.new.repair.running.now
-              (record { tables = c.running-3-1.given.0.tables; heap = c.release_revoked.new.self; spent = c.running-3-1.given.0.spent }) c.at_root-repair.result.running.now r.view r.spent
+          (record { tables = c.running-3-1.given.0.tables; heap = c.release_revoked.new.self; spent = c.running-3-1.given.0.spent }) c.at_root-repair.result.running.now r.view r.spent
           (ap (λ (run : Running). run.tables) back) (ap (λ (run : Running). run.spent) back) c.in-Ok-true.ensures.pays);
     }
 
@@ -41,7 +41,7 @@ returns-in-Ok-false c =
     let r = c.at_root-repair.ensures in
     let e = c.in_ok-running.ensures in
     let runs = begun c.args.code.now c.args.inputs.now c.args.function c.args.args.now c.requires.fits (c.chosen_law.ensures.law c.args.code.now)
-        (c.known_law.ensures.law c.args.code.now) c.in_ok-running.running e.nodes e.queue
+    (c.known_law.ensures.law c.args.code.now) c.in_ok-running.running e.nodes e.queue
     e.kept e.heap e.bases e.spent c.at_root-repair.result r.code r.inputs r.view r.heap r.spent r.frames r.limit (r.stack ∙ c.in_ok-room.ensures.started) r.cursor in
     let done = rw c.in-Ok-false.field-0-test at (c.in-Ok-false.ensures.done (first_start c.args.code.now c.args.inputs.now c.args.function c.args.args.now) runs) in
     let same = c.in-Ok-false.ensures.call in

@@ -52,5 +52,5 @@ returns-in-Dropped c = record {
       (subst (λ a. IfSome a (λ call. Fits e.code e.inputs call.function call.args)) again c.phase.ensures.whole.call)
       o.ensures.keeps.code o.ensures.keeps.fuel o.ensures.keeps.inputs (o.ensures.keeps.call ∙ again) c.args.reads
       o.result (ap has_run dropped) o.ensures.phase o.ensures.present
-          (from-dropped (IsSomeAnd (trace o.new.self) (IsFirst o.new.self)) o.result e.phase dropped o.ensures.first) o.ensures.keeps.out_of_fuel o.ensures.keeps.dropped);
+      (from-dropped (IsSomeAnd (trace o.new.self) (IsFirst o.new.self)) o.result e.phase dropped o.ensures.first) o.ensures.keeps.out_of_fuel o.ensures.keeps.dropped);
 }

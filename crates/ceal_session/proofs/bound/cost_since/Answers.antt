@@ -37,6 +37,6 @@ returns c =
     subst (λ o. IfOk c.cost.result (λ n. n ≡ call_cost e.code e.fuel old e.inputs o)) (sym c.in-Some.ensures.value)
     (if-ok c.cost.result
     (λ n k. cost-is e.fuel (first_of e.code old e.fuel c.in-Some.function c.in-Some.args.now)
-        (first_of e.code e.inputs e.fuel c.in-Some.function c.in-Some.args.now) c.in_ok-old-in-Some.old c.in_ok-new-in-Some.new n
+    (first_of e.code e.inputs e.fuel c.in-Some.function c.in-Some.args.now) c.in_ok-old-in-Some.old c.in_ok-new-in-Some.new n
     (rw (c.undo.ensures, c.in_ok-before.ensures.value) at c.in_ok-old-in-Some.ensures.first) (rw c.input_blocks.ensures.value at c.in_ok-new-in-Some.ensures.first) k)
     c.cost.ensures)

@@ -9,5 +9,5 @@ pub returns-clause-quiet : goal.returns-clause-quiet
 returns-clause-quiet c =
     if-ok c.propagate.result
     (λ reply e q. absurd (again-not-quiet c.args.state.now.state c.propagate.new.self.state c.args.reads (goes (situation c.propagate.new.self).past) c.args.state.now.state.call
-        (let h = c.if-not-has_call.false in let e = c.has_call.ensures in grind (arith, h, e)) reply e q))
+    (let h = c.if-not-has_call.false in let e = c.has_call.ensures in grind (arith, h, e)) reply e q))
     c.propagate.ensures.ok

@@ -23,4 +23,4 @@ returns c =
     rw (c.finished.ensures, c.in-Ok.ensures.program, c.requires.names, c.told-journal.ensures)
     (subst (λ (x : Save). IsResumed c.args.program s (situation_of c.args.program.typed s.names e.engine (journal_of_bound x.bound) false)) (sym c.saved.view_is)
     (restored-is c.args.program s c.requires.compiled c.requires.holds e.engine c.phase-phase.ensures.whole e.ensures.code e.ensures.fuel e.ensures.inputs e.ensures.call e.ensures.phase
-        e.ensures.work e.ensures.forest))
+    e.ensures.work e.ensures.forest))

@@ -32,4 +32,4 @@ returns-clause-bounded c =
 pub returns-clause-left : goal.returns-clause-left
 returns-clause-left c =
     on-err c.answer_of.result
-        (λ h. left-kept c.args.state.now c.reply_of.new.state c.answer_of.new.state c.answer_of.ensures.kept c.args.line.now (c.in_ok-reply.ensures.quiet h)) c.answer_of.ensures.err
+    (λ h. left-kept c.args.state.now c.reply_of.new.state c.answer_of.new.state c.answer_of.ensures.kept c.args.line.now (c.in_ok-reply.ensures.quiet h)) c.answer_of.ensures.err

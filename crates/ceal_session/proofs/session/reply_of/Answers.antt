@@ -32,8 +32,12 @@ returns-in-Ok-clause-trace c =
 pub returns-in-Ok-clause-bounded : goal.returns-in-Ok-clause-bounded
 returns-in-Ok-clause-bounded c =
     on-ok-of c.reply_to-reply.result
-    (λ h. record { command = Some c.in-Ok.command; reads = c.in-Ok.ensures.found; bounded =
-        line-bounded (situation c.args.state.now) (situation c.reply_to-reply.new.state) c.in-Ok.command c.traced.ensures h })
+    (λ h. record {
+      command = Some c.in-Ok.command;
+      reads = c.in-Ok.ensures.found;
+      bounded =
+          line-bounded (situation c.args.state.now) (situation c.reply_to-reply.new.state) c.in-Ok.command c.traced.ensures h;
+    })
     c.reply_to-reply.ensures.trace
 
 pub returns-in-Ok-clause-left : goal.returns-in-Ok-clause-left

@@ -14,7 +14,7 @@ pub shape-shape-requires-clause-there : goal.shape-shape-requires-clause-there
 shape-shape-requires-clause-there c =
     let e = c.args.engine.now in
     let s = seen-block e c.phase-phase.ensures.whole c.progress_law.ensures.law c.args.block
-        (word-seen e c.phase-phase.ensures.whole c.progress_law.ensures.law c.args.block c.args.field c.requires) in
+    (word-seen e c.phase-phase.ensures.whole c.progress_law.ensures.law c.args.block c.args.field c.requires) in
     ap is_some s.shown.there
 
 pub field-requires-clause-shows : goal.field-requires-clause-shows
@@ -38,7 +38,7 @@ value-requires-clause-there c =
     let fin = seen-finished e c.args.block (word-seen e c.phase-phase.ensures.whole c.progress_law.ensures.law c.args.block c.args.field c.requires) in
     let p : is_plain (kind_in e.code.structs (block_in e c.args.block) c.args.field) ≡ false =
     ap is_plain (kind-by e.code.structs (block_in e c.args.block) c.shape-shape.result c.args.field c.shape-shape.ensures.value ∙ sym c.kind_of.ensures) ∙ sym c.is_plain.ensures
-        ∙ c.if-is_plain.false in
+    ∙ c.if-is_plain.false in
     kind-there e c.phase-phase.ensures.whole c.progress_law.ensures.law c.args.block c.args.field c.requires
     (whole-engine e c.phase-phase.ensures.whole fin c.fitting_is_whole.ensures.law) p
 
@@ -47,7 +47,7 @@ returns-then-is_plain c =
     let e = c.args.engine.now in
     let p : is_plain (kind_in e.code.structs (block_in e c.args.block) c.args.field) ≡ true =
     ap is_plain (kind-by e.code.structs (block_in e c.args.block) c.shape-shape.result c.args.field c.shape-shape.ensures.value ∙ sym c.kind_of.ensures) ∙ sym c.is_plain.ensures
-        ∙ c.if-is_plain.true in
+    ∙ c.if-is_plain.true in
     word-plain e c.phase-phase.ensures.whole c.progress_law.ensures.law c.args.block c.args.field c.requires p ∙ ap Some (sym c.field.ensures.value)
 
 pub returns-else-is_plain : goal.returns-else-is_plain

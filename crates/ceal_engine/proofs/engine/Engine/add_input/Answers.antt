@@ -46,7 +46,7 @@ invariant_of-self-2 c =
     let sound = sound-left v.code v.fuel v.inputs v.call v.run c.touch.new.self c.touch.ensures.same c.self.invariant in
     rw (c.in_ok-push.ensures.ok, is)
     (sound-longer v.code v.fuel v.inputs b
-        (subst (λ e. block_fits e.code.structs (alone e.inputs) b ≡ true) (sym c.self.view_is) c.requires.fits) c.self.invariant.fit v.call c.touch.new.self c.add.new.self set
+    (subst (λ e. block_fits e.code.structs (alone e.inputs) b ≡ true) (sym c.self.view_is) c.requires.fits) c.self.invariant.fit v.call c.touch.new.self c.add.new.self set
     (subst (λ e. length e.inputs + 1 < 2 ^ 32) (sym c.self.view_is) c.requires.room) sound)
 
 pub returns-in_err-from_slice-clause-looks : goal.returns-in_err-from_slice-clause-looks

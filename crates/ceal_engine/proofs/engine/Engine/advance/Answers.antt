@@ -37,7 +37,7 @@ invariant_of-self c =
     let run = c.advance.new.running in
     (sound-with v.code v.fuel v.inputs v.call v.run (its.Kept run stage.Partial) c.self.invariant
     (keeps-more v.code v.fuel v.inputs v.run v.call.call c.self.invariant.keeps c.open.new.run
-        (ap opened c.in-Kept.is ∙ ap Some (sym c.open.ensures)) c.args.reads run c.in-Ok-More.field-0 c.in-Ok-More.ensures.sliced c.in-Ok-More.field-0-is))
+    (ap opened c.in-Kept.is ∙ ap Some (sym c.open.ensures)) c.args.reads run c.in-Ok-More.field-0 c.in-Ok-More.ensures.sliced c.in-Ok-More.field-0-is))
 
 pub invariant_of-self-in-Ok-Done : goal.invariant_of-self-in-Ok-Done
 invariant_of-self-in-Ok-Done c =
@@ -45,7 +45,7 @@ invariant_of-self-in-Ok-Done c =
     let run = c.advance.new.running in
     (sound-with v.code v.fuel v.inputs v.call v.run (its.Kept run stage.Finished) c.self.invariant
     (keeps-done v.code v.fuel v.inputs v.run v.call.call c.self.invariant.keeps c.open.new.run
-        (ap opened c.in-Kept.is ∙ ap Some (sym c.open.ensures)) c.args.reads run c.in-Ok-Done.field-0 c.in-Ok-Done.ensures.sliced c.in-Ok-Done.field-0-is))
+    (ap opened c.in-Kept.is ∙ ap Some (sym c.open.ensures)) c.args.reads run c.in-Ok-Done.field-0 c.in-Ok-Done.ensures.sliced c.in-Ok-Done.field-0-is))
 
 pub invariant_of-self-in-Ok-Spent : goal.invariant_of-self-in-Ok-Spent
 invariant_of-self-in-Ok-Spent c =
@@ -86,7 +86,7 @@ returns-in-Ok-More-clause-revoked_stay c = λ e.
     let run = c.advance.new.running in
     let sliced = c.in-Ok-More.ensures.sliced in
     (subst (λ e. KeepsWords e.heap (Some run.heap)) c.self.view_is
-        (keeps-words v.code v.fuel v.inputs v.run v.call.call c.self.invariant.keeps c.open.new.run is c.args.reads run c.in-Ok-More.field-0 sliced c.in-Ok-More.field-0-is))
+    (keeps-words v.code v.fuel v.inputs v.run v.call.call c.self.invariant.keeps c.open.new.run is c.args.reads run c.in-Ok-More.field-0 sliced c.in-Ok-More.field-0-is))
 
 pub returns-in-Ok-Done-clause-comes : goal.returns-in-Ok-Done-clause-comes
 returns-in-Ok-Done-clause-comes c = λ next r carries.
@@ -114,7 +114,7 @@ returns-in-Ok-OutOfFuel-clause-comes c = λ next r carries.
     let run = c.advance.new.running in
     let sliced = c.in-Ok-OutOfFuel.ensures.sliced in
     subst (λ e. (CarriesRepair e next r → IsOut e c.args.reads r)) c.self.view_is
-        (is-out v.code v.fuel v.inputs v.run v.call.call c.self.invariant.keeps c.open.new.run is c.args.reads run c.in-Ok-OutOfFuel.field-0 sliced c.in-Ok-OutOfFuel.field-0-is next r) carries
+    (is-out v.code v.fuel v.inputs v.run v.call.call c.self.invariant.keeps c.open.new.run is c.args.reads run c.in-Ok-OutOfFuel.field-0 sliced c.in-Ok-OutOfFuel.field-0-is next r) carries
 
 pub returns-in-Ok-More-clause-front : goal.returns-in-Ok-More-clause-front
 returns-in-Ok-More-clause-front c = λ n.
@@ -154,14 +154,14 @@ returns-in_err-run_again-in-Ok-Spent-clause-comes c = λ next r carries.
     let error = err_from_is_err_and c.from_residual.result c.from_residual.ensures.1 in
     rw error.1
     (anew-comes c.args.self.now c.run_again.new.self c.args.reads next r (subst (λ e. (CarriesRepair e next r → sliced_repair e.code own e.inputs c.args.reads e.fuel r ≡ None)) c.self.view_is
-        (no-slice v.code v.fuel v.inputs v.run v.call.call c.self.invariant.keeps c.open.new.run is c.args.reads run c.in-Ok-Spent.field-0 sliced c.in-Ok-Spent.field-0-is next r) carries) error.0)
+    (no-slice v.code v.fuel v.inputs v.run v.call.call c.self.invariant.keeps c.open.new.run is c.args.reads run c.in-Ok-Spent.field-0 sliced c.in-Ok-Spent.field-0-is next r) carries) error.0)
 
 pub run_again-requires-clause-out : goal.run_again-requires-clause-out
 run_again-requires-clause-out c = λ other.
     let v = c.self.inside in
     let is = ap opened c.in-Kept.is ∙ ap Some (sym c.open.ensures) in
     spent-fresh v.code v.fuel v.inputs v.run (other-whole (phase_of v.run) (subst (λ e. has_run e.phase ≡ true) (sym c.self.view_is) c.requires.run)
-        (λ e. other (c.phase-before.ensures ∙ e))) v.call.call c.self.invariant.keeps c.open.new.run is c.advance.new.running
+    (λ e. other (c.phase-before.ensures ∙ e))) v.call.call c.self.invariant.keeps c.open.new.run is c.advance.new.running
     c.in-Ok-Spent.field-0 c.in-Ok-Spent.ensures.repaired c.in-Ok-Spent.field-0-is
 
 pub returns-in_ok-run_again-in-Ok-Spent-clause-front : goal.returns-in_ok-run_again-in-Ok-Spent-clause-front
@@ -184,7 +184,7 @@ returns-in-Ok-Done-clause-repaired c = λ w l e.
     let run = c.advance.new.running in
     (subst (λ s. IsRepairSoFar s (finished v.code v.fuel v.inputs v.call.call run) l came.Done) c.self.view_is
     (done-so-far v.code v.fuel v.inputs v.run
-        (subst (λ s. IsWhole s.phase) (sym c.self.view_is) w) v.call.call c.self.invariant.keeps c.open.new.run is run c.in-Ok-Done.field-0 c.in-Ok-Done.ensures.repaired c.in-Ok-Done.field-0-is l
+    (subst (λ s. IsWhole s.phase) (sym c.self.view_is) w) v.call.call c.self.invariant.keeps c.open.new.run is run c.in-Ok-Done.field-0 c.in-Ok-Done.ensures.repaired c.in-Ok-Done.field-0-is l
     (ap trace c.self.view_is ∙ e)))
 
 pub returns-in-Ok-Done-clause-looks : goal.returns-in-Ok-Done-clause-looks
@@ -208,7 +208,7 @@ pub returns-in-Ok-OutOfFuel-clause-keeps : goal.returns-in-Ok-OutOfFuel-clause-k
 returns-in-Ok-OutOfFuel-clause-keeps c =
     let v = c.self.inside in
     let fresh = fresh-out v.code v.fuel v.inputs v.run v.call.call c.self.invariant.keeps c.open.new.run
-        (ap opened c.in-Kept.is ∙ ap Some (sym c.open.ensures)) c.args.reads c.advance.new.running c.in-Ok-OutOfFuel.field-0 c.in-Ok-OutOfFuel.ensures.sliced c.in-Ok-OutOfFuel.field-0-is in
+    (ap opened c.in-Kept.is ∙ ap Some (sym c.open.ensures)) c.args.reads c.advance.new.running c.in-Ok-OutOfFuel.field-0 c.in-Ok-OutOfFuel.ensures.sliced c.in-Ok-OutOfFuel.field-0-is in
     rw c.give_up-in-Ok-OutOfFuel.ensures
     (subst (λ e. Advances {A = Came} e (state_of v.code v.fuel v.inputs v.call.call its.Dropped) (Err OutOfFuel)) c.self.view_is
     (record {
@@ -232,8 +232,17 @@ returns-in-Err-clause-keeps c =
     absurd (let no : false ≡ true = c.in-Err.ensures.sure p.0 p.1 p.2 p.3 p.4 in cc) in
     rw (c.give_up-in-Err.ensures, c.from.ensures)
     (subst (λ e. Advances {A = Came} e (state_of v.code v.fuel v.inputs v.call.call its.Dropped) (Err Memory)) c.self.view_is
-    (record { code = refl; fuel = refl; inputs = refl; call = refl; sure_where_honest = λ w l e h. absurd (sure l e h); sure_in_part = λ l e h. absurd (sure l e h); out_of_fuel = tt; dropped =
-        refl }))
+    (record {
+      code = refl;
+      fuel = refl;
+      inputs = refl;
+      call = refl;
+      sure_where_honest = λ w l e h. absurd (sure l e h);
+      sure_in_part = λ l e h. absurd (sure l e h);
+      out_of_fuel = tt;
+      dropped =
+          refl;
+    }))
 
 pub returns-in_err-run_again-in-Ok-Spent-clause-keeps : goal.returns-in_err-run_again-in-Ok-Spent-clause-keeps
 returns-in_err-run_again-in-Ok-Spent-clause-keeps c =
@@ -242,10 +251,19 @@ returns-in_err-run_again-in-Ok-Spent-clause-keeps c =
     let sure : (l : Trace) → trace before ≡ Some l → IsHonest v.code v.inputs l → ⊥ = λ l e h.
     let p = part-honest v.code v.fuel v.inputs v.run v.call.call c.self.invariant.keeps c.open.new.run (ap opened c.in-Kept.is ∙ ap Some (sym c.open.ensures)) l e h in
     done-within v.code v.inputs p.0 p.1 v.fuel p.2 c.open.new.run p.3 p.4 c.args.reads c.requires.some
-        (subst (IsSliced v.code v.inputs p.0 p.1 c.args.reads v.fuel p.2 c.advance.new.running) c.in-Ok-Spent.field-0-is (c.in-Ok-Spent.ensures.sliced p.0 p.1 p.2 p.3)) in
+    (subst (IsSliced v.code v.inputs p.0 p.1 c.args.reads v.fuel p.2 c.advance.new.running) c.in-Ok-Spent.field-0-is (c.in-Ok-Spent.ensures.sliced p.0 p.1 p.2 p.3)) in
     let error = err_from_is_err_and c.from_residual.result c.from_residual.ensures.1 in
     let k = on-error {B = Came} _ c.run_again.new.self _ c.in_err-run_again-in-Ok-Spent.ensures.keeps in
     rw (error.1, error.2)
     (subst (λ e. Advances {A = Came} e c.run_again.new.self (Err c.in_err-run_again-in-Ok-Spent.field-0.0)) c.self.view_is
-    (record { code = k.code; fuel = k.fuel; inputs = k.inputs; call = k.call; sure_where_honest = λ w l e h. absurd (sure l e h); sure_in_part = λ l e h. absurd (sure l e h); out_of_fuel =
-        k.out_of_fuel; dropped = k.dropped }))
+    (record {
+      code = k.code;
+      fuel = k.fuel;
+      inputs = k.inputs;
+      call = k.call;
+      sure_where_honest = λ w l e h. absurd (sure l e h);
+      sure_in_part = λ l e h. absurd (sure l e h);
+      out_of_fuel =
+          k.out_of_fuel;
+      dropped = k.dropped;
+    }))

@@ -25,7 +25,7 @@ invariant_of-self-2 c =
     let v = c.self.inside in
     rw c.set_base.ensures
     (sound-edited v.code v.inputs c.args.place c.args.value c.self.invariant.fit
-        (subst (λ e. takes e c.args.place c.args.value ≡ true) (sym c.self.view_is) c.requires) v.fuel v.call v.run c.edit.new.self c.in_ok-edit.ensures.ok c.self.invariant)
+    (subst (λ e. takes e c.args.place c.args.value ≡ true) (sym c.self.view_is) c.requires) v.fuel v.call v.run c.edit.new.self c.in_ok-edit.ensures.ok c.self.invariant)
 
 pub returns-in_err-edit-clause-err : goal.returns-in_err-edit-clause-err
 returns-in_err-edit-clause-err c =
@@ -51,7 +51,7 @@ returns-clause-carries c = λ next r carries.
     let more = with_base v.inputs c.args.place c.args.value in
     let sound = sound-edited v.code v.inputs c.args.place c.args.value c.self.invariant.fit takes-it v.fuel v.call v.run c.edit.new.self c.in_ok-edit.ensures.ok c.self.invariant in
     let cell = (both (is_cell (kind_at v.code.structs (alone v.inputs) c.args.place))
-        (fits_in v.code.structs (alone v.inputs) (kind_at v.code.structs (alone v.inputs) c.args.place) c.args.value) takes-it).0 in
+    (fits_in v.code.structs (alone v.inputs) (kind_at v.code.structs (alone v.inputs) c.args.place) c.args.value) takes-it).0 in
     rw c.set_base.ensures
     (carries-still v.code v.fuel v.inputs more v.call (extended-edit v.code v.inputs c.args.place c.args.value cell) edited_at spent-edited v.run c.edit.new.self c.self.invariant sound
     (same-base c.args.place c.args.value v.run c.edit.new.self c.in_ok-edit.ensures.ok) next r (subst (λ e. CarriesRepair e next r) (sym c.self.view_is) carries))

@@ -8,5 +8,5 @@ returns-in-Done-clause-ok c =
     subst (λ e. IsFirstOf e.code e.fuel e.inputs e.call c.in-Done.run') c.self.view_is
     (first-done c.self.inside.code c.self.inside.fuel c.self.inside.inputs c.self.inside.call.call c.in-Some.function c.args-args.result.now
     (the-call c.self.inside.code c.self.inside.fuel c.self.inside.inputs c.self.inside.call.call c.in-Some.function c.args-args.result.now
-        (sym c.function.ensures ∙ c.in-Some.is) c.args-args.ensures.value)
+    (sym c.function.ensures ∙ c.in-Some.is) c.args-args.ensures.value)
     c.self.invariant.calls c.in_ok-outcome-in-Some.outcome c.in_ok-outcome-in-Some.ensures.first c.in-Done.run' c.in-Done.is)

@@ -45,13 +45,13 @@ pub returns-in_ok-advance-in-Pending-clause-looks_always : goal.returns-in_ok-ad
 returns-in_ok-advance-in-Pending-clause-looks_always c =
     let a = c.in_ok-advance-in-Pending.ensures in
     looks-either c.args.self.now c.advance.new.self c.in_ok-advance-in-Pending.field-0
-        (subst (λ e. has_run e.phase ≡ true) c.self.view_is (ap has_run (sym c.phase.ensures ∙ c.in-Pending.is))) a.looks a.looks_anew a.first
+    (subst (λ e. has_run e.phase ≡ true) c.self.view_is (ap has_run (sym c.phase.ensures ∙ c.in-Pending.is))) a.looks a.looks_anew a.first
 
 pub returns-in_ok-advance-in-Partial-clause-looks_always : goal.returns-in_ok-advance-in-Partial-clause-looks_always
 returns-in_ok-advance-in-Partial-clause-looks_always c =
     let a = c.in_ok-advance-in-Partial.ensures in
     looks-either c.args.self.now c.advance-in-Partial.new.self c.in_ok-advance-in-Partial.field-0
-        (subst (λ e. has_run e.phase ≡ true) c.self.view_is (ap has_run (sym c.phase.ensures ∙ c.in-Partial.is))) a.looks a.looks_anew a.first
+    (subst (λ e. has_run e.phase ≡ true) c.self.view_is (ap has_run (sym c.phase.ensures ∙ c.in-Partial.is))) a.looks a.looks_anew a.first
 
 pub returns-in-Dropped-clause-looks_always : goal.returns-in-Dropped-clause-looks_always
 returns-in-Dropped-clause-looks_always c = on-ok c.args.self.now c.run_anew.new.self c.run_anew.result c.run_anew.ensures.anew

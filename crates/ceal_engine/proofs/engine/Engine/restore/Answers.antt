@@ -9,7 +9,7 @@ pub unreachable-requires : goal.unreachable-requires
 unreachable-requires c =
     not-out-of c.args.code c.args.fuel c.args.inputs.now c.args.function c.args.args.now c.args.forest.now c.requires.trace c.run.new.self
     (c.run.ensures.keeps.code ∙ c.in_ok-engine.ensures.code) (c.run.ensures.keeps.fuel ∙ c.in_ok-engine.ensures.fuel)
-        (c.run.ensures.keeps.inputs ∙ c.in_ok-engine.ensures.inputs) c.run.ensures.keeps.call
+    (c.run.ensures.keeps.inputs ∙ c.in_ok-engine.ensures.inputs) c.run.ensures.keeps.call
     (subst (λ e. IfOutOfFuel {A = Unit {0}} (Err e) (fresh_of c.run.new.self ≡ None)) c.in-Err-OutOfFuel.field-0-is c.in-Err-OutOfFuel.ensures.keeps.out_of_fuel)
 
 pub returns-in-Ok-clause-forest : goal.returns-in-Ok-clause-forest

@@ -10,7 +10,7 @@ use Rattle.ceal_engine.proofs.engine.Engine.shape.Goals as goal
 pub unreachable-requires : goal.unreachable-requires
 unreachable-requires c =
     no-shape c.self.inside.code c.self.inside.inputs (running_in c.self.inside.run) c.args.block (sym c.shape.ensures ∙ c.in-None.is)
-        (subst (λ e. IsSome (block_in e c.args.block)) (sym c.self.view_is) c.requires.there)
+    (subst (λ e. IsSome (block_in e c.args.block)) (sym c.self.view_is) c.requires.there)
 
 pub returns : goal.returns
 returns c = record {

@@ -46,7 +46,7 @@ returns-clause-looks_always c =
     looks-either c.args.self.now c.advance.new.self c.in_ok-came.came
     (subst (λ e. has_run e.phase ≡ true) c.self.view_is
     (there (phase_of v.run) (subst (λ e. e.phase ≡ New → ⊥) (sym c.self.view_is) c.requires.called)
-        (λ d. absurd (let yes : true ≡ false = sym (told.1 (c.phase.ensures ∙ d)) ∙ c.if-eq.false in cc)))) a.looks a.looks_anew a.first
+    (λ d. absurd (let yes : true ≡ false = sym (told.1 (c.phase.ensures ∙ d)) ∙ c.if-eq.false in cc)))) a.looks a.looks_anew a.first
 
 pub returns-clause-looks : goal.returns-clause-looks
 returns-clause-looks c = λ w. c.in_ok-came.ensures.looks (λ anew. not-both c.args.self.now.phase (c.in_ok-came.ensures.anew anew) w)

@@ -7,5 +7,5 @@ pub overflow_cast-result : goal.overflow_cast-result
 overflow_cast-result c =
     let v = c.self.inside in
     let few = few-steps v.code v.inputs v.fuel v.run v.call.call c.self.invariant.limits c.self.invariant.keeps
-        (subst (λ e. e.phase ≡ Finished) (sym c.self.view_is) c.requires) c.finished.result.now c.finished.ensures in
+    (subst (λ e. e.phase ≡ Finished) (sym c.self.view_is) c.requires) c.finished.result.now c.finished.ensures in
     omega (arith, few, c.steps.ensures.items)

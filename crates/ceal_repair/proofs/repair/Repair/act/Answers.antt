@@ -51,6 +51,6 @@ read-requires c = record {
     acts-over c.args.self.now c.next.new.self c.leave_for.new.self c.in_ok-next.field-0 (step.Reads c.in-Reads.reading)
         (does.Reads (closure_in c.in-Reads.reading c.leave_for.new.self.args.now.items)) (stack_in c.leave_for.new.self.stack.now)
         c.in_ok-next.ensures.rest c.in_ok-next.ensures.acts c.in-Reads.is c.in_ok-leave_for-in-Reads.ensures.rest c.in_ok-leave_for-in-Reads.ensures.closure
-            (c.in_ok-leave_for-in-Reads.ensures.aside ∙ c.in_ok-next.ensures.aside) c.requires.runs.0 c.requires.runs.1,
+        (c.in_ok-leave_for-in-Reads.ensures.aside ∙ c.in_ok-next.ensures.aside) c.requires.runs.0 c.requires.runs.1,
   );
 }

@@ -47,7 +47,7 @@ returns-clause-runs c = λ start a.
     let words = c.as_slice-args.result.now in
     let args-kept : words ≡ old.args.now.items = c.as_slice-args.ensures.value ∙ ap arguments_of h.rest in
     let put : NodeMore new.cursor.0 read.0 (Read p word c.args.reading.unit c.args.reading.var words) new.running.now.tables c.begin_read.new.self =
-        record { nodes = f.nodes; inserted = f.inserted; bases = f.bases; behind = f.behind; kept = f.kept } in
+    record { nodes = f.nodes; inserted = f.inserted; bases = f.bases; behind = f.behind; kept = f.kept } in
     let k : NodeMore new.cursor.0 read.0 node new.running.now.tables c.begin_read.new.self =
     subst (λ ws. NodeMore new.cursor.0 read.0 (Read p word c.args.reading.unit c.args.reading.var ws) new.running.now.tables c.begin_read.new.self) args-kept put in
     let below : Stack = above_floor c.in_ok-below.below (aside_in c.set_aside.new.self) in
@@ -56,14 +56,14 @@ returns-clause-runs c = λ start a.
     runs-as (code_of old) (inputs_of old) start (resumed (code_of old) c.args.reading.unit c.args.reading.var c.args.self.now.args.now.items word) _
     (record (with_parts new (record new.running.now { tables = c.begin_read.new.self }) c.resume.new.self c.push.new.self) { cursor = read })
     (now-begin (code_of old) (inputs_of old) start a.stack
-        (view old) a.now p c.args.reading.unit c.args.reading.var c.args.self.now.args.now.items below word new.running.now.tables c.begin_read.new.self read
+    (view old) a.now p c.args.reading.unit c.args.reading.var c.args.self.now.args.now.items below word new.running.now.tables c.begin_read.new.self read
     (none-entered old start a.stack a.now (key_in (closure_in c.args.reading c.args.self.now.args.now.items)) c.requires.absent)
     (a.does ∙ ap (λ (s : Stack). Reads p c.args.reading.unit c.args.reading.var c.args.self.now.args.now.items s) stack) h.more
     (rw (cursor-kept old new h) at f.value)
     (node-behind old new h read.0 node c.begin_read.new.self k) f.open)
     (ap code_of h.rest) (ap inputs_of h.rest)
     (resumed-as new.code.now old.code.now code c.args.reading.unit c.args.reading.var words word (stack_in c.resume.new.self)
-        (stack_in c.set_aside.new.self) c.in_ok-below.ensures.empty c.in_ok-resume.ensures.resumed
+    (stack_in c.set_aside.new.self) c.in_ok-below.ensures.empty c.in_ok-resume.ensures.resumed
     ∙ ap (λ ws. resumed old.code.now c.args.reading.unit c.args.reading.var ws word) args-kept)
     (begun-view old new h c.begin_read.new.self read.0 (Begun below read) _
     (begun-frames (aside_in new.stack.now) (aside_in c.set_aside.new.self) (aside_in c.resume.new.self) c.in_ok-below.below read new.frames.now.items c.push.new.self.items

@@ -14,21 +14,21 @@ unit_at-requires c =
     let old : Repair = c.args.self.now in
     let found = c.requires.found.3 in
     let held = node-now (code_of old)
-        (inputs_of old) c.requires.found.0 c.requires.found.1 c.requires.found.2 c.args.read.0 old.running.now c.listed_law.ensures.law c.ready_law.ensures.law c.turn_known_law.ensures.law found in
+    (inputs_of old) c.requires.found.0 c.requires.found.1 c.requires.found.2 c.args.read.0 old.running.now c.listed_law.ensures.law c.ready_law.ensures.law c.turn_known_law.ensures.law found in
     record { read = ap is_read held }
 
 pub end_of-self-requires : goal.end_of-self-requires
 end_of-self-requires c =
     let old : Repair = c.args.self.now in
     let held = node-now (code_of old) (inputs_of old) c.requires.found.0 c.requires.found.1 c.requires.found.2 c.args.read.0 old.running.now c.listed_law.ensures.law c.ready_law.ensures.law
-        c.turn_known_law.ensures.law c.requires.found.3 in
+    c.turn_known_law.ensures.law c.requires.found.3 in
     record { read = ap is_read held }
 
 pub set_steps-requires-clause-here : goal.set_steps-requires-clause-here
 set_steps-requires-clause-here c =
     let old : Repair = c.args.self.now in
     let held = node-now (code_of old) (inputs_of old) c.requires.found.0 c.requires.found.1 c.requires.found.2 c.args.read.0 old.running.now c.listed_law.ensures.law c.ready_law.ensures.law
-        c.turn_known_law.ensures.law c.requires.found.3 in
+    c.turn_known_law.ensures.law c.requires.found.3 in
     has-held c.args.read.0 _ old.running.now.tables.trace.nodes held
 
 pub returns-clause-begins : goal.returns-clause-begins

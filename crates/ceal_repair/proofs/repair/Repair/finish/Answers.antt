@@ -49,8 +49,15 @@ returns-clause-runs c = λ start a.
     (record (with_parts r (record r.running.now { tables = c.finish_read.new.self }) c.bring_back.new.self r.frames.now) { cursor = c.in_ok-self.field-0 })
     (now-finish (code_of r) (inputs_of r) start a.stack (view_under c.args.below r) (units_on c.args.below r) c.args.read a.now c.finish_read.new.self s a.over k)
     refl refl c.bring_back.ensures.back
-    (ap (λ (a : Pile). record { tables = c.finish_read.new.self; heap = r.running.now.heap; spent = r.running.now.spent; cursor = s; limit = r.limit; frames =
-        frames_in a (reverse r.frames.now.items) }) c.bring_back.ensures.aside)
+    (ap (λ (a : Pile). record {
+      tables = c.finish_read.new.self;
+      heap = r.running.now.heap;
+      spent = r.running.now.spent;
+      cursor = s;
+      limit = r.limit;
+      frames =
+          frames_in a (reverse r.frames.now.items);
+    }) c.bring_back.ensures.aside)
 
 pub returns-clause-pays : goal.returns-clause-pays
 returns-clause-pays c =

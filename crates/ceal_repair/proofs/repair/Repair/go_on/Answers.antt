@@ -36,7 +36,7 @@ returns-clause-runs c =
     let old : Repair = c.args.self.now in
     let mid : Repair = record old { running = record old.running { now = c.cut_until.new.self }; cursor = c.in-Some.end; limit = Some c.args.until } in
     let all : (start : Start) → EndsKept start c.args.until old → PassesOn start mid =
-        λ start a. goes-on old start c.args.until c.in-Some.end a c.in-Some.is c.cut_until.new.self f.all f.bases f.blocks f.has f.spent f.kept in
+    λ start a. goes-on old start c.args.until c.in-Some.end a c.in-Some.is c.cut_until.new.self f.all f.bases f.blocks f.has f.spent f.kept in
     go c.pass.result old mid c.pass.new.self c.args.until c.pass.ensures.runs all
   where
     go : (r : Result (Unit {0}) NoMemory) (old mid new : Repair) (until : Stamp) → OnOk r ((start : Start) → PassesOn start mid → Runs start new)

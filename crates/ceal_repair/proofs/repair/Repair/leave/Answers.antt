@@ -40,7 +40,7 @@ set_steps-requires-clause-here c =
     let same : stamp_of_number n.end ≡ c.in-Some.end = cc in
     let f = c.in_ok-cut_until.ensures in
     let l = f.all (through a.now.placed.done a.now.placed.last) a.now.left a.now.tail
-        (lies-left (code_of old) (inputs_of old) start a.stack (view_under c.args.below old) (units_on c.args.below old) c.args.until a.now)
+    (lies-left (code_of old) (inputs_of old) start a.stack (view_under c.args.below old) (units_on c.args.below old) c.args.until a.now)
     (first-is (code_of old) (inputs_of old) start a.stack (view_under c.args.below old) (units_on c.args.below old) c.args.until a.now ∙ ap (λ (s : Stamp). Some s.0) same) in
     subst (λ (s : Stamp). has_node s.0 c.cut_until.new.self.tables.trace.nodes ≡ true) same
     (end-there (code_of old) (inputs_of old) start a.stack (view_under c.args.below old) (units_on c.args.below old) c.args.until a.now c.cut_until.new.self.tables f.kept l)
@@ -55,23 +55,54 @@ returns-clause-runs c = λ start a.
     let g = c.set_steps.ensures in
     let t1 : Tables = c.cut_until.new.self.tables in
     let l = f.all (through a.now.placed.done a.now.placed.last) a.now.left a.now.tail
-        (lies-left (code_of old) (inputs_of old) start a.stack (view_under c.args.below old) (units_on c.args.below old) c.args.until a.now)
+    (lies-left (code_of old) (inputs_of old) start a.stack (view_under c.args.below old) (units_on c.args.below old) c.args.until a.now)
     (first-is (code_of old) (inputs_of old) start a.stack (view_under c.args.below old) (units_on c.args.below old) c.args.until a.now ∙ ap (λ (s : Stamp). Some s.0) same) in
     let nodes : c.set_steps.new.self.trace.nodes ≡ with_steps n.end 0 t1.trace.nodes = g.nodes ∙ ap (λ (s : Stamp). with_steps s.0 0 t1.trace.nodes) (sym same) in
     runs-as (code_of old) (inputs_of old) start (units_on c.args.below old)
-    (record { tables = c.set_steps.new.self; heap = c.cut_until.new.self.heap; spent = old.running.now.spent; cursor = n.end; limit = Some c.args.until; frames =
-        (view_under c.args.below old).frames })
-    (record (with_parts old (record { tables = c.set_steps.new.self; heap = c.cut_until.new.self.heap; spent = c.cut_until.new.self.spent }) c.bring_back.new.self old.frames.now) { cursor =
-        c.in-Some.end; limit = Some c.args.until })
+    (record {
+      tables = c.set_steps.new.self;
+      heap = c.cut_until.new.self.heap;
+      spent = old.running.now.spent;
+      cursor = n.end;
+      limit = Some c.args.until;
+      frames =
+          (view_under c.args.below old).frames;
+    })
+    (record (with_parts old (record { tables = c.set_steps.new.self; heap = c.cut_until.new.self.heap; spent = c.cut_until.new.self.spent }) c.bring_back.new.self old.frames.now) {
+      cursor =
+          c.in-Some.end;
+      limit = Some c.args.until;
+    })
     (now-leave (code_of old) (inputs_of old) start a.stack (view_under c.args.below old)
-        (units_on c.args.below old) c.args.until a.now t1 c.set_steps.new.self c.cut_until.new.self.heap a.over l f.bases f.blocks (f.has (code_of old) (inputs_of old)) f.kept
+    (units_on c.args.below old) c.args.until a.now t1 c.set_steps.new.self c.cut_until.new.self.heap a.over l f.bases f.blocks (f.has (code_of old) (inputs_of old)) f.kept
     nodes g.mods g.queue g.kept) refl refl c.bring_back.ensures.back
-    (ap (λ (a : Pile). record { tables = c.set_steps.new.self; heap = c.cut_until.new.self.heap; spent = c.cut_until.new.self.spent; cursor = c.in-Some.end.0; limit = Some c.args.until; frames =
-        frames_in a (reverse old.frames.now.items) }) c.bring_back.ensures.aside
-    ∙ (ap (λ (k : ℕ). record { tables = c.set_steps.new.self; heap = c.cut_until.new.self.heap; spent = k; cursor = c.in-Some.end.0; limit = Some c.args.until; frames =
-        (view_under c.args.below old).frames }) f.spent
-    ∙ ap (λ (s : Stamp). record { tables = c.set_steps.new.self; heap = c.cut_until.new.self.heap; spent = old.running.now.spent; cursor = s.0; limit = Some c.args.until; frames =
-        (view_under c.args.below old).frames }) (sym same)))
+    (ap (λ (a : Pile). record {
+      tables = c.set_steps.new.self;
+      heap = c.cut_until.new.self.heap;
+      spent = c.cut_until.new.self.spent;
+      cursor = c.in-Some.end.0;
+      limit = Some c.args.until;
+      frames =
+          frames_in a (reverse old.frames.now.items);
+    }) c.bring_back.ensures.aside
+    ∙ (ap (λ (k : ℕ). record {
+      tables = c.set_steps.new.self;
+      heap = c.cut_until.new.self.heap;
+      spent = k;
+      cursor = c.in-Some.end.0;
+      limit = Some c.args.until;
+      frames =
+          (view_under c.args.below old).frames;
+    }) f.spent
+    ∙ ap (λ (s : Stamp). record {
+      tables = c.set_steps.new.self;
+      heap = c.cut_until.new.self.heap;
+      spent = old.running.now.spent;
+      cursor = s.0;
+      limit = Some c.args.until;
+      frames =
+          (view_under c.args.below old).frames;
+    }) (sym same)))
 
 pub returns-clause-pays : goal.returns-clause-pays
 returns-clause-pays c =

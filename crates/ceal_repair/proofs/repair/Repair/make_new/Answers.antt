@@ -52,7 +52,7 @@ returns-clause-runs c = λ start a.
     let below = below_in (stack_of old) in
     let stack : stack_in c.set.new.self ≡ Run unit.unit unit.index (set (arguments unit.env.items) c.args.var (pointer c.args.key (Core b))) below =
     c.in_ok-set.ensures.set ∙ (ap (λ (r : Repair). Run (top_of (stack_of r)).unit (top_of (stack_of r)).index (set (arguments (top_of (stack_of r)).env.items) c.args.var c.pointer_to-pointer.result)
-        (below_in (stack_of r))) h.rest
+    (below_in (stack_of r))) h.rest
     ∙ ap (λ w. Run unit.unit unit.index (set (arguments unit.env.items) c.args.var w) below) (c.pointer_to-pointer.ensures.value ∙ ap (pointer c.args.key) f.core.1)) in
     runs-as (code_of old) (inputs_of old) start (Run unit.unit unit.index (set (arguments unit.env.items) c.args.var (pointer c.args.key (Core b))) below) _
     (record (with_parts new (record { tables = c.put_alloc.new.self; heap = c.make.new.self.heap; spent = c.make.new.self.spent }) c.set.new.self new.frames.now) { cursor = c.in_ok-self.field-0 })

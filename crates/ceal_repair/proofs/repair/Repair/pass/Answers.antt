@@ -93,4 +93,4 @@ returns-in-Some-clause-pays c =
     let b : Running = record a { tables = c.first_stale.new.self } in
     let e = c.in-Some.ensures in
     on-ok c.repair_inside.result (pays-then 0 a b c.repair_inside.new.self.running.now
-        (one-pays a b (due-value a.tables c.first_stale.new.self _ _ 1 e.nodes.3 c.first_stale.ensures.looks) refl e.differs)) c.repair_inside.ensures.pays
+    (one-pays a b (due-value a.tables c.first_stale.new.self _ _ 1 e.nodes.3 c.first_stale.ensures.looks) refl e.differs)) c.repair_inside.ensures.pays

@@ -32,7 +32,7 @@ unreachable-requires-in-Some-Begun c =
     let start = c.requires.none.0 in
     let a : NoneStale start old = c.requires.none.1 in
     next-not-begun (code_of old) (inputs_of old) start a.until (record (view old) { tables = a.before }) a.now
-        (aside_in old.stack.now) old.frames.now.items c.pop.new.self.items c.in-Some-Begun.field-0 refl c.in-Some-Begun.ensures.items _ _ c.in-Some-Begun.field-0-is
+    (aside_in old.stack.now) old.frames.now.items c.pop.new.self.items c.in-Some-Begun.field-0 refl c.in-Some-Begun.ensures.items _ _ c.in-Some-Begun.field-0-is
 
 pub unreachable-requires-in-Some-Kept : goal.unreachable-requires-in-Some-Kept
 unreachable-requires-in-Some-Kept c =
@@ -40,7 +40,7 @@ unreachable-requires-in-Some-Kept c =
     let start = c.requires.none.0 in
     let a : NoneStale start old = c.requires.none.1 in
     next-not-kept (code_of old) (inputs_of old) start a.until (record (view old) { tables = a.before }) a.now
-        (aside_in old.stack.now) old.frames.now.items c.pop.new.self.items c.in-Some-Kept.field-0 refl c.in-Some-Kept.ensures.items _ c.in-Some-Kept.field-0-is
+    (aside_in old.stack.now) old.frames.now.items c.pop.new.self.items c.in-Some-Kept.field-0 refl c.in-Some-Kept.ensures.items _ c.in-Some-Kept.field-0-is
 
 pub returns-clause-runs : goal.returns-clause-runs
 returns-clause-runs c = λ start a.
@@ -52,13 +52,13 @@ returns-clause-runs c = λ start a.
     let aside : Pile = aside_in old.stack.now in
     let floor = c.in-Some-Taken.below in
     let below : above_floor floor aside ≡ n.below = next-units (code_of old)
-        (inputs_of old) start a.until w a.now aside old.frames.now.items c.pop.new.self.items c.in-Some-Taken.field-0 refl c.in-Some-Taken.ensures.items floor c.in-Some-Taken.limit
-            c.in-Some-Taken.field-0-is in
+    (inputs_of old) start a.until w a.now aside old.frames.now.items c.pop.new.self.items c.in-Some-Taken.field-0 refl c.in-Some-Taken.ensures.items floor c.in-Some-Taken.limit
+    c.in-Some-Taken.field-0-is in
     let next : c.in-Some-Taken.limit ≡ n.next = next-limit (code_of old)
-        (inputs_of old) start a.until w a.now aside old.frames.now.items c.pop.new.self.items c.in-Some-Taken.field-0 refl c.in-Some-Taken.ensures.items floor c.in-Some-Taken.limit
-            c.in-Some-Taken.field-0-is in
+    (inputs_of old) start a.until w a.now aside old.frames.now.items c.pop.new.self.items c.in-Some-Taken.field-0 refl c.in-Some-Taken.ensures.items floor c.in-Some-Taken.limit
+    c.in-Some-Taken.field-0-is in
     let fs = frames-next (code_of old) (inputs_of old) start a.until w a.now aside old.frames.now.items c.pop.new.self.items c.in-Some-Taken.field-0 refl c.in-Some-Taken.ensures.items floor
-        c.in-Some-Taken.limit c.in-Some-Taken.field-0-is in
+    c.in-Some-Taken.limit c.in-Some-Taken.field-0-is in
     let g = c.set_steps.ensures in
     let t : Tables = c.set_steps.new.self in
     let nodes : t.trace.nodes ≡ with_steps a.until.0 0 old.running.now.tables.trace.nodes = g.nodes ∙ ap (λ (s : Stamp). with_steps s.0 0 old.running.now.tables.trace.nodes) (sym same) in
@@ -66,14 +66,28 @@ returns-clause-runs c = λ start a.
     (record { tables = t; heap = old.running.now.heap; spent = old.running.now.spent; cursor = a.until.0; limit = Some n.next; frames = n.frames })
     (record (with_parts old (record old.running.now { tables = t }) c.bring_back.new.self c.pop.new.self) { cursor = c.in-Some.end; limit = Some c.in-Some-Taken.limit })
     (now-passed (code_of old) (inputs_of old) start a.until w a.now old.running.now.tables t a.trace a.left
-        (bases-cells old.running.now.tables.mods a.before.mods a.cells) a.kept nodes g.mods g.queue g.kept)
+    (bases-cells old.running.now.tables.mods a.before.mods a.cells) a.kept nodes g.mods g.queue g.kept)
     refl refl (c.bring_back.ensures.back ∙ below)
-    (ap (λ (s : Stamp). record { tables = t; heap = old.running.now.heap; spent = old.running.now.spent; cursor = s.0; limit = Some c.in-Some-Taken.limit; frames =
-        frames_in (aside_in c.bring_back.new.self) (reverse c.pop.new.self.items) }) (sym same)
-    ∙ (ap (λ (l : Stamp). record { tables = t; heap = old.running.now.heap; spent = old.running.now.spent; cursor = a.until.0; limit = Some l; frames =
-        frames_in (aside_in c.bring_back.new.self) (reverse c.pop.new.self.items) }) next
+    (ap (λ (s : Stamp). record {
+      tables = t;
+      heap = old.running.now.heap;
+      spent = old.running.now.spent;
+      cursor = s.0;
+      limit = Some c.in-Some-Taken.limit;
+      frames =
+          frames_in (aside_in c.bring_back.new.self) (reverse c.pop.new.self.items);
+    }) (sym same)
+    ∙ (ap (λ (l : Stamp). record {
+      tables = t;
+      heap = old.running.now.heap;
+      spent = old.running.now.spent;
+      cursor = a.until.0;
+      limit = Some l;
+      frames =
+          frames_in (aside_in c.bring_back.new.self) (reverse c.pop.new.self.items);
+    }) next
     ∙ ap (λ (gs : List Frame). record { tables = t; heap = old.running.now.heap; spent = old.running.now.spent; cursor = a.until.0; limit = Some n.next; frames = gs })
-        (ap (λ (p : Pile). frames_in p (reverse c.pop.new.self.items)) c.bring_back.ensures.aside ∙ fs)))
+    (ap (λ (p : Pile). frames_in p (reverse c.pop.new.self.items)) c.bring_back.ensures.aside ∙ fs)))
 
 pub returns-clause-pays : goal.returns-clause-pays
 returns-clause-pays c =

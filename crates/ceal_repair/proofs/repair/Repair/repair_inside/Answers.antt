@@ -35,8 +35,10 @@ unit_at-requires c =
     let g = c.set_steps.ensures in
     let t : Tables = c.set_steps.new.self in
     let r = the-read (code_of old) (inputs_of old) start a.until (record (view old) { tables = a.before }) a.now c.args.read.0 a.stale a.limit in
-    record { read = ap is_read (node-then (code_of old) (inputs_of old) start a.until (record (view old) { tables = a.before }) a.now c.args.read.0 a.stale a.limit t1 t seen a.queued
-        (bases-cells t1.mods a.before.mods a.cells) a.kept g.nodes g.mods g.queue g.kept) }
+    record {
+      read = ap is_read (node-then (code_of old) (inputs_of old) start a.until (record (view old) { tables = a.before }) a.now c.args.read.0 a.stale a.limit t1 t seen a.queued
+          (bases-cells t1.mods a.before.mods a.cells) a.kept g.nodes g.mods g.queue g.kept);
+    }
 
 pub end_of-self-requires : goal.end_of-self-requires
 end_of-self-requires c =
@@ -47,8 +49,10 @@ end_of-self-requires c =
     let seen = seen-as (code_of old) (inputs_of old) start a.until (record (view old) { tables = a.before }) a.now c.args.read.0 a.stale a.limit t1 a.place a.value a.is_read a.nodes in
     let g = c.set_steps.ensures in
     let t : Tables = c.set_steps.new.self in
-    record { read = ap is_read (node-then (code_of old) (inputs_of old) start a.until (record (view old) { tables = a.before }) a.now c.args.read.0 a.stale a.limit t1 t seen a.queued
-        (bases-cells t1.mods a.before.mods a.cells) a.kept g.nodes g.mods g.queue g.kept) }
+    record {
+      read = ap is_read (node-then (code_of old) (inputs_of old) start a.until (record (view old) { tables = a.before }) a.now c.args.read.0 a.stale a.limit t1 t seen a.queued
+          (bases-cells t1.mods a.before.mods a.cells) a.kept g.nodes g.mods g.queue g.kept);
+    }
 
 pub returns-clause-runs : goal.returns-clause-runs
 returns-clause-runs c = λ start a.
@@ -61,7 +65,7 @@ returns-clause-runs c = λ start a.
     let now-word = word (code_of old) (inputs_of old) start a.until (record (view old) { tables = a.before }) a.now c.args.read.0 a.stale a.limit in
     let e = c.end_of-self.ensures in
     let limit : c.end_of-self.result ≡ Some (stamp_of_number r.end) = limit-of c.end_of-self.result r.end _ (end-then (code_of old) (inputs_of old) start a.until (record
-        (view old) { tables = a.before }) a.now c.args.read.0 a.stale a.limit t1 t seen a.queued (bases-cells t1.mods a.before.mods a.cells) a.kept g.nodes g.mods g.queue g.kept) e.finished e.open in
+    (view old) { tables = a.before }) a.now c.args.read.0 a.stale a.limit t1 t seen a.queued (bases-cells t1.mods a.before.mods a.cells) a.kept g.nodes g.mods g.queue g.kept) e.finished e.open in
     let both : Some a.until ≡ Some c.in-Some.until = sym a.now.limit ∙ c.in-Some.is in
     let same : c.in-Some.until ≡ a.until = cc in
     let frames : frames_in (aside_in c.unit_at.new.stack) (reverse c.push.new.self.items) ≡ Kept a.until ∷ (view old).frames =
@@ -71,11 +75,18 @@ returns-clause-runs c = λ start a.
     (record { tables = t; heap = old.running.now.heap; spent = old.running.now.spent; cursor = c.args.read.0; limit = Some (stamp_of_number r.end); frames = Kept a.until ∷ (view old).frames })
     (record (with_parts old (record old.running.now { tables = t }) c.unit_at.new.stack c.push.new.self) { cursor = c.args.read; limit = c.end_of-self.result })
     (now-mend (code_of old) (inputs_of old) start a.until (record (view old) { tables = a.before }) a.now c.args.read.0 a.stale a.limit t1 t seen a.queued
-        (bases-cells t1.mods a.before.mods a.cells) a.kept g.nodes g.mods g.queue g.kept)
+    (bases-cells t1.mods a.before.mods a.cells) a.kept g.nodes g.mods g.queue g.kept)
     refl refl (c.in_ok-unit_at.ensures.unit r.place now-word r.unit r.var r.args (node-then (code_of old) (inputs_of old) start a.until
-        (record (view old) { tables = a.before }) a.now c.args.read.0 a.stale a.limit t1 t seen a.queued (bases-cells t1.mods a.before.mods a.cells) a.kept g.nodes g.mods g.queue g.kept))
-    (ap (λ (o : Option Stamp). record { tables = t; heap = old.running.now.heap; spent = old.running.now.spent; cursor = c.args.read.0; limit = o; frames =
-        frames_in (aside_in c.unit_at.new.stack) (reverse c.push.new.self.items) }) limit
+    (record (view old) { tables = a.before }) a.now c.args.read.0 a.stale a.limit t1 t seen a.queued (bases-cells t1.mods a.before.mods a.cells) a.kept g.nodes g.mods g.queue g.kept))
+    (ap (λ (o : Option Stamp). record {
+      tables = t;
+      heap = old.running.now.heap;
+      spent = old.running.now.spent;
+      cursor = c.args.read.0;
+      limit = o;
+      frames =
+          frames_in (aside_in c.unit_at.new.stack) (reverse c.push.new.self.items);
+    }) limit
     ∙ ap (λ (gs : List Frame). record { tables = t; heap = old.running.now.heap; spent = old.running.now.spent; cursor = c.args.read.0; limit = Some (stamp_of_number r.end); frames = gs }) frames)
 
 pub returns-clause-pays : goal.returns-clause-pays

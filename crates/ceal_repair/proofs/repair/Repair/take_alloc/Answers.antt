@@ -66,14 +66,14 @@ block_at-block-requires c =
     c.cut_until.new.self.heap c.set_steps.new.self f.bases f.blocks f.has g.nodes g.mods g.queue g.kept in
     let matches = matches-left old new h start a.stack a.now c.args.key c.args.found c.requires.found in
     let m = the-match (code_of old) (inputs_of old) start a.stack
-        (view old) a.now c.args.key c.args.found c.cut_until.new.self.heap new.running.now.tables c.cut_until.new.self.tables c.set_steps.new.self r.0 h.more cut matches in
+    (view old) a.now c.args.key c.args.found c.cut_until.new.self.heap new.running.now.tables c.cut_until.new.self.tables c.set_steps.new.self r.0 h.more cut matches in
     record {
       alloc = (
         m.block,
         m.own,
         node-dropped c.args.found.0 c.cut_until.new.self.tables c.set_steps.new.self g.nodes
             ∙ node-there (code_of old) (inputs_of old) start a.stack
-                (view old) a.now c.args.key c.args.found c.cut_until.new.self.heap new.running.now.tables c.cut_until.new.self.tables c.set_steps.new.self r.0 h.more cut matches,
+            (view old) a.now c.args.key c.args.found c.cut_until.new.self.heap new.running.now.tables c.cut_until.new.self.tables c.set_steps.new.self r.0 h.more cut matches,
       );
     }
 
@@ -90,23 +90,23 @@ returns-clause-runs c = λ start a.
     c.cut_until.new.self.heap c.set_steps.new.self f.bases f.blocks f.has g.nodes g.mods g.queue g.kept in
     let matches = matches-left old new h start a.stack a.now c.args.key c.args.found c.requires.found in
     let m = the-match (code_of old) (inputs_of old) start a.stack
-        (view old) a.now c.args.key c.args.found c.cut_until.new.self.heap new.running.now.tables c.cut_until.new.self.tables c.set_steps.new.self r.0 h.more cut matches in
+    (view old) a.now c.args.key c.args.found c.cut_until.new.self.heap new.running.now.tables c.cut_until.new.self.tables c.set_steps.new.self r.0 h.more cut matches in
     let block : BlockId = c.block_at-block.result in
     let both : Some (Alloc block c.block_at-block.ensures.block.0) ≡ Some (Alloc m.block m.own) =
     sym c.block_at-block.ensures.block.1 ∙ (node-dropped c.args.found.0 c.cut_until.new.self.tables c.set_steps.new.self g.nodes
     ∙ node-there (code_of old) (inputs_of old) start a.stack
-        (view old) a.now c.args.key c.args.found c.cut_until.new.self.heap new.running.now.tables c.cut_until.new.self.tables c.set_steps.new.self r.0 h.more cut matches) in
+    (view old) a.now c.args.key c.args.found c.cut_until.new.self.heap new.running.now.tables c.cut_until.new.self.tables c.set_steps.new.self r.0 h.more cut matches) in
     let same : block ≡ m.block = cc in
     let unit : Activation = top_of (stack_of old) in
     let below = below_in (stack_of old) in
     let stack : stack_in c.set.new.self ≡ Run unit.unit unit.index (set (arguments unit.env.items) c.args.var (pointer c.args.key m.block)) below =
     c.in_ok-set.ensures.set ∙
-        (ap (λ (r : Repair). Run (top_of (stack_of r)).unit (top_of (stack_of r)).index (set (arguments (top_of (stack_of r)).env.items) c.args.var c.pointer_to.result) (below_in (stack_of r))) h.rest
+    (ap (λ (r : Repair). Run (top_of (stack_of r)).unit (top_of (stack_of r)).index (set (arguments (top_of (stack_of r)).env.items) c.args.var c.pointer_to.result) (below_in (stack_of r))) h.rest
     ∙ ap (λ w. Run unit.unit unit.index (set (arguments unit.env.items) c.args.var w) below) (c.pointer_to.ensures.value ∙ ap (pointer c.args.key) same)) in
     runs-as (code_of old) (inputs_of old) start (Run unit.unit unit.index (set (arguments unit.env.items) c.args.var (pointer c.args.key m.block)) below) _
     (record (with_parts new (record { tables = c.set_steps.new.self; heap = c.cut_until.new.self.heap; spent = c.cut_until.new.self.spent }) c.set.new.self new.frames.now) { cursor = c.args.found })
     (now-take-alloc (code_of old) (inputs_of old) start a.stack
-        (view old) a.now c.args.key c.args.found c.cut_until.new.self.heap new.running.now.tables c.cut_until.new.self.tables c.set_steps.new.self r.0 h.more cut matches
+    (view old) a.now c.args.key c.args.found c.cut_until.new.self.heap new.running.now.tables c.cut_until.new.self.tables c.set_steps.new.self r.0 h.more cut matches
     c.args.var unit.unit unit.index (arguments unit.env.items) below a.does)
     (ap code_of h.rest) (ap inputs_of h.rest) stack
     (made-view old new h c.set_steps.new.self c.cut_until.new.self.heap c.cut_until.new.self.spent c.args.found.0 _ f.spent c.in_ok-set.ensures.aside)

@@ -61,10 +61,19 @@ look-requires-clause-here c =
     let h : IsStepped c.args.self.now c.step.new.self = record { rest = e.rest; heap = e.heap; spent = e.spent; more = record { nodes = e.nodes; mods = e.mods; queue = e.queue; kept = e.kept } } in
     let reading : Closure = record { place = c.args.reading.place; unit = c.args.reading.unit; var = c.args.reading.var; args = arguments_of c.args.self.now } in
     let cut : IsCut c.args.self.now c.step.new.self reading c.args.found c.cut_until.new.self (above_floor c.in_ok-below.below (aside_in c.set_aside.new.self)) =
-        record { stepped = h; matches = c.requires.found; there = f.there; bases = f.bases; blocks = f.blocks; has = f.has; kept = f.kept; aside =
-            sym (c.in_ok-below.ensures.above ∙ ap (λ (r : Repair). stack_in r.stack.now) h.rest) } in
+    record {
+      stepped = h;
+      matches = c.requires.found;
+      there = f.there;
+      bases = f.bases;
+      blocks = f.blocks;
+      has = f.has;
+      kept = f.kept;
+      aside =
+          sym (c.in_ok-below.ensures.above ∙ ap (λ (r : Repair). stack_in r.stack.now) h.rest);
+    } in
     ap is_read
-        (is-there c.args.self.now c.step.new.self reading c.args.found c.cut_until.new.self (above_floor c.in_ok-below.below (aside_in c.set_aside.new.self)) cut c.requires.acts.0 c.requires.acts.1)
+    (is-there c.args.self.now c.step.new.self reading c.args.found c.cut_until.new.self (above_floor c.in_ok-below.below (aside_in c.set_aside.new.self)) cut c.requires.acts.0 c.requires.acts.1)
 
 pub look-requires-clause-first : goal.look-requires-clause-first
 look-requires-clause-first c =
@@ -73,8 +82,17 @@ look-requires-clause-first c =
     let h : IsStepped c.args.self.now c.step.new.self = record { rest = e.rest; heap = e.heap; spent = e.spent; more = record { nodes = e.nodes; mods = e.mods; queue = e.queue; kept = e.kept } } in
     let reading : Closure = record { place = c.args.reading.place; unit = c.args.reading.unit; var = c.args.reading.var; args = arguments_of c.args.self.now } in
     let cut : IsCut c.args.self.now c.step.new.self reading c.args.found c.cut_until.new.self (above_floor c.in_ok-below.below (aside_in c.set_aside.new.self)) =
-        record { stepped = h; matches = c.requires.found; there = f.there; bases = f.bases; blocks = f.blocks; has = f.has; kept = f.kept; aside =
-            sym (c.in_ok-below.ensures.above ∙ ap (λ (r : Repair). stack_in r.stack.now) h.rest) } in
+    record {
+      stepped = h;
+      matches = c.requires.found;
+      there = f.there;
+      bases = f.bases;
+      blocks = f.blocks;
+      has = f.has;
+      kept = f.kept;
+      aside =
+          sym (c.in_ok-below.ensures.above ∙ ap (λ (r : Repair). stack_in r.stack.now) h.rest);
+    } in
     comes-first c.args.self.now c.step.new.self reading c.args.found c.cut_until.new.self (above_floor c.in_ok-below.below (aside_in c.set_aside.new.self)) cut c.requires.acts.0 c.requires.acts.1
 
 pub set_steps-requires-clause-here : goal.set_steps-requires-clause-here
@@ -84,13 +102,22 @@ set_steps-requires-clause-here c =
     let h : IsStepped c.args.self.now c.step.new.self = record { rest = e.rest; heap = e.heap; spent = e.spent; more = record { nodes = e.nodes; mods = e.mods; queue = e.queue; kept = e.kept } } in
     let reading : Closure = record { place = c.args.reading.place; unit = c.args.reading.unit; var = c.args.reading.var; args = arguments_of c.args.self.now } in
     let cut : IsCut c.args.self.now c.step.new.self reading c.args.found c.cut_until.new.self (above_floor c.in_ok-below.below (aside_in c.set_aside.new.self)) =
-        record { stepped = h; matches = c.requires.found; there = f.there; bases = f.bases; blocks = f.blocks; has = f.has; kept = f.kept; aside =
-            sym (c.in_ok-below.ensures.above ∙ ap (λ (r : Repair). stack_in r.stack.now) h.rest) } in
+    record {
+      stepped = h;
+      matches = c.requires.found;
+      there = f.there;
+      bases = f.bases;
+      blocks = f.blocks;
+      has = f.has;
+      kept = f.kept;
+      aside =
+          sym (c.in_ok-below.ensures.above ∙ ap (λ (r : Repair). stack_in r.stack.now) h.rest);
+    } in
     let before : Tables = c.cut_until.new.self.tables in
     let seen = c.look.ensures.nodes c.if-look.true in
     subst (λ ss. is_in c.args.found.0 ss ≡ true) (sym (ap stamps_in seen.3 ∙ stamps-changed c.args.found.0 (value_set (contents_at c.args.found.0 before seen.0)) (λ e. refl) before.trace.nodes))
     (has-held c.args.found.0 (Read reading.place _ reading.unit reading.var reading.args) before.trace.nodes
-        (is-there c.args.self.now c.step.new.self reading c.args.found c.cut_until.new.self (above_floor c.in_ok-below.below (aside_in c.set_aside.new.self)) cut c.requires.acts.0 c.requires.acts.1))
+    (is-there c.args.self.now c.step.new.self reading c.args.found c.cut_until.new.self (above_floor c.in_ok-below.below (aside_in c.set_aside.new.self)) cut c.requires.acts.0 c.requires.acts.1))
 
 pub value_at-value-requires : goal.value_at-value-requires
 value_at-value-requires c =
@@ -99,15 +126,26 @@ value_at-value-requires c =
     let h : IsStepped c.args.self.now c.step.new.self = record { rest = e.rest; heap = e.heap; spent = e.spent; more = record { nodes = e.nodes; mods = e.mods; queue = e.queue; kept = e.kept } } in
     let reading : Closure = record { place = c.args.reading.place; unit = c.args.reading.unit; var = c.args.reading.var; args = arguments_of c.args.self.now } in
     let cut : IsCut c.args.self.now c.step.new.self reading c.args.found c.cut_until.new.self (above_floor c.in_ok-below.below (aside_in c.set_aside.new.self)) =
-        record { stepped = h; matches = c.requires.found; there = f.there; bases = f.bases; blocks = f.blocks; has = f.has; kept = f.kept; aside =
-            sym (c.in_ok-below.ensures.above ∙ ap (λ (r : Repair). stack_in r.stack.now) h.rest) } in
+    record {
+      stepped = h;
+      matches = c.requires.found;
+      there = f.there;
+      bases = f.bases;
+      blocks = f.blocks;
+      has = f.has;
+      kept = f.kept;
+      aside =
+          sym (c.in_ok-below.ensures.above ∙ ap (λ (r : Repair). stack_in r.stack.now) h.rest);
+    } in
     let k = c.look.ensures in
     let g = c.set_steps.ensures in
     let t : Tables = c.set_steps.new.self in
     let renewed : IsRenewed c.args.found.0 c.cut_until.new.self.tables c.look.new.self t =
-        record { stale = k.stale c.if-look.true; value = k.nodes c.if-look.true; cells = k.cells; late = k.behind; nodes = g.nodes; mods = g.mods; queue = g.queue; kept = g.kept } in
-    record { read = ap is_read (records-now c.args.self.now c.step.new.self reading c.args.found c.cut_until.new.self
-        (above_floor c.in_ok-below.below (aside_in c.set_aside.new.self)) cut c.requires.acts.0 c.requires.acts.1 c.look.new.self t renewed) }
+    record { stale = k.stale c.if-look.true; value = k.nodes c.if-look.true; cells = k.cells; late = k.behind; nodes = g.nodes; mods = g.mods; queue = g.queue; kept = g.kept } in
+    record {
+      read = ap is_read (records-now c.args.self.now c.step.new.self reading c.args.found c.cut_until.new.self
+          (above_floor c.in_ok-below.below (aside_in c.set_aside.new.self)) cut c.requires.acts.0 c.requires.acts.1 c.look.new.self t renewed);
+    }
 
 pub returns-in_ok-resume-clause-runs : goal.returns-in_ok-resume-clause-runs
 returns-in_ok-resume-clause-runs c = λ start a.
@@ -116,13 +154,22 @@ returns-in_ok-resume-clause-runs c = λ start a.
     let h : IsStepped c.args.self.now c.step.new.self = record { rest = e.rest; heap = e.heap; spent = e.spent; more = record { nodes = e.nodes; mods = e.mods; queue = e.queue; kept = e.kept } } in
     let reading : Closure = record { place = c.args.reading.place; unit = c.args.reading.unit; var = c.args.reading.var; args = arguments_of c.args.self.now } in
     let cut : IsCut c.args.self.now c.step.new.self reading c.args.found c.cut_until.new.self (above_floor c.in_ok-below.below (aside_in c.set_aside.new.self)) =
-        record { stepped = h; matches = c.requires.found; there = f.there; bases = f.bases; blocks = f.blocks; has = f.has; kept = f.kept; aside =
-            sym (c.in_ok-below.ensures.above ∙ ap (λ (r : Repair). stack_in r.stack.now) h.rest) } in
+    record {
+      stepped = h;
+      matches = c.requires.found;
+      there = f.there;
+      bases = f.bases;
+      blocks = f.blocks;
+      has = f.has;
+      kept = f.kept;
+      aside =
+          sym (c.in_ok-below.ensures.above ∙ ap (λ (r : Repair). stack_in r.stack.now) h.rest);
+    } in
     let k = c.look.ensures in
     let g = c.set_steps.ensures in
     let t : Tables = c.set_steps.new.self in
     let renewed : IsRenewed c.args.found.0 c.cut_until.new.self.tables c.look.new.self t =
-        record { stale = k.stale c.if-look.true; value = k.nodes c.if-look.true; cells = k.cells; late = k.behind; nodes = g.nodes; mods = g.mods; queue = g.queue; kept = g.kept } in
+    record { stale = k.stale c.if-look.true; value = k.nodes c.if-look.true; cells = k.cells; late = k.behind; nodes = g.nodes; mods = g.mods; queue = g.queue; kept = g.kept } in
     let old : Repair = c.args.self.now in
     let gone : Repair = c.go_inside.new.self in
     let i = c.in_ok-go_inside.ensures in
@@ -131,25 +178,25 @@ returns-in_ok-resume-clause-runs c = λ start a.
     let read : Word = c.value_at-value.result in
     let is-word : read ≡ word = same-value (node_at c.args.found.0 t.trace.nodes) reading.place c.value_at-value.ensures.0 word read reading.unit reading.var reading.args
     (records-now c.args.self.now c.step.new.self reading c.args.found c.cut_until.new.self
-        (above_floor c.in_ok-below.below (aside_in c.set_aside.new.self)) cut start a c.look.new.self t renewed) c.value_at-value.ensures.1 in
+    (above_floor c.in_ok-below.below (aside_in c.set_aside.new.self)) cut start a c.look.new.self t renewed) c.value_at-value.ensures.1 in
     let until : Stamp = c.in-Some.limit in
     let limit : old.limit ≡ Some until = sym (ap (λ (r : Repair). r.limit) h.rest) ∙ c.in-Some.is in
     let ends : gone.limit ≡ Some (stamp_of_number m.end) = limit-is gone.limit m.end (i.limit ∙ end-renewed c.args.self.now c.step.new.self reading c.args.found c.cut_until.new.self
-        (above_floor c.in_ok-below.below (aside_in c.set_aside.new.self)) cut start a c.look.new.self t renewed) in
+    (above_floor c.in_ok-below.below (aside_in c.set_aside.new.self)) cut start a c.look.new.self t renewed) in
     let args-kept : c.as_slice-args.result.now ≡ arguments_of old = c.as_slice-args.ensures.value ∙ (ap arguments_of i.rest ∙ ap arguments_of h.rest) in
     let code-kept : code_of gone ≡ code_of old = ap code_of i.rest ∙ ap code_of h.rest in
     runs-as (code_of old) (inputs_of old) start (resumed (code_of old) reading.unit reading.var reading.args word) _
     (with_parts gone (running_of gone) c.resume.new.self gone.frames.now)
     (retakes c.args.self.now c.step.new.self reading c.args.found c.cut_until.new.self
-        (above_floor c.in_ok-below.below (aside_in c.set_aside.new.self)) cut start a c.look.new.self t renewed until limit)
+    (above_floor c.in_ok-below.below (aside_in c.set_aside.new.self)) cut start a c.look.new.self t renewed until limit)
     code-kept (ap inputs_of i.rest ∙ ap inputs_of h.rest)
     (resumed-as (code_of gone) (code_of old) code-kept reading.unit reading.var c.as_slice-args.result.now read (stack_in c.resume.new.self) (stack_in (stack_of gone))
-        (ap (λ (r : Repair). stack_in r.stack.now) i.rest ∙ c.in_ok-below.ensures.empty) c.in_ok-resume.ensures.resumed
+    (ap (λ (r : Repair). stack_in r.stack.now) i.rest ∙ c.in_ok-below.ensures.empty) c.in_ok-resume.ensures.resumed
     ∙ (ap (λ ws. resumed (code_of old) reading.unit reading.var ws read) args-kept
     ∙ ap (λ (w : Word). resumed (code_of old) reading.unit reading.var reading.args w) is-word))
     (ap (λ (r : Repair). record (view r) { frames = frames_in (aside_in c.resume.new.self) (reverse r.frames.now.items) }) i.rest
     ∙ entered-view old c.step.new.self h t c.cut_until.new.self.heap c.cut_until.new.self.spent c.args.found.0 gone.limit (Some (stamp_of_number m.end))
-        (Taken (above_floor c.in_ok-below.below (aside_in c.set_aside.new.self)) until) _ f.spent ends
+    (Taken (above_floor c.in_ok-below.below (aside_in c.set_aside.new.self)) until) _ f.spent ends
     (taken-frames (aside_in c.step.new.self.stack.now) (aside_in c.set_aside.new.self) (aside_in c.resume.new.self) c.in_ok-below.below until c.step.new.self.frames.now.items gone.frames.now.items
     (c.in_ok-resume.ensures.aside ∙ ap (λ (r : Repair). aside_in r.stack.now) i.rest) c.in_ok-below.ensures.under i.frames))
 
@@ -160,11 +207,22 @@ go_inside-requires-else-look c =
     let h : IsStepped c.args.self.now c.step.new.self = record { rest = e.rest; heap = e.heap; spent = e.spent; more = record { nodes = e.nodes; mods = e.mods; queue = e.queue; kept = e.kept } } in
     let reading : Closure = record { place = c.args.reading.place; unit = c.args.reading.unit; var = c.args.reading.var; args = arguments_of c.args.self.now } in
     let cut : IsCut c.args.self.now c.step.new.self reading c.args.found c.cut_until.new.self (above_floor c.in_ok-below.below (aside_in c.set_aside.new.self)) =
-        record { stepped = h; matches = c.requires.found; there = f.there; bases = f.bases; blocks = f.blocks; has = f.has; kept = f.kept; aside =
-            sym (c.in_ok-below.ensures.above ∙ ap (λ (r : Repair). stack_in r.stack.now) h.rest) } in
-    record { read = subst (λ (l : Timeline). is_read (node_at c.args.found.0 l.nodes) ≡ true) (sym (c.look.ensures.same c.if-look.false))
-        (ap is_read (is-there c.args.self.now c.step.new.self reading c.args.found c.cut_until.new.self
-            (above_floor c.in_ok-below.below (aside_in c.set_aside.new.self)) cut c.requires.acts.0 c.requires.acts.1)) }
+    record {
+      stepped = h;
+      matches = c.requires.found;
+      there = f.there;
+      bases = f.bases;
+      blocks = f.blocks;
+      has = f.has;
+      kept = f.kept;
+      aside =
+          sym (c.in_ok-below.ensures.above ∙ ap (λ (r : Repair). stack_in r.stack.now) h.rest);
+    } in
+    record {
+      read = subst (λ (l : Timeline). is_read (node_at c.args.found.0 l.nodes) ≡ true) (sym (c.look.ensures.same c.if-look.false))
+          (ap is_read (is-there c.args.self.now c.step.new.self reading c.args.found c.cut_until.new.self
+          (above_floor c.in_ok-below.below (aside_in c.set_aside.new.self)) cut c.requires.acts.0 c.requires.acts.1));
+    }
 
 pub returns-in_ok-go_inside-2-clause-runs : goal.returns-in_ok-go_inside-2-clause-runs
 returns-in_ok-go_inside-2-clause-runs c = λ start a.
@@ -173,27 +231,36 @@ returns-in_ok-go_inside-2-clause-runs c = λ start a.
     let h : IsStepped c.args.self.now c.step.new.self = record { rest = e.rest; heap = e.heap; spent = e.spent; more = record { nodes = e.nodes; mods = e.mods; queue = e.queue; kept = e.kept } } in
     let reading : Closure = record { place = c.args.reading.place; unit = c.args.reading.unit; var = c.args.reading.var; args = arguments_of c.args.self.now } in
     let cut : IsCut c.args.self.now c.step.new.self reading c.args.found c.cut_until.new.self (above_floor c.in_ok-below.below (aside_in c.set_aside.new.self)) =
-        record { stepped = h; matches = c.requires.found; there = f.there; bases = f.bases; blocks = f.blocks; has = f.has; kept = f.kept; aside =
-            sym (c.in_ok-below.ensures.above ∙ ap (λ (r : Repair). stack_in r.stack.now) h.rest) } in
+    record {
+      stepped = h;
+      matches = c.requires.found;
+      there = f.there;
+      bases = f.bases;
+      blocks = f.blocks;
+      has = f.has;
+      kept = f.kept;
+      aside =
+          sym (c.in_ok-below.ensures.above ∙ ap (λ (r : Repair). stack_in r.stack.now) h.rest);
+    } in
     let old : Repair = c.args.self.now in
     let gone : Repair = c.go_inside-else-look.new.self in
     let k = c.look.ensures in
     let i = c.in_ok-go_inside-2.ensures in
     let honest : IsHonestHere c.args.found.0 c.cut_until.new.self.tables c.look.new.self =
-        record { honest = k.honest c.if-look.false; same = k.same c.if-look.false; cells = k.cells; late = k.behind; kept = k.kept } in
+    record { honest = k.honest c.if-look.false; same = k.same c.if-look.false; cells = k.cells; late = k.behind; kept = k.kept } in
     let m = taken c.args.self.now c.step.new.self reading c.args.found c.cut_until.new.self (above_floor c.in_ok-below.below (aside_in c.set_aside.new.self)) cut start a in
     let until : Stamp = c.in-Some.limit in
     let limit : old.limit ≡ Some until = sym (ap (λ (r : Repair). r.limit) h.rest) ∙ c.in-Some.is in
     let ends : gone.limit ≡ Some (stamp_of_number m.end) = limit-is gone.limit m.end (i.limit ∙ end-honest c.args.self.now c.step.new.self reading c.args.found c.cut_until.new.self
-        (above_floor c.in_ok-below.below (aside_in c.set_aside.new.self)) cut start a c.look.new.self honest) in (
+    (above_floor c.in_ok-below.below (aside_in c.set_aside.new.self)) cut start a c.look.new.self honest) in (
       stamp_of_number m.end,
       passes-as (code_of old) (inputs_of old) start (stamp_of_number m.end) _ gone (enters c.args.self.now c.step.new.self reading c.args.found c.cut_until.new.self
           (above_floor c.in_ok-below.below (aside_in c.set_aside.new.self)) cut start a c.look.new.self honest until limit)
           (ap code_of i.rest ∙ ap code_of h.rest) (ap inputs_of i.rest ∙ ap inputs_of h.rest)
           (ap view i.rest ∙ entered-view old c.step.new.self h c.look.new.self c.cut_until.new.self.heap c.cut_until.new.self.spent c.args.found.0 gone.limit (Some (stamp_of_number m.end))
-              (Taken (above_floor c.in_ok-below.below (aside_in c.set_aside.new.self)) until) _ f.spent ends
+          (Taken (above_floor c.in_ok-below.below (aside_in c.set_aside.new.self)) until) _ f.spent ends
           (taken-frames (aside_in c.step.new.self.stack.now) (aside_in c.set_aside.new.self)
-              (aside_in c.set_aside.new.self) c.in_ok-below.below until c.step.new.self.frames.now.items gone.frames.now.items
+          (aside_in c.set_aside.new.self) c.in_ok-below.below until c.step.new.self.frames.now.items gone.frames.now.items
           refl c.in_ok-below.ensures.under i.frames)),
     )
 

@@ -56,4 +56,4 @@ pub returns-clause-pays : goal.returns-clause-pays
 returns-clause-pays c =
     pays-then 0 c.args.self.now.running.now c.complete.new.repair.running.now c.end_turn.new.self.running.now
     (pays-then 0 c.args.self.now.running.now c.begin_turn.new.self.running.now c.complete.new.repair.running.now c.in_ok-begin_turn.ensures.pays c.in_ok-complete.ensures.pays)
-        c.in_ok-end_turn.ensures.pays
+    c.in_ok-end_turn.ensures.pays

@@ -15,23 +15,31 @@ first_stale-requires-clause-kept c = let q = c.requires.comes in (c.loop-turn.in
 pub turn_from-requires-clause-found : goal.turn_from-requires-clause-found
 turn_from-requires-clause-found c =
     let e = c.in-Some.ensures in
-    let q = c.requires.comes in
-    (q.0, q.1, later c.loop-turn.turn q.2, found_by c.args.self.now c.loop-turn.self c.loop-turn.turn c.loop-turn.invariant.turning c.first_stale.new.self e.kept e.cells c.in-Some.read.0 e.stale
-        e.nodes e.behind q.0 q.1 q.2 q.3 q.4)
+    let q = c.requires.comes in (
+      q.0,
+      q.1,
+      later c.loop-turn.turn q.2,
+      found_by c.args.self.now c.loop-turn.self c.loop-turn.turn c.loop-turn.invariant.turning c.first_stale.new.self e.kept e.cells c.in-Some.read.0 e.stale
+          e.nodes e.behind q.0 q.1 q.2 q.3 q.4,
+    )
 
 pub returns-in_err-turn_from-in-Some-clause-sure : goal.returns-in_err-turn_from-in-Some-clause-sure
 returns-in_err-turn_from-in-Some-clause-sure c = λ f args o before h honest.
     let e = c.in-Some.ensures in
     absurd (found-never c.args.self.now c.loop-turn.self c.loop-turn.turn c.loop-turn.invariant.turning c.first_stale.new.self e.kept e.cells c.in-Some.read.0 e.stale e.nodes e.behind f args o before
-        h honest)
+    h honest)
 
 pub returns-then-not-branch-clause-ended : goal.returns-then-not-branch-clause-ended
 returns-then-not-branch-clause-ended c = λ f args o before h.
     let e = c.in-Some.ensures in
     let found =
-        found_by c.args.self.now c.loop-turn.self c.loop-turn.turn c.loop-turn.invariant.turning c.first_stale.new.self e.kept e.cells c.in-Some.read.0 e.stale e.nodes e.behind f args o before h in
-    (c.loop-turn.turn, not-last c.loop-turn.turn c.args.reads c.loop-turn.invariant.few (c.is_last.ensures.fewer c.if-is_last.false), rw
-        (c.if-not-branch.true, c.loop-turn.invariant.turning.call.code, c.loop-turn.invariant.turning.call.inputs) at (c.in_ok-turn_from-in-Some.ensures.turn f args (later c.loop-turn.turn o) found))
+    found_by c.args.self.now c.loop-turn.self c.loop-turn.turn c.loop-turn.invariant.turning c.first_stale.new.self e.kept e.cells c.in-Some.read.0 e.stale e.nodes e.behind f args o before h in (
+      c.loop-turn.turn,
+      not-last c.loop-turn.turn c.args.reads c.loop-turn.invariant.few (c.is_last.ensures.fewer c.if-is_last.false),
+      rw (c.if-not-branch.true, c.loop-turn.invariant.turning.call.code, c.loop-turn.invariant.turning.call.inputs) at (
+          c.in_ok-turn_from-in-Some.ensures.turn f args (later c.loop-turn.turn o) found
+          ),
+    )
 
 pub loop-turn-preserved : goal.loop-turn-preserved
 loop-turn-preserved c =
@@ -44,13 +52,13 @@ loop-turn-preserved c =
           (λ f args o before h.
           rw c.if-not-branch.false at (g.turn f args (later c.loop-turn.turn o)
           (found_by c.args.self.now c.loop-turn.self c.loop-turn.turn c.loop-turn.invariant.turning c.first_stale.new.self e.kept e.cells c.in-Some.read.0 e.stale e.nodes e.behind f args o before
-              h)));
+          h)));
       few = one-more c.loop-turn.turn c.args.reads (not-last c.loop-turn.turn c.args.reads c.loop-turn.invariant.few (c.is_last.ensures.fewer c.if-is_last.false));
       within = λ h. g.within c.if-not-branch.false;
       pays = turn-pays c.loop-turn.turn c.args.self.now.running.now c.loop-turn.self.running.now c.turn_from.new.self.running.now c.loop-turn.invariant.pays
           (pays-then 1 c.loop-turn.self.running.now (record c.loop-turn.self.running.now { tables = c.first_stale.new.self }) c.turn_from.new.self.running.now
           (one-left c.loop-turn.self.running.now (record c.loop-turn.self.running.now { tables = c.first_stale.new.self })
-              (due-value c.loop-turn.self.running.now.tables c.first_stale.new.self _ _ 1 e.nodes.3 c.first_stale.ensures.looks) refl e.differs) g.pays);
+          (due-value c.loop-turn.self.running.now.tables c.first_stale.new.self _ _ 1 e.nodes.3 c.first_stale.ensures.looks) refl e.differs) g.pays);
     }
 
 pub returns-clause-sure : goal.returns-clause-sure
@@ -83,7 +91,7 @@ returns-then-is_last-clause-ended c = λ f args o before h.
     let e = c.has_stale.ensures in
     ends-so _ _ f args c.args.reads c.args.fuel o before (record c.loop-turn.self.running.now { tables = c.has_stale.new.self }) c.conclude.new.self c.loop-turn.turn c.loop-turn.invariant.few
     (is-done c.args.self.now c.loop-turn.self c.loop-turn.turn c.loop-turn.invariant.turning c.has_stale.new.self e.kept e.cells e.trace (e.none c.if-has_stale.false)
-        (e.honest c.if-has_stale.false) f args o before h) c.conclude.result
+    (e.honest c.if-has_stale.false) f args o before h) c.conclude.result
     c.conclude.ensures
 
 pub returns-then-is_last-clause-within : goal.returns-then-is_last-clause-within
@@ -104,9 +112,9 @@ pub returns-in-None-clause-ended : goal.returns-in-None-clause-ended
 returns-in-None-clause-ended c = λ f args o before h.
     let e = c.in-None.ensures in
     ends-so _ _ f args c.args.reads c.args.fuel o before
-        (record c.loop-turn.self.running.now { tables = c.first_stale.new.self }) c.conclude-in-None.new.self c.loop-turn.turn c.loop-turn.invariant.few
+    (record c.loop-turn.self.running.now { tables = c.first_stale.new.self }) c.conclude-in-None.new.self c.loop-turn.turn c.loop-turn.invariant.few
     (is-up-to-date c.args.self.now c.loop-turn.self c.loop-turn.turn c.loop-turn.invariant.turning c.first_stale.new.self e.kept e.cells e.none
-        (λ s i. e.left s i tt) f args o before h) c.conclude-in-None.result
+    (λ s i. e.left s i tt) f args o before h) c.conclude-in-None.result
     c.conclude-in-None.ensures
 
 pub returns-in-None-clause-within : goal.returns-in-None-clause-within
@@ -131,4 +139,4 @@ returns-then-not-branch-clause-pays c =
     pays-less (c.loop-turn.turn + 1) c.args.self.now.running.now c.turn_from.new.self.running.now
     (turn-pays c.loop-turn.turn c.args.self.now.running.now b c.turn_from.new.self.running.now c.loop-turn.invariant.pays
     (pays-then 1 b m c.turn_from.new.self.running.now
-        (one-left b m (due-value b.tables c.first_stale.new.self _ _ 1 e.nodes.3 c.first_stale.ensures.looks) refl e.differs) c.in_ok-turn_from-in-Some.ensures.pays))
+    (one-left b m (due-value b.tables c.first_stale.new.self _ _ 1 e.nodes.3 c.first_stale.ensures.looks) refl e.differs) c.in_ok-turn_from-in-Some.ensures.pays))

@@ -28,7 +28,7 @@ returns-clause-runs c = λ start a.
     let s : ℕ = c.in_ok-self.field-0.0 in
     let f = c.in_ok-self.ensures in
     let k : NodeMore new.cursor.0 s (Write c.args.place c.args.value) new.running.now.tables c.put_write.new.self =
-        record { nodes = f.nodes; inserted = f.inserted; bases = f.bases; behind = f.behind; kept = f.kept } in
+    record { nodes = f.nodes; inserted = f.inserted; bases = f.bases; behind = f.behind; kept = f.kept } in
     runs-as (code_of old) (inputs_of old) start (stack_in old.stack.now) _
     (record new { running = record new.running { now = record new.running.now { tables = c.put_write.new.self } }; cursor = c.in_ok-self.field-0 })
     (now-write (code_of old) (inputs_of old) start a.stack (view old) a.now (stack_in old.stack.now) c.args.place c.args.value new.running.now.tables c.put_write.new.self s a.does h.more

@@ -11,7 +11,7 @@ returns c = record {
   unit = λ p v u x args held.
       let seen = c.read_at-seen.result in
       unit-as c.args.code.now (node_at c.args.read.0 c.args.trace.now.nodes) p v u x args held seen.place seen.value seen.unit seen.var c.items-args.result.now
-          (c.read_at-seen.ensures.read ∙ ap (λ (ws : List Word). Some (Read seen.place seen.value seen.unit seen.var ws)) (sym c.items-args.ensures.value))
+      (c.read_at-seen.ensures.read ∙ ap (λ (ws : List Word). Some (Read seen.place seen.value seen.unit seen.var ws)) (sym c.items-args.ensures.value))
       (stack_in c.resume.new.self) (stack_in c.clear.new.self) c.clear.ensures.cleared c.in_ok-resume.ensures.resumed;
   aside = c.in_ok-resume.ensures.aside ∙ c.clear.ensures.aside;
 }

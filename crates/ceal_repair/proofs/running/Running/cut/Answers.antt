@@ -44,7 +44,7 @@ pub returns-in_ok-cut_write-in-Write-clause-lies : goal.returns-in_ok-cut_write-
 returns-in_ok-cut_write-in-Write-clause-lies c = λ front left tail l f.
     let e = c.in_ok-cut_write-in-Write.ensures in
     cut-write-lies c.args.cursor.0 c.args.node.0 front left tail c.args.self.now.tables c.requires.kept l f c.cut_write.new.self c.in-Write.place c.in-Write.ensures.0 c.in-Write.ensures.1 e.nodes
-        e.behind
+    e.behind
 
 pub returns-in_ok-cut_write-in-Write-clause-has : goal.returns-in_ok-cut_write-in-Write-clause-has
 returns-in_ok-cut_write-in-Write-clause-has c = λ code inputs h.
@@ -65,7 +65,7 @@ returns-in-Read-clause-has c = λ code inputs h.
 pub returns-in-Alloc-clause-looks : goal.returns-in-Alloc-clause-looks
 returns-in-Alloc-clause-looks c =
     due-cut c.args.self.now.tables c.cut_alloc.new.self c.args.node.0 c.cut_alloc.ensures.nodes
-        (owed-same c.args.self.now.tables c.cut_alloc.new.self c.cut_alloc.ensures.mods c.cut_alloc.ensures.queue)
+    (owed-same c.args.self.now.tables c.cut_alloc.new.self c.cut_alloc.ensures.mods c.cut_alloc.ensures.queue)
 
 pub returns-in_ok-cut_write-in-Write-clause-looks : goal.returns-in_ok-cut_write-in-Write-clause-looks
 returns-in_ok-cut_write-in-Write-clause-looks c =

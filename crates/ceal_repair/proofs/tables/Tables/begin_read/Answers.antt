@@ -26,7 +26,7 @@ add-requires-clause-absent c = no-entry c.begin_read-read.result.0 c.value_behin
 pub returns-clause-bases : goal.returns-clause-bases
 returns-clause-bases c = λ p.
     bases-same c.value_behind-value.new.self.mods c.add_read.new.self c.key.inside.place
-        (with_read (stamps_in c.begin_read-read.new.self.nodes) c.begin_read-read.result.0 (cell_of c.value_behind-value.new.self.mods c.key.inside.place))
+    (with_read (stamps_in c.begin_read-read.new.self.nodes) c.begin_read-read.result.0 (cell_of c.value_behind-value.new.self.mods c.key.inside.place))
     (rw c.order.ensures at c.in_ok-add_read.ensures.ok) refl p
     ∙ ap (λ (x : Cell). x.base) (cell-same p c.value_behind-value.new.self.mods c.args.self.now.mods c.value_behind-value.ensures.cells)
 
@@ -39,35 +39,35 @@ further after r a b nodes e f h = rw (e, f) h
 pub returns-clause-behind : goal.returns-clause-behind
 returns-clause-behind c = λ late r i.
     behind-put c.args.after.0 c.begin_read-read.result.0
-        (Read c.key.inside.place c.value_behind-value.result c.key.inside.unit c.key.inside.var c.in_ok-args.args) c.value_behind-value.new.self.trace.nodes c.begin_read-read.new.self.nodes
+    (Read c.key.inside.place c.value_behind-value.result c.key.inside.unit c.key.inside.var c.in_ok-args.args) c.value_behind-value.new.self.trace.nodes c.begin_read-read.new.self.nodes
     c.begin_read-read.ensures.inserted
-        (here c.args.after.0 c.value_behind-value.new.self.trace c.reserve.new.self c.args.self.now.trace.nodes c.value_behind-value.ensures.trace c.reserve.ensures.nodes c.requires.here)
+    (here c.args.after.0 c.value_behind-value.new.self.trace c.reserve.new.self c.args.self.now.trace.nodes c.value_behind-value.ensures.trace c.reserve.ensures.nodes c.requires.here)
     r (read-has r c.value_behind-value.new.self.trace.nodes (c.value_behind-value.ensures.kept.step.queued r i))
     (further c.args.after.0 r c.value_behind-value.new.self.trace c.reserve.new.self c.args.self.now.trace.nodes c.value_behind-value.ensures.trace c.reserve.ensures.nodes
-        (late r (rw c.value_behind-value.ensures.queue at i)))
+    (late r (rw c.value_behind-value.ensures.queue at i)))
 
 pub returns-clause-kept : goal.returns-clause-kept
 returns-clause-kept c =
     let s : ℕ = c.begin_read-read.result.0 in
     let key : ReadKey = record { place = c.key.inside.place; unit = c.key.inside.unit; var = c.key.inside.var; args = c.in_ok-args.args } in
     let same : key ≡ c.args.key.now =
-        ap (λ (ws : List Word). record { place = c.key.inside.place; unit = c.key.inside.unit; var = c.key.inside.var; args = ws }) c.in_ok-args.ensures.equal ∙ c.key.view_is in
+    ap (λ (ws : List Word). record { place = c.key.inside.place; unit = c.key.inside.unit; var = c.key.inside.var; args = ws }) c.in_ok-args.ensures.equal ∙ c.key.view_is in
     read-kept c.value_behind-value.new.self c.value_behind-value.ensures.kept c.args.after.0 s
-        (Read c.key.inside.place c.value_behind-value.result c.key.inside.unit c.key.inside.var c.in_ok-args.args) c.begin_read-read.new.self
+    (Read c.key.inside.place c.value_behind-value.result c.key.inside.unit c.key.inside.var c.in_ok-args.args) c.begin_read-read.new.self
     (here c.args.after.0 c.value_behind-value.new.self.trace c.reserve.new.self c.args.self.now.trace.nodes c.value_behind-value.ensures.trace c.reserve.ensures.nodes c.requires.here)
     c.begin_read-read.ensures.nodes c.begin_read-read.ensures.inserted c.begin_read-read.ensures.whole c.begin_read-read.ensures.closed key c.value_behind-value.result refl
     c.add_read.new.self c.add.new.self (rw c.order.ensures at c.in_ok-add_read.ensures.ok)
-        (subst (λ (k : ReadKey). Holds c.add.new.self (with_key s (OfRead k) (entries_in c.value_behind-value.new.self.trace.nodes))) (sym same)
-            (c.in_ok-add.ensures.ok (OfRead c.args.key.now) (entries_in c.value_behind-value.new.self.trace.nodes) (subst (λ (m : Contents). IsOf m (OfRead c.args.key.now) c.args.hashed)
-                (sym c.value_behind-value.ensures.memo) c.requires.hashed) c.value_behind-value.ensures.kept.step.keyed.entries))
+    (subst (λ (k : ReadKey). Holds c.add.new.self (with_key s (OfRead k) (entries_in c.value_behind-value.new.self.trace.nodes))) (sym same)
+    (c.in_ok-add.ensures.ok (OfRead c.args.key.now) (entries_in c.value_behind-value.new.self.trace.nodes) (subst (λ (m : Contents). IsOf m (OfRead c.args.key.now) c.args.hashed)
+    (sym c.value_behind-value.ensures.memo) c.requires.hashed) c.value_behind-value.ensures.kept.step.keyed.entries))
     (c.value_behind-value.ensures.value ∙ sym (value-over c.value_behind-value.new.self
-        (tables c.reserve.new.self c.args.self.now.mods c.args.self.now.stale c.args.self.now.memo) c.args.after.0 c.value_behind-value.ensures.trace c.value_behind-value.ensures.cells
-            c.key.inside.place))
+    (tables c.reserve.new.self c.args.self.now.mods c.args.self.now.stale c.args.self.now.memo) c.args.after.0 c.value_behind-value.ensures.trace c.value_behind-value.ensures.cells
+    c.key.inside.place))
     (λ r i. further c.args.after.0 r c.value_behind-value.new.self.trace c.reserve.new.self c.args.self.now.trace.nodes c.value_behind-value.ensures.trace c.reserve.ensures.nodes
-        (c.requires.late r (rw c.value_behind-value.ensures.queue at i)))
+    (c.requires.late r (rw c.value_behind-value.ensures.queue at i)))
     (rw c.order.ensures at c.add_read.ensures.follows) (rw c.order-2.ensures at c.add.ensures.follows)
     (c.follows_still-2.ensures.inserted s c.value_behind-value.new.self.stale (stamps_in c.value_behind-value.new.self.trace.nodes)
-        (stamps_in c.begin_read-read.new.self.nodes) c.value_behind-value.ensures.kept.step.stale c.begin_read-read.ensures.inserted.others.stamps)
+    (stamps_in c.begin_read-read.new.self.nodes) c.value_behind-value.ensures.kept.step.stale c.begin_read-read.ensures.inserted.others.stamps)
 
 pub returns-clause-looks : goal.returns-clause-looks
 returns-clause-looks c =

@@ -17,7 +17,7 @@ pub returns-clause-kept : goal.returns-clause-kept
 returns-clause-kept c =
     let n : Node = Alloc c.requires.here.0 c.requires.here.1 in
     alloc-cut-kept c.args.self.now c.requires.kept c.args.alloc.0
-        (Alloc c.requires.here.0 c.requires.here.1) c.requires.here.2 c.discard.new.self c.discard.ensures.nodes c.discard.ensures.others c.discard.ensures.whole
+    (Alloc c.requires.here.0 c.requires.here.1) c.requires.here.2 c.discard.new.self c.discard.ensures.nodes c.discard.ensures.others c.discard.ensures.whole
     (c.discard.ensures.closed c.requires.kept.step.closed (no-end c.args.alloc.0 (Alloc c.requires.here.0 c.requires.here.1) c.args.self.now.trace c.requires.kept.step.whole c.requires.here.2 refl))
     c.requires.here.0 c.requires.here.1 refl c.remove.new.self (c.remove.ensures.holds (entries_in c.args.self.now.trace.nodes) c.requires.kept.step.keyed.entries) c.remove.ensures.gone
     (c.remove.ensures.follows (stamps_in c.args.self.now.trace.nodes) c.requires.kept.step.memo)

@@ -18,35 +18,35 @@ remove_read-requires-clause-there c =
 pub returns-clause-bases : goal.returns-clause-bases
 returns-clause-bases c = λ p.
     bases-same c.args.self.now.mods c.remove_read.new.self c.recorded-value.result.0 (without_read c.args.read.0 (cell_of c.args.self.now.mods c.recorded-value.result.0))
-        (rw c.hand_on.ensures.mods at c.remove_read.ensures.cell) refl p
+    (rw c.hand_on.ensures.mods at c.remove_read.ensures.cell) refl p
 
 pub returns-clause-behind : goal.returns-clause-behind
 returns-clause-behind c = λ s lt.
     read-cut-behind c.args.self.now c.requires.kept c.args.read.0 c.in-Some.end.0 c.recorded-value.result.0 c.recorded-value.result.1 c.recorded-value.ensures c.in-Some.ensures.finished
-        c.discard.new.self c.discard-2.new.self
+    c.discard.new.self c.discard-2.new.self
     (rw c.hand_on.ensures.trace at c.discard.ensures.nodes) (rw c.hand_on.ensures.trace at c.discard.ensures.others) c.discard-2.ensures.nodes c.discard-2.ensures.others c.discard.ensures.whole
     c.remove_read.new.self (rw c.hand_on.ensures.mods at c.remove_read.ensures.cell) c.remove.new.self
-        (c.remove.ensures.holds (entries_in c.args.self.now.trace.nodes) (rw c.hand_on.ensures.memo c.requires.kept.step.keyed.entries))
+    (c.remove.ensures.holds (entries_in c.args.self.now.trace.nodes) (rw c.hand_on.ensures.memo c.requires.kept.step.keyed.entries))
     c.hand_on.new.self.stale c.hand_on.ensures.gone c.hand_on.ensures.more c.hand_on.ensures.only c.in-Some.ensures.behind (rw c.hand_on.ensures.trace at c.hand_on.ensures.stale)
-        (rw c.hand_on.ensures.trace at c.hand_on.ensures.ahead) s lt
+    (rw c.hand_on.ensures.trace at c.hand_on.ensures.ahead) s lt
 
 pub returns-clause-kept : goal.returns-clause-kept
 returns-clause-kept c =
     let is = end-is c.args.self.now c.requires.kept c.args.read.0 c.in-Some.end.0 c.recorded-value.result.0 c.recorded-value.result.1 c.recorded-value.ensures c.in-Some.ensures.finished
-        c.discard.new.self c.discard-2.new.self
+    c.discard.new.self c.discard-2.new.self
     (rw c.hand_on.ensures.trace at c.discard.ensures.nodes) (rw c.hand_on.ensures.trace at c.discard.ensures.others) c.discard-2.ensures.nodes c.discard-2.ensures.others c.discard.ensures.whole
     c.remove_read.new.self (rw c.hand_on.ensures.mods at c.remove_read.ensures.cell) c.remove.new.self
-        (c.remove.ensures.holds (entries_in c.args.self.now.trace.nodes) (rw c.hand_on.ensures.memo c.requires.kept.step.keyed.entries)) in
+    (c.remove.ensures.holds (entries_in c.args.self.now.trace.nodes) (rw c.hand_on.ensures.memo c.requires.kept.step.keyed.entries)) in
     read-cut-kept c.args.self.now c.requires.kept c.args.read.0 c.in-Some.end.0 c.recorded-value.result.0 c.recorded-value.result.1 c.recorded-value.ensures c.in-Some.ensures.finished
-        c.discard.new.self c.discard-2.new.self
+    c.discard.new.self c.discard-2.new.self
     (rw c.hand_on.ensures.trace at c.discard.ensures.nodes) (rw c.hand_on.ensures.trace at c.discard.ensures.others) c.discard-2.ensures.nodes c.discard-2.ensures.others c.discard.ensures.whole
     c.remove_read.new.self (rw c.hand_on.ensures.mods at c.remove_read.ensures.cell) c.remove.new.self
-        (c.remove.ensures.holds (entries_in c.args.self.now.trace.nodes) (rw c.hand_on.ensures.memo c.requires.kept.step.keyed.entries))
+    (c.remove.ensures.holds (entries_in c.args.self.now.trace.nodes) (rw c.hand_on.ensures.memo c.requires.kept.step.keyed.entries))
     c.hand_on.new.self.stale c.hand_on.ensures.gone c.hand_on.ensures.more c.hand_on.ensures.only c.hand_on.ensures.woken c.discard-2.ensures.whole
     (c.discard-2.ensures.mended (End (stamp-of c.args.read.0)) c.args.read.0 is (c.discard.ensures.loose (rw c.hand_on.ensures.trace c.requires.kept.step.closed))
-        (rw (eq-eqb c.args.read.0 c.args.read.0 refl) refl))
+    (rw (eq-eqb c.args.read.0 c.args.read.0 refl) refl))
     (rw (c.order.ensures, c.hand_on.ensures.trace) at c.remove_read.ensures.follows) c.remove.ensures.gone
-        (c.remove.ensures.follows (stamps_in c.args.self.now.trace.nodes) (rw c.hand_on.ensures.memo c.requires.kept.step.memo))
+    (c.remove.ensures.follows (stamps_in c.args.self.now.trace.nodes) (rw c.hand_on.ensures.memo c.requires.kept.step.memo))
     (rw c.hand_on.ensures.trace at c.hand_on.ensures.stale)
 
 pub returns-clause-looks : goal.returns-clause-looks

@@ -47,7 +47,7 @@ pub returns-clause-behind : goal.returns-clause-behind
 returns-clause-behind c = λ s lt late r i.
     let b : Tables = c.is_needless-needless.new.self in
     let at_it : node_at c.args.write.0 b.trace.nodes ≡ Some (Write c.args.place c.requires.here.0) =
-        there c.args.write.0 c.args.place c.requires.here.0 b.trace c.args.self.now.trace c.is_needless-needless.ensures.trace c.requires.here.1 in
+    there c.args.write.0 c.args.place c.requires.here.0 b.trace c.args.self.now.trace c.is_needless-needless.ensures.trace c.requires.here.1 in
     write-cut-behind c.is_needless-needless.new.self c.is_needless-needless.ensures.kept c.args.write.0 (Write c.args.place c.requires.here.0) at_it c.discard.new.self
     (rw c.wake_unless.ensures.trace at c.discard.ensures.nodes) (rw c.wake_unless.ensures.trace at c.discard.ensures.others)
     c.discard.ensures.whole (c.discard.ensures.closed (rw c.wake_unless.ensures.trace c.is_needless-needless.ensures.kept.step.closed)
@@ -60,7 +60,7 @@ pub returns-clause-kept : goal.returns-clause-kept
 returns-clause-kept c =
     let b : Tables = c.is_needless-needless.new.self in
     let at_it : node_at c.args.write.0 b.trace.nodes ≡ Some (Write c.args.place c.requires.here.0) =
-        there c.args.write.0 c.args.place c.requires.here.0 b.trace c.args.self.now.trace c.is_needless-needless.ensures.trace c.requires.here.1 in
+    there c.args.write.0 c.args.place c.requires.here.0 b.trace c.args.self.now.trace c.is_needless-needless.ensures.trace c.requires.here.1 in
     let before : Tables = tables c.args.self.now.trace c.args.self.now.mods c.reserve.new.self c.args.self.now.memo in
     rw (c.wake_unless.ensures.mods, c.wake_unless.ensures.memo)
     (write-cut-kept c.is_needless-needless.new.self c.is_needless-needless.ensures.kept c.args.write.0 (Write c.args.place c.requires.here.0) at_it c.discard.new.self

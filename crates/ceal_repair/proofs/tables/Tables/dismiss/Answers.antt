@@ -9,9 +9,9 @@ unqueue-was-requires-clause-here c = read-has c.args.read.0 c.args.self.now.trac
 pub returns-clause-behind : goal.returns-clause-behind
 returns-clause-behind c = λ r i. rw c.unqueue-was.ensures.trace
     (behind-own (stamps_in c.args.self.now.trace.nodes) c.unqueue-was.new.self.stale.stamps c.args.read.0 (rw c.unqueue-was.ensures.trace at c.unqueue-was.ensures.stale)
-        (read-has c.args.read.0 c.args.self.now.trace.nodes c.requires.here)
+    (read-has c.args.read.0 c.args.self.now.trace.nodes c.requires.here)
     c.unqueue-was.ensures.without.gone
-        (still-first (stamps_in c.args.self.now.trace.nodes) c.args.self.now.stale.stamps c.unqueue-was.new.self.stale.stamps c.args.read.0 c.unqueue-was.ensures.without c.requires.first) r i)
+    (still-first (stamps_in c.args.self.now.trace.nodes) c.args.self.now.stale.stamps c.unqueue-was.new.self.stale.stamps c.args.read.0 c.unqueue-was.ensures.without c.requires.first) r i)
 
 pub returns-clause-kept : goal.returns-clause-kept
 returns-clause-kept c =

@@ -9,5 +9,5 @@ first_of_read-requires-clause-keys c = c.requires.kept.step.keyed.entries
 pub returns : goal.returns
 returns c =
     looked-up (recalls c.args.key.now) (OfRead c.args.key.now) (read-tells c.args.key.now) c.args.self.now.trace.nodes c.requires.kept.step.whole.order.distinct c.args.after.0 c.args.until.0
-        c.requires.after c.requires.until c.requires.order c.first_of_read.result
+    c.requires.after c.requires.until c.requires.order c.first_of_read.result
     (rw c.order.ensures at c.first_of_read.ensures.first) (rw c.order.ensures at c.first_of_read.ensures.before) (rw c.order.ensures at c.first_of_read.ensures.none)

@@ -46,13 +46,13 @@ settle-requires-clause-here c =
 pub returns-then-settle-clause-stale : goal.returns-then-settle-clause-stale
 returns-then-settle-clause-stale c =
     stale-same (tables c.loop-looked.self.trace c.loop-looked.self.mods c.pop_before.new.self c.loop-looked.self.memo) c.args.self.now c.in_ok-read.read.0 c.loop-looked.invariant.trace
-        c.loop-looked.invariant.cells
+    c.loop-looked.invariant.cells
     (c.settle.ensures.stale c.if-settle.true)
 
 pub returns-then-settle-clause-nodes : goal.returns-then-settle-clause-nodes
 returns-then-settle-clause-nodes c =
     nodes-same (tables c.loop-looked.self.trace c.loop-looked.self.mods c.pop_before.new.self c.loop-looked.self.memo) c.args.self.now c.in_ok-read.read.0 c.settle.new.self.trace.nodes
-        c.loop-looked.invariant.trace c.loop-looked.invariant.cells
+    c.loop-looked.invariant.trace c.loop-looked.invariant.cells
     (c.settle.ensures.nodes c.if-settle.true)
 
 pub returns-then-settle-clause-limit : goal.returns-then-settle-clause-limit
@@ -67,7 +67,7 @@ returns-then-settle-clause-memo c = c.settle.ensures.memo ∙ c.loop-looked.inva
 pub loop-looked-preserved : goal.loop-looked-preserved
 loop-looked-preserved c =
     looked-more c.args.self.now c.loop-looked.self c.settle.new.self c.loop-looked._looked c.in_ok-read.read.0 c.loop-looked.invariant c.in_ok-read.ensures.earliest.there c.settle.ensures.kept
-        (c.settle.ensures.same c.if-settle.false)
+    (c.settle.ensures.same c.if-settle.false)
     c.settle.ensures.cells c.settle.ensures.memo c.settle.ensures.behind
     (let a = c.settle.ensures.idle c.if-settle.false in
     let b = c.in_ok-read.ensures.fewer in omega (arith, a, b)) (c.settle.ensures.none_differs c.if-settle.false)

@@ -8,14 +8,14 @@ pub returns-then-unqueue-clause-ahead : goal.returns-then-unqueue-clause-ahead
 returns-then-unqueue-clause-ahead c = λ r i. rw (c.wake.ensures.trace, c.unqueue.ensures.trace)
     (by-queue r c.unqueue.new.self.stale.stamps
     (λ j. behind-own (stamps_in c.args.self.now.trace.nodes) c.unqueue.new.self.stale.stamps c.args.read.0
-        (rw c.unqueue.ensures.trace at c.unqueue.ensures.stale) c.requires.here c.unqueue.ensures.without.gone
+    (rw c.unqueue.ensures.trace at c.unqueue.ensures.stale) c.requires.here c.unqueue.ensures.without.gone
     (still-first (stamps_in c.args.self.now.trace.nodes) c.args.self.now.stale.stamps c.unqueue.new.self.stale.stamps c.args.read.0 c.unqueue.ensures.without c.requires.first) r j)
     (λ j. rw c.unqueue.ensures.trace at c.wake.ensures.ahead r j i))
 
 pub returns-else-unqueue-clause-ahead : goal.returns-else-unqueue-clause-ahead
 returns-else-unqueue-clause-ahead c = λ r i. rw c.unqueue.ensures.trace
     (behind-own (stamps_in c.args.self.now.trace.nodes) c.unqueue.new.self.stale.stamps c.args.read.0
-        (rw c.unqueue.ensures.trace at c.unqueue.ensures.stale) c.requires.here c.unqueue.ensures.without.gone
+    (rw c.unqueue.ensures.trace at c.unqueue.ensures.stale) c.requires.here c.unqueue.ensures.without.gone
     (still-first (stamps_in c.args.self.now.trace.nodes) c.args.self.now.stale.stamps c.unqueue.new.self.stale.stamps c.args.read.0 c.unqueue.ensures.without c.requires.first) r i)
 
 pub returns-then-unqueue-clause-most : goal.returns-then-unqueue-clause-most

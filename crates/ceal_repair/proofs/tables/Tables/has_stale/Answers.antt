@@ -42,7 +42,7 @@ loop-looked-preserved c =
     looked-more c.args.self.now c.loop-looked.self c.dismiss.new.self c.loop-looked._looked c.in-Some.read.0 c.loop-looked.invariant
     (c.in-Some.ensures.first (stamps_in c.loop-looked.self.trace.nodes) c.loop-looked.invariant.kept.step.stale).there c.dismiss.ensures.kept
     (c.dismiss.ensures.trace ∙ c.differs.ensures.trace) (ap (λ (m : Contents). m.cells) c.dismiss.ensures.mods ∙ c.differs.ensures.cells)
-        (c.dismiss.ensures.memo ∙ c.differs.ensures.memo) c.dismiss.ensures.behind
+    (c.dismiss.ensures.memo ∙ c.differs.ensures.memo) c.dismiss.ensures.behind
     (let there = (c.in-Some.ensures.first (stamps_in c.loop-looked.self.trace.nodes) c.loop-looked.invariant.kept.step.stale).there in
     let a = c.differs.ensures.looks in
     let b = ap (λ (m : Contents). m.looked) c.dismiss.ensures.mods in

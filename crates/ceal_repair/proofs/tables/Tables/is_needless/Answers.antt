@@ -13,9 +13,9 @@ value_at-held-requires-clause-here c = rw c.order.ensures (node-has c.args.write
 pub returns-clause-same : goal.returns-clause-same
 returns-clause-same c = λ told.
     let is = same-write c.args.place c.written_at-value.ensures.value.0 c.requires.here.0 c.written_at-value.result
-        (some-same (Write c.args.place c.requires.here.0) (Write c.written_at-value.ensures.value.0 c.written_at-value.result) (sym c.requires.here.1 ∙ c.written_at-value.ensures.value.1)) in
+    (some-same (Write c.args.place c.requires.here.0) (Write c.written_at-value.ensures.value.0 c.written_at-value.result) (sym c.requires.here.1 ∙ c.written_at-value.ensures.value.1)) in
     let held =
-        held-at c.args.self.now c.requires.kept.step c.args.write.0 c.args.place c.requires.here.0 c.value_at-held.result c.requires.here.1 (rw c.order.ensures at c.value_at-held.ensures.value) in
+    held-at c.args.self.now c.requires.kept.step c.args.write.0 c.args.place c.requires.here.0 c.value_at-held.result c.requires.here.1 (rw c.order.ensures at c.value_at-held.ensures.value) in
     c.requires.here.1 ∙ ap (λ v. Some (Write c.args.place v)) (is.1 ∙ (c.is_same.ensures.same told ∙ held))
 
 pub returns-clause-looks : goal.returns-clause-looks

@@ -17,7 +17,7 @@ unqueue-requires-clause-here c = read-has c.args.read.0 c.args.self.now.trace.no
 pub settle-requires-clause-chained : goal.settle-requires-clause-chained
 settle-requires-clause-chained c = rw (c.unqueue.ensures.trace, c.unqueue.ensures.mods)
     (chained-and c.args.read.0 c.args.self.now.stale.stamps c.unqueue.new.self.stale.stamps
-        (base_in c.args.self.now.mods) c.args.self.now.trace.nodes c.unqueue.ensures.without.others c.requires.kept.chained)
+    (base_in c.args.self.now.mods) c.args.self.now.trace.nodes c.unqueue.ensures.without.others c.requires.kept.chained)
 
 pub returns-then-unqueue-clause-honest : goal.returns-then-unqueue-clause-honest
 returns-then-unqueue-clause-honest c = λ told.
@@ -26,20 +26,20 @@ returns-then-unqueue-clause-honest c = λ told.
 pub returns-else-unqueue-clause-honest : goal.returns-else-unqueue-clause-honest
 returns-else-unqueue-clause-honest c = λ told.
     unqueued-honest c.args.self.now c.requires.kept c.args.read.0
-        (false-of (is_in c.args.read.0 c.args.self.now.stale.stamps) (λ i. sym (c.unqueue.ensures.was.1 i) ∙ c.if-unqueue.false)) c.requires.first
+    (false-of (is_in c.args.read.0 c.args.self.now.stale.stamps) (λ i. sym (c.unqueue.ensures.was.1 i) ∙ c.if-unqueue.false)) c.requires.first
 
 pub returns-else-unqueue-clause-behind : goal.returns-else-unqueue-clause-behind
 returns-else-unqueue-clause-behind c = λ r i. rw c.unqueue.ensures.trace
     (behind-own (stamps_in c.args.self.now.trace.nodes) c.unqueue.new.self.stale.stamps c.args.read.0 (rw c.unqueue.ensures.trace at c.unqueue.ensures.stale)
-        (read-has c.args.read.0 c.args.self.now.trace.nodes c.requires.here)
+    (read-has c.args.read.0 c.args.self.now.trace.nodes c.requires.here)
     c.unqueue.ensures.without.gone
-        (still-first (stamps_in c.args.self.now.trace.nodes) c.args.self.now.stale.stamps c.unqueue.new.self.stale.stamps c.args.read.0 c.unqueue.ensures.without c.requires.first) r i)
+    (still-first (stamps_in c.args.self.now.trace.nodes) c.args.self.now.stale.stamps c.unqueue.new.self.stale.stamps c.args.read.0 c.unqueue.ensures.without c.requires.first) r i)
 
 pub returns-else-unqueue-clause-kept : goal.returns-else-unqueue-clause-kept
 returns-else-unqueue-clause-kept c =
     as-tables c.unqueue.new.self c.args.self.now.trace c.args.self.now.mods c.args.self.now.memo c.unqueue.ensures.trace c.unqueue.ensures.mods c.unqueue.ensures.memo
     (same-queue c.args.self.now c.requires.kept c.args.read.0
-        (false-of (is_in c.args.read.0 c.args.self.now.stale.stamps) (λ i. sym (c.unqueue.ensures.was.1 i) ∙ c.if-unqueue.false)) c.unqueue.new.self.stale c.unqueue.ensures.without
+    (false-of (is_in c.args.read.0 c.args.self.now.stale.stamps) (λ i. sym (c.unqueue.ensures.was.1 i) ∙ c.if-unqueue.false)) c.unqueue.new.self.stale c.unqueue.ensures.without
     (rw c.unqueue.ensures.trace at c.unqueue.ensures.stale))
 
 pub returns-then-unqueue-clause-looks : goal.returns-then-unqueue-clause-looks

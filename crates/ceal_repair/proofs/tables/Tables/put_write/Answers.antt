@@ -23,7 +23,7 @@ wake-requires-clause-stale c =
 pub returns-clause-bases : goal.returns-clause-bases
 returns-clause-bases c = λ p. rw c.wake.ensures.mods
     (bases-same c.args.self.now.mods c.add_write.new.self c.args.place
-        (with_write (stamps_in c.insert_write-added.new.self.nodes) c.insert_write-added.result.0 c.args.value (cell_of c.args.self.now.mods c.args.place))
+    (with_write (stamps_in c.insert_write-added.new.self.nodes) c.insert_write-added.result.0 c.args.value (cell_of c.args.self.now.mods c.args.place))
     (rw c.order.ensures at c.in_ok-add_write.ensures.ok) refl p)
 
 pub returns-clause-behind : goal.returns-clause-behind

@@ -18,7 +18,7 @@ returns-then-is_same-clause-honest c = λ told.
 pub returns-then-is_same-clause-behind : goal.returns-then-is_same-clause-behind
 returns-then-is_same-clause-behind c = λ r i.
     behind-own (stamps_in c.args.self.now.trace.nodes) c.args.self.now.stale.stamps c.args.popped.0 c.requires.step.stale
-        (read-has c.args.popped.0 c.args.self.now.trace.nodes c.requires.here) c.requires.out c.requires.first r i
+    (read-has c.args.popped.0 c.args.self.now.trace.nodes c.requires.here) c.requires.out c.requires.first r i
 
 pub returns-then-is_same-clause-kept : goal.returns-then-is_same-clause-kept
 returns-then-is_same-clause-kept c =
@@ -54,7 +54,7 @@ pub returns-clause-behind : goal.returns-clause-behind
 returns-clause-behind c = λ r i. rw (c.set_value.ensures.others.stamps, c.wake.ensures.trace)
     (by-queue r c.args.self.now.stale.stamps
     (λ j. behind-own (stamps_in c.args.self.now.trace.nodes) c.args.self.now.stale.stamps c.args.popped.0 c.requires.step.stale
-        (read-has c.args.popped.0 c.args.self.now.trace.nodes c.requires.here) c.requires.out c.requires.first r j)
+    (read-has c.args.popped.0 c.args.self.now.trace.nodes c.requires.here) c.requires.out c.requires.first r j)
     (λ j. c.wake.ensures.ahead r j i))
 
 pub returns-clause-kept : goal.returns-clause-kept
@@ -63,11 +63,11 @@ returns-clause-kept c =
     rw (c.wake.ensures.mods, c.wake.ensures.memo)
     (settled-kept c.args.self.now c.requires.step c.args.popped.0 c.recorded-value.result.0 c.recorded-value.result.1 c.value_at-now.result c.recorded-value.ensures
     (rw c.order.ensures at c.value_at-now.ensures.value) c.requires.chained c.requires.first c.count_differed.new.self
-        (c.count_differed.ensures.cells ∙ c.value_at-now.ensures.cells) c.wake.new.self.stale
+    (c.count_differed.ensures.cells ∙ c.value_at-now.ensures.cells) c.wake.new.self.stale
     c.wake.ensures.more (rw cell at c.wake.ensures.only) (rw cell at c.wake.ensures.woken) (rw c.wake.ensures.trace at c.wake.ensures.stale) c.set_value.new.self
-        (rw c.wake.ensures.trace at c.set_value.ensures.nodes)
+    (rw c.wake.ensures.trace at c.set_value.ensures.nodes)
     (rw c.wake.ensures.trace at c.set_value.ensures.changed) (rw c.wake.ensures.trace at c.set_value.ensures.others) c.set_value.ensures.whole
-        (c.set_value.ensures.closed (rw c.wake.ensures.trace c.requires.step.closed)))
+    (c.set_value.ensures.closed (rw c.wake.ensures.trace c.requires.step.closed)))
 
 pub returns-then-is_same-clause-looks : goal.returns-then-is_same-clause-looks
 returns-then-is_same-clause-looks c = let a = one-look c.args.self.now.mods c.value_at-now.new.self c.value_at-now.ensures.looked in omega (arith, a)

@@ -9,7 +9,7 @@ returns-clause-was c =
     let t = pop-tells (stamps_in c.args.self.now.trace.nodes) c.args.self.now.stale.stamps c.args.read.0 c.next-next.result c.requires.here c.requires.stale c.requires.first
     (rw c.order.ensures at c.next-next.ensures.after) (rw c.order.ensures at c.next-next.ensures.at_end) c.pop_before.new.self c.args.self.now.stale c.pop_before.result refl
     (rw c.order-2.ensures at c.pop_before.ensures.earliest) (rw c.order-2.ensures at c.pop_before.ensures.before) c.pop_before.ensures.without
-        (rw c.order-2.ensures at c.pop_before.ensures.none) c.pop_before.ensures.unchanged in
+    (rw c.order-2.ensures at c.pop_before.ensures.none) c.pop_before.ensures.unchanged in
     (λ h. sym t.1 ∙ (sym c.is_some.ensures ∙ h), λ h. c.is_some.ensures ∙ (t.1 ∙ h))
 
 pub returns-clause-without : goal.returns-clause-without
@@ -17,7 +17,7 @@ returns-clause-without c =
     (pop-tells (stamps_in c.args.self.now.trace.nodes) c.args.self.now.stale.stamps c.args.read.0 c.next-next.result c.requires.here c.requires.stale c.requires.first
     (rw c.order.ensures at c.next-next.ensures.after) (rw c.order.ensures at c.next-next.ensures.at_end) c.pop_before.new.self c.args.self.now.stale c.pop_before.result refl
     (rw c.order-2.ensures at c.pop_before.ensures.earliest) (rw c.order-2.ensures at c.pop_before.ensures.before) c.pop_before.ensures.without
-        (rw c.order-2.ensures at c.pop_before.ensures.none) c.pop_before.ensures.unchanged).0
+    (rw c.order-2.ensures at c.pop_before.ensures.none) c.pop_before.ensures.unchanged).0
 
 pub returns-clause-fewer : goal.returns-clause-fewer
 returns-clause-fewer c = λ told. of-some c.pop_before.result (sym c.is_some.ensures ∙ told) c.pop_before.ensures.fewer

@@ -17,7 +17,7 @@ one-woken : (order : List ℕ) (cell : Cell) (s read : ℕ) (queue : List ℕ) �
     → (r : ℕ) → Sees order cell s r → ((other : ℕ) → Sees order cell s other → place r order ≤ place other order) → is_in r queue ≡ true
 one-woken order cell s read queue rises a h r sees least =
     let same : r ≡ read =
-        place_tells r read order (in_order r cell.reads order rises sees.there) (in_order read cell.reads order rises a.sees.there) (omega (arith, least read a.sees, a.earliest r sees)) in
+    place_tells r read order (in_order r cell.reads order rises sees.there) (in_order read cell.reads order rises a.sees.there) (omega (arith, least read a.sees, a.earliest r sees)) in
     rw same h
 
 pub returns-in-Some-clause-woken : goal.returns-in-Some-clause-woken

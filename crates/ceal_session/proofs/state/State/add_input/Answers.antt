@@ -13,7 +13,7 @@ invariant_of-self-in-Ok c =
     let o = c.in-Ok.ensures in
     rw c.in_ok-add_new.ensures.ok
     (longer-holds i.program i.names i.engine i.journal i.pending c.self.invariant c.add_input.new.self o.code o.fuel o.call o.forest o.heap o.work c.args.name.now
-        (block_of c.args.shape c.args.words.now)
+    (block_of c.args.shape c.args.words.now)
     (subst (λ m. block_fits m.state.program.structs (memory_of m.state) (block_of c.args.shape c.args.words.now) ≡ true) (sym c.self.view_is) c.requires.fits) o.phase o.inputs c.requires.named)
 
 pub returns-in-Ok-clause-ok : goal.returns-in-Ok-clause-ok
@@ -23,7 +23,7 @@ returns-in-Ok-clause-ok c =
     subst (λ m. state_of i.program c.add_new.new.self c.add_input.new.self i.journal i.pending ≡ with_input m.state c.args.name.now (block_of c.args.shape c.args.words.now)) c.self.view_is
     (rw c.in_ok-add_new.ensures.ok
     (longer-state i.program i.names i.engine i.journal i.pending c.self.invariant c.add_input.new.self o.code o.fuel o.call o.forest o.heap o.work c.args.name.now
-        (block_of c.args.shape c.args.words.now)
+    (block_of c.args.shape c.args.words.now)
     (subst (λ m. block_fits m.state.program.structs (memory_of m.state) (block_of c.args.shape c.args.words.now) ≡ true) (sym c.self.view_is) c.requires.fits) o.phase o.inputs))
 
 pub returns-in-Ok-clause-trace : goal.returns-in-Ok-clause-trace
@@ -33,5 +33,5 @@ returns-in-Ok-clause-trace c =
     subst (λ m. KeepsRuns (situation m) (situation_of i.program c.add_new.new.self c.add_input.new.self i.journal i.pending)) c.self.view_is
     (rw c.in_ok-add_new.ensures.ok
     (longer-keeps i.program i.names i.engine i.journal i.pending c.self.invariant c.add_input.new.self o.code o.fuel o.call o.forest o.heap o.work c.args.name.now
-        (block_of c.args.shape c.args.words.now)
+    (block_of c.args.shape c.args.words.now)
     (subst (λ m. block_fits m.state.program.structs (memory_of m.state) (block_of c.args.shape c.args.words.now) ≡ true) (sym c.self.view_is) c.requires.fits) o.phase o.inputs))

@@ -20,7 +20,7 @@ returns-clause-bound c =
     subst (λ m. IfOk c.bound_of.result (λ n. n ≡ (situation m).bound)) c.self.view_is
     (if-ok c.bound_of.result
     (λ n h. told-cost i.program i.names i.engine i.journal i.pending c.self.invariant c.phase-phase.ensures.whole (subst (λ m. IsReady m.state) (sym c.self.view_is) c.requires) n
-        (rw c.bounding.ensures at h))
+    (rw c.bounding.ensures at h))
     c.bound_of.ensures)
 
 pub returns-clause-run : goal.returns-clause-run

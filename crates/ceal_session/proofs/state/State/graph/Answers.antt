@@ -12,12 +12,12 @@ use Rattle.ceal_session.proofs.state.State.graph.Goals as goal
 pub graph-requires-clause-whole : goal.graph-requires-clause-whole
 graph-requires-clause-whole c =
     whole-seen c.self.inside.program c.self.inside.names c.self.inside.engine c.self.inside.journal c.self.inside.pending c.self.invariant c.phase-phase.ensures.whole
-        (subst (λ m. IsReady m.state) (sym c.self.view_is) c.requires.ready) c.fitting_is_whole.ensures.law
+    (subst (λ m. IsReady m.state) (sym c.self.view_is) c.requires.ready) c.fitting_is_whole.ensures.law
 
 pub graph-requires-clause-there : goal.graph-requires-clause-there
 graph-requires-clause-there c =
     root-seen c.self.inside.program c.self.inside.names c.self.inside.engine c.self.inside.journal c.self.inside.pending c.self.invariant c.phase-phase.ensures.whole
-        (subst (λ m. IsReady m.state) (sym c.self.view_is) c.requires.ready) c.progress_law.ensures.law
+    (subst (λ m. IsReady m.state) (sym c.self.view_is) c.requires.ready) c.progress_law.ensures.law
     c.args.input (subst (λ m. c.args.input < length m.state.inputs) (sym c.self.view_is) c.requires.there)
 
 pub returns : goal.returns
@@ -25,7 +25,7 @@ returns c =
     subst (λ m. IfOk c.graph.result (λ text. TellsOf m.state (numbers_in (situation m)) (Show c.args.input) (present_run m.state) text)) c.self.view_is
     (if-ok c.graph.result
     (λ text h. told-graph c.self.inside.program c.self.inside.names c.self.inside.engine c.self.inside.journal c.self.inside.pending c.self.invariant c.phase-phase.ensures.whole
-        (subst (λ m. IsReady m.state) (sym c.self.view_is) c.requires.ready) c.progress_law.ensures.law
+    (subst (λ m. IsReady m.state) (sym c.self.view_is) c.requires.ready) c.progress_law.ensures.law
     c.fitting_is_whole.ensures.law c.same_text.ensures.law c.args.input (subst (λ m. c.args.input < length m.state.inputs) (sym c.self.view_is) c.requires.there)
-        (numbers_in (situation_of c.self.inside.program c.self.inside.names c.self.inside.engine c.self.inside.journal c.self.inside.pending)) text h)
+    (numbers_in (situation_of c.self.inside.program c.self.inside.names c.self.inside.engine c.self.inside.journal c.self.inside.pending)) text h)
     c.graph.ensures)

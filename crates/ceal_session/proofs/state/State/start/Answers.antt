@@ -13,7 +13,7 @@ pub first_advanced-came-requires-clause-fits : goal.first_advanced-came-requires
 first_advanced-came-requires-clause-fits c =
     let i = c.self.inside in
     call-fits i.program i.engine.code c.self.invariant.compiled.code c.self.invariant.compiled.valid
-        (state_of i.program i.names i.engine i.journal i.pending) c.args.call.now.function c.args.call.now.args refl c.phase-before.ensures.whole.inputs
+    (state_of i.program i.names i.engine i.journal i.pending) c.args.call.now.function c.args.call.now.args refl c.phase-before.ensures.whole.inputs
     (subst (λ m. IsCall m.state c.args.call.now) (sym c.self.view_is) c.requires.fits)
 
 pub settle-requires : goal.settle-requires
@@ -26,7 +26,7 @@ invariant_of-self c =
     rw (c.settle.ensures, c.goes_on-self-inside.ensures)
     (holds-behind i.program i.names i.engine i.journal i.pending c.self.invariant c.args.call.now
     (call-fits i.program i.engine.code c.self.invariant.compiled.code c.self.invariant.compiled.valid
-        (state_of i.program i.names i.engine i.journal i.pending) c.args.call.now.function c.args.call.now.args refl c.phase-before.ensures.whole.inputs
+    (state_of i.program i.names i.engine i.journal i.pending) c.args.call.now.function c.args.call.now.args refl c.phase-before.ensures.whole.inputs
     (subst (λ m. IsCall m.state c.args.call.now) (sym c.self.view_is) c.requires.fits))
     None o.new.engine c.phase-after.ensures.whole o.result o.ensures.brings)
 
@@ -38,6 +38,6 @@ returns c =
     (rw (c.settle.ensures, c.goes_on-self-inside.ensures)
     (advanced i.program i.names i.engine i.journal i.pending c.self.invariant c.args.call.now
     (call-fits i.program i.engine.code c.self.invariant.compiled.code c.self.invariant.compiled.valid
-        (state_of i.program i.names i.engine i.journal i.pending) c.args.call.now.function c.args.call.now.args refl c.phase-before.ensures.whole.inputs
+    (state_of i.program i.names i.engine i.journal i.pending) c.args.call.now.function c.args.call.now.args refl c.phase-before.ensures.whole.inputs
     (subst (λ m. IsCall m.state c.args.call.now) (sym c.self.view_is) c.requires.fits))
     None o.new.engine c.phase-after.ensures.whole o.result o.ensures.brings))
