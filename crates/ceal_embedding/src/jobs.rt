@@ -1,6 +1,6 @@
 // Jobs to be measured: an engine over inputs of a size, and edits of them. `bench/engine.py` runs them.
 
-ghost use Rattle.std.specs.Prelude.{◌≡◌, ◌<◌, IfOk, OnOk};
+ghost use Rattle.std.specs.Prelude.{◌≡◌, ◌<◌, ◌^◌, length, IfOk, OnOk};
 ghost use Rattle.ceal_embedding.specs.Sizes.{IsSize};
 ghost use Rattle.ceal_engine.specs.Engine.{IsPresent};
 ghost use Rattle.ceal_engine.specs.declared.phase.Phase.TheVariants.{Finished};
@@ -125,7 +125,9 @@ ceal look(mod int *from, mod int *to) {
 const FUEL: u32 = 4_194_304;
 
 /// The program of a job. Its first function is the one to call.
-fn source(job: Job) -> &'static [u8] {
+fn source(job: Job) -> &'static [u8]
+    ensures short { length result.now < 2 ^ 32 }
+{
     match job {
         Job::Tree => TREE,
         Job::Expression => EXPRESSION,
