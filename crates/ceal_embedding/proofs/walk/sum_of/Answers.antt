@@ -1,5 +1,5 @@
-use Rattle.std.proofs.Common.{◌≡◌, ◌≤◌, ◌∙◌, ℤ, List, Some, None, length, refl, sym, ap, arith, IsSome}
-use Rattle.ceal_embedding.specs.Lists.{IsListFrom, sum_from}
+use Rattle.std.proofs.Common.{◌∙◌, ℤ, length, refl, sym, ap, arith}
+use Rattle.ceal_embedding.specs.Lists.{sum_from}
 use Rattle.ceal_embedding.proofs.Walked.{after, empty, ends, longer, not-none, some-of, same-tail, wraps}
 use Rattle.ceal_embedding.proofs.walk.sum_of.Goals as goal
 
