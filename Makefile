@@ -1,5 +1,5 @@
 # Every command of the repository under one roof: `make help` lists them. Each is a line of some script, which can be called by itself.
-.PHONY: help try test build install lint pages index check edits plants gate cost bench random
+.PHONY: help try test build install lint pages index tags check edits plants gate cost bench random
 
 CRATE ?= ceal_base
 FILE ?= examples/inc.ceal
@@ -33,6 +33,9 @@ pages: ## makes again what is derived: sessions, pictures and excerpts of pages,
 
 index: ## writes out/index.html: all definitions, laws and clauses, with who cites them
 	.ci/index
+
+tags: ## sets a tag of git for each version of CHANGELOG.md
+	@sed -nE 's/^## ([0-9.]+) - .* \(([0-9a-f]+)\)$$/v\1 \2/p' CHANGELOG.md | while read tag commit; do git tag -f $$tag $$commit; done
 
 check: ## proves CRATE=ceal_base and the crates below it, over what earlier checks kept
 	cd crates/$(CRATE) && rt check
