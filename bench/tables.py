@@ -2,6 +2,11 @@
 import math
 
 
+# The program whose edits nobody sees: stock Rust looks at each of its readers, so its ratio is in no mean.
+UNSEEN = 'idle'
+MEAN = f'geometric mean without `{UNSEEN}`'
+
+
 def table(head, rows):
     lines = ['| ' + ' | '.join(head) + ' |', '|' + '---|' * len(head)]
     return '\n'.join([*lines, *('| ' + ' | '.join(row) + ' |' for row in rows)]) + '\n'
@@ -10,6 +15,10 @@ def table(head, rows):
 def mean(values):
     """The geometric mean."""
     return math.prod(values) ** (1 / len(values))
+
+
+def ratio(value):
+    return f'{value:.2f}' if value >= 0.1 else f'{value:.1g}'
 
 
 def middle(sizes):
@@ -30,11 +39,12 @@ def counted_table(measured, names):
         for at, (unit, found) in enumerate(zip((1e6, 1e3), values)):
             row += [f'{it / unit:,.1f}' for it in found]
             if len(found) > 1:
-                ratios[at].append(found[0] / found[1])
-                row.append(f'{ratios[at][-1]:.2f}')
+                row.append(ratio(found[0] / found[1]))
+                if key != UNSEEN:
+                    ratios[at].append(found[0] / found[1])
         rows.append(row)
-    if len(names) > 1:
-        rows.append(['geometric mean', '', '', '', f'{mean(ratios[0]):.2f}', '', '', f'{mean(ratios[1]):.2f}'])
+    if len(names) > 1 and ratios[0]:
+        rows.append([MEAN, '', '', '', f'{mean(ratios[0]):.2f}', '', '', f'{mean(ratios[1]):.2f}'])
     return table(head, rows)
 
 
@@ -46,11 +56,12 @@ def memory_table(measured, names):
         size, counts = max(sizes.items())
         row = [key, f'{size:,}', f'{counts[0].steps:,}', *(f'{it.memory:.1f} MB' for it in counts)]
         if len(counts) > 1:
-            ratios.append(counts[0].memory / counts[1].memory)
-            row.append(f'{ratios[-1]:.2f}')
+            row.append(ratio(counts[0].memory / counts[1].memory))
+            if key != UNSEEN:
+                ratios.append(counts[0].memory / counts[1].memory)
         rows.append(row)
-    if len(names) > 1:
-        rows.append(['geometric mean', '', '', '', '', f'{mean(ratios):.2f}'])
+    if len(names) > 1 and ratios:
+        rows.append([MEAN, '', '', '', '', f'{mean(ratios):.2f}'])
     return table(head, rows)
 
 
