@@ -140,8 +140,7 @@ def section(bench, is_quick):
 Counted instructions of the whole process without edits (it compiles the source text, makes the inputs and runs), and of one update. {when}
 
 {table(head, jobs)}
-Edits that change nothing that the n readers see: {'; '.join(f'*{job}* is {IDLE[job][0]}' for job in IDLE)}. Their looks do not
-grow with the readers, and their instructions only with the logarithm of their number.
+Edits that change nothing that the n readers see: {'; '.join(f'*{job}* is {IDLE[job][0]}' for job in IDLE)}. Their looks do not grow with the readers. Their instructions grow slowly, as the table shows.
 
 {table(head, idle)}
 An update by lines, `set` and `propagate`, over the list of *map*, each with its reply. By an engine the same update is the one of the first table.
