@@ -14,6 +14,8 @@ from tables import table
 from workloads import PROGRAMS, RUN, TOP, input_of, large_sources
 
 IDLE, TRIES, SIZE, UPDATES = 0.25, 9, 40_000, 2_000
+# a size of some 20,000 steps, and one of nearly as many steps or cells as are allowed
+GROWING = (('map', 4_000, 110_000), ('sum', 1_560, 80_000), ('mergesort', 165, 17_000), ('tree', 1_820, 80_000))
 OUT = TOP / 'bench/seconds.md'
 
 
@@ -21,9 +23,9 @@ def load():
     return float(pathlib.Path('/proc/loadavg').read_text().split()[0])
 
 
-def spent(program, words, text):
+def spent(program, words, text, count=TRIES):
     """The seconds that a process takes, for some tries, and what it writes."""
-    tries = [program.once(words, text) for _ in range(TRIES)]
+    tries = [program.once(words, text) for _ in range(count)]
     return [it.seconds for it in tries], tries[0].written
 
 
@@ -58,11 +60,29 @@ def rows_of(program):
         yield f'`check` of {title} ({len(text) / 1e6:.1f} MB)', told(spent(program, ['check'], text)[0])
 
 
+def step_of(program, name, size, count):
+    """The nanoseconds of a step of a first run: the middle ones of some tries with the run less those without it."""
+    work = PROGRAMS[name][1](size)
+    idle, _ = spent(program, RUN, input_of(name, work.inputs), count)
+    ran, written = spent(program, RUN, input_of(name, [*work.inputs, work.run, 'steps']), count)
+    steps = int(written.split()[-1])
+    return steps, (statistics.median(ran) - statistics.median(idle)) / steps * 1e9
+
+
+def growth_of(program):
+    for name, small, large in GROWING:
+        steps, before = step_of(program, name, small, 5 * TRIES)
+        most, after = step_of(program, name, large, TRIES)
+        yield name, f'{steps:,}', f'{before:.0f} ns', f'{most:,}', f'{after:.0f} ns', f'{after / before:.2f}'
+
+
 def main(words):
     if load() > IDLE:
         sys.exit(f'bench/seconds.py: the machine is busy (load {load()}), so nothing was measured')
     program = Program(words[0] if words else str(TOP / 'crates/ceal/out/ceal'))
     text = table(['What', 'Processor time'], [list(it) for it in rows_of(program)])
+    text += '\nThe time of one step of a first run, at two sizes (the middle ones of 45 and of 9 tries):\n\n'
+    text += table(['Program', 'Steps', 'a step', 'Steps', 'a step', 'grows'], [list(it) for it in growth_of(program)])
     head = f'Measured on {datetime.date.today().isoformat()}, on an idle machine with {os.cpu_count()} processors. A time is the middle one of {TRIES}, with half of their spread.\n\n'
     OUT.write_text(head + text, encoding='utf-8')
     print(text, end='')
