@@ -1,9 +1,8 @@
 -- What a change of the table and of the region makes of a heap.
-use Rattle.std.proofs.Common.{◌≡◌, ◌≢◌, ℕ, zero, suc, ◌+◌, ◌≤◌, List, [], ◌∷◌, ◌++◌, length, Option, Some, None, IsSome}
-use Rattle.std.proofs.Common.{refl, sym, ap, ◌∙◌, subst, inl, inr, ◌⊎◌, ⊎_elim, arith, slice_get, rules, IfSome, pos}
+use Rattle.std.proofs.Common.{◌≡◌, ◌≢◌, ℕ, zero, suc, ◌+◌, List, [], ◌∷◌, ◌++◌, Option, Some, None, IsSome}
+use Rattle.std.proofs.Common.{refl, sym, ap, ◌∙◌, subst, inl, inr, ◌⊎◌, ⊎_elim, arith, slice_get, unwrap_or, rules, IfSome, pos}
 use Rattle.std.specs.Option.{option_map}
-use Rattle.std.proofs.lemmas.List.{get_or_past}
-use Rattle.std.proofs.lemmas.Option.{none-some, same_Some, slice_get_past}
+use Rattle.std.proofs.lemmas.Option.{none-some, same_Some, slice_get_past, unwrap_or-slice_get}
 use Rattle.std.proofs.lemmas.Bool.{cases_eq, false≢true}
 use Rattle.ceal_base.specs.declared.kind.Shape.{Shape}
 use Rattle.ceal_base.specs.declared.word.BlockId.{BlockId}
@@ -16,17 +15,18 @@ use Rattle.ceal_words.specs.Region.{words_of, KeepsAll, KeepsOthers}
 use Rattle.ceal_words.specs.SizeClass.{SizeClass}
 use Rattle.ceal_words.specs.declared.slot.Slot.{Slot}
 use Rattle.ceal_heap.specs.Cells.{words_read, cells_held, cell_count}
+use Rattle.ceal_heap.specs.Parts.{filling}
 use Rattle.ceal_heap.specs.Table.{held_in, held_of, held_at, is_live, is_revoked, tally, IsLiveAt, NoneFree, NoneRevoked, Reuses, Adds, GivesOut, Revokes, Releases}
 use Rattle.ceal_heap.specs.Heap.{Contents, Known, Standing, Unused, Live, Revoked, Released, known_in, state_standing}
 use Rattle.ceal_heap.specs.Heap.{number_standing, standing, known, block_of, plain_block, plain_of, word_at, revoked}
 use Rattle.ceal_heap.specs.Heap.{released, IsLive, IsMade, NoneReleased, IsFree, KeepsBlocks, HasSlots, number_of}
-use Rattle.ceal_heap.specs.Heap.{IsKept}
+use Rattle.ceal_heap.specs.Heap.{IsKept, words_held}
 use Rattle.ceal_heap.specs.declared.number.Held.{Held}
 use Rattle.ceal_heap.specs.declared.number.Number.{Number}
 use Rattle.ceal_heap.specs.declared.number.State.{State}
 use Rattle.ceal_heap.specs.declared.number.State.TheVariants.{Live as LiveState, Revoked as RevokedState, Released as ReleasedState}
 use Rattle.ceal_heap.proofs.TallyLemmas.{get_set_same, get_set_other, get_push_same, get_push_other, tally_set, tally_push}
-use Rattle.ceal_heap.proofs.CellsLemmas.{count_some, length_read}
+use Rattle.ceal_heap.proofs.CellsLemmas.{count_some}
 
 cells_some : (o : Option (List ℕ)) (n : ℕ) → cells_held o ≡ cell_count n → IsSome o
 cells_some None zero e = absurd (omega (arith, e))
@@ -52,11 +52,10 @@ slot_cases a b = ⊎_elim
 module _ (held : ℕ → Option Held) (region : List SizeClass) (kept : IsKept held region) where
   -- a slot of the region is there
   pub slot_there : (n : ℕ) (x : Held) → held n ≡ Some x → IsSome (words_of region x.slot)
-  slot_there n x some = cells_some (words_of region x.slot) x.fields (kept.cells n x some)
+  slot_there n x some = cells_some (words_of region x.slot) x.parts.kept (kept.cells n x some)
 
   pub kept_same : (held' : ℕ → Option Held) → ((n : ℕ) → held' n ≡ held n) → IsKept held' region
   kept_same held' same = record {
-    few = λ n x some. kept.few n x (sym (same n) ∙ some);
     cells = λ n x some. kept.cells n x (sym (same n) ∙ some);
     one = λ n m x y a b slots. kept.one n m x y (sym (same n) ∙ a) (sym (same m) ∙ b) slots;
     all = λ slot some. let found = kept.all slot some in (found.0, found.1, same found.0 ∙ found.2, found.3);
@@ -64,7 +63,6 @@ module _ (held : ℕ → Option Held) (region : List SizeClass) (kept : IsKept h
 
   pub kept_all : (region' : List SizeClass) → KeepsAll region region' → IsKept held region'
   kept_all region' all = record {
-    few = kept.few;
     cells = λ n x some. ap cells_held (all x.slot) ∙ kept.cells n x some;
     one = kept.one;
     all = λ slot some. kept.all slot (subst IsSome (all slot) some);
@@ -76,14 +74,10 @@ module _ (held : ℕ → Option Held) (region : List SizeClass) (kept : IsKept h
     pub apart : (m : ℕ) (x : Held) → held m ≡ Some x → x.slot ≢ h.slot
     apart m x some e = not_none (words_of region x.slot) (slot_there m x some) (ap (words_of region) e ∙ new)
 
-    pub kept_more : h.fields ≤ 255 → cells_held (words_of region' h.slot) ≡ cell_count h.fields → IsKept held' region'
-    kept_more few cells = record {
-      few = λ m x some. ⊎_elim
-          (λ e. subst (λ (y : Held). y.fields ≤ 255) (same_Some h x (sym here ∙ ap held' (sym e) ∙ some)) few)
-          (λ other. kept.few m x (sym (others m other) ∙ some))
-          (cases_eq m n);
+    pub kept_more : cells_held (words_of region' h.slot) ≡ cell_count h.parts.kept → IsKept held' region'
+    kept_more cells = record {
       cells = λ m x some. ⊎_elim
-          (λ e. subst (λ (y : Held). cells_held (words_of region' y.slot) ≡ cell_count y.fields) (same_Some h x (sym here ∙ ap held' (sym e) ∙ some)) cells)
+          (λ e. subst (λ (y : Held). cells_held (words_of region' y.slot) ≡ cell_count y.parts.kept) (same_Some h x (sym here ∙ ap held' (sym e) ∙ some)) cells)
           (λ other. let was = sym (others m other) ∙ some in ap cells_held (keeps x.slot (apart m x was)) ∙ kept.cells m x was)
           (cases_eq m n);
       one = λ a b x y first second slots. ⊎_elim
@@ -124,7 +118,6 @@ module _ (held : ℕ → Option Held) (region : List SizeClass) (kept : IsKept h
 
     pub kept_less : IsKept held' region'
     kept_less = record {
-      few = λ m x some. kept.few m x (left m x some).1;
       cells = λ m x some. let l = left m x some in ap cells_held (keeps x.slot (away m x l.0 l.1)) ∙ kept.cells m x l.1;
       one = λ a b x y first second slots. kept.one a b x y (left a x first).1 (left b y second).1 slots;
       all = λ slot some.
@@ -180,8 +173,8 @@ slots_of c kept = record {
 -- a number whose slot keeps its words has the same state
 state_same : (region region' : List SizeClass) (shape : Shape) (s : State) → ((x : Held) → held_in s ≡ Some x → words_of region' x.slot ≡ words_of region x.slot)
     → state_standing region' shape s ≡ state_standing region shape s
-state_same region region' shape (LiveState h) same = ap (λ (o : Option (List ℕ)). Live (record { shape = shape; words = words_read o; slot = h.slot })) (same h refl)
-state_same region region' shape (RevokedState h) same = ap (λ (o : Option (List ℕ)). Revoked (record { shape = shape; words = words_read o; slot = h.slot })) (same h refl)
+state_same region region' shape (LiveState h) same = ap (λ (o : Option (List ℕ)). Live (record { shape = shape; words = words_read o ++ filling h.parts; slot = h.slot })) (same h refl)
+state_same region region' shape (RevokedState h) same = ap (λ (o : Option (List ℕ)). Revoked (record { shape = shape; words = words_read o ++ filling h.parts; slot = h.slot })) (same h refl)
 state_same region region' shape ReleasedState same = refl
 
 number_same : (region region' : List SizeClass) (o : Option Number) → ((x : Held) → held_of o ≡ Some x → words_of region' x.slot ≡ words_of region x.slot)
@@ -259,14 +252,14 @@ was_free c after shape h n None is = (ap Core is.next, none_released c is.none_f
 -- a number was given out to a block whose words were written
 module _ (before after : List Number) (region region' : List SizeClass) (shape : Shape) (h : Held) (n : ℕ) (kept : IsKept (held_at before) region)
     (is : Given before after shape h n) (new : words_of region h.slot ≡ None) (keeps : KeepsOthers h.slot region region') where
-  pub make_kept : h.fields ≤ 255 → cells_held (words_of region' h.slot) ≡ cell_count h.fields → IsKept (held_at after) region'
-  make_kept few cells = kept_more (held_at before) region kept (held_at after) region' n h (ap held_of is.here) is.none (λ m other. ap held_of (is.others m other)) new keeps few cells
+  pub make_kept : cells_held (words_of region' h.slot) ≡ cell_count h.parts.kept → IsKept (held_at after) region'
+  make_kept cells = kept_more (held_at before) region kept (held_at after) region' n h (ap held_of is.here) is.none (λ m other. ap held_of (is.others m other)) new keeps cells
 
   pub make_others : KeepsBlocks (Core n) (record { numbers = before; region = region }) (record { numbers = after; region = region' })
   make_others = others_same before after region region' n is.others
       (λ m x other some. keeps x.slot (apart (held_at before) region kept (held_at after) region' n h (ap held_of is.here) is.none (λ m other. ap held_of (is.others m other)) new keeps m x some))
 
-  pub make_made : (words : List Word) → words_read (words_of region' h.slot) ≡ words → IsMade (record { numbers = after; region = region' }) (Core n) shape words
+  pub make_made : (words : List Word) → words_held region' h ≡ words → IsMade (record { numbers = after; region = region' }) (Core n) shape words
   make_made words e = (h.slot, ap (number_standing region') is.here ∙ ap (λ (ws : List Word). Live (record { shape = shape; words = ws; slot = h.slot })) e)
 
 -- a block that is live
@@ -358,34 +351,31 @@ pub all_stay : (c : Contents) → NoneRevoked c.numbers → (b : BlockId) → st
 all_stay c none (Input n) = refl
 all_stay c none (Core n) = number_stays c.region (slice_get c.numbers n) (none n)
 
--- a block has as many words as are kept of it
-words_short : (c : Contents) (b : BlockId) (h : Held) (i : ℕ) → IsKept (held_at c.numbers) c.region → held_at c.numbers (number_of b) ≡ Some h → h.fields ≤ i
-    → (block : Known) → block_of c b ≡ Some block → length block.words ≤ i
-words_short c b h i kept held past block some =
-    let found = (found_at c b block some).1 in
-    let same : found.1 ≡ h = same_Some found.1 h (sym (ap held_of found.2 ∙ found.3) ∙ held) in
-    let words = ap (λ (k : Known). k.words) found.4 ∙ ap (λ (x : Held). words_read (words_of c.region x.slot)) same in
-    let long = ap length words ∙ length_read (words_of c.region h.slot) h.fields (kept.cells (number_of b) h held) in
-    omega (arith, long, past)
+-- a word of a block, by what is kept of it
+state_word : (region : List SizeClass) (shape : Shape) (s : State) (h : Held) (i : ℕ) → held_in s ≡ Some h
+    → block_word (option_map plain_block (known (state_standing region shape s))) i ≡ slice_get (words_held region h) i
+state_word region shape (LiveState k) h i some = ap (λ (x : Held). slice_get (words_held region x) i) (same_Some k h some)
+state_word region shape (RevokedState k) h i some = ap (λ (x : Held). slice_get (words_held region x) i) (same_Some k h some)
+state_word region shape ReleasedState h i some = absurd (none-some h some)
 
-if_plain : (o : Option Known) (P : Block → Type 0) → ((k : Known) → o ≡ Some k → P (plain_block k)) → IfSome (option_map plain_block o) P
-if_plain None P all = tt
-if_plain (Some k) P all = all k refl
+number_word : (region : List SizeClass) (o : Option Number) (h : Held) (i : ℕ) → held_of o ≡ Some h
+    → block_word (option_map plain_block (known (number_standing region o))) i ≡ slice_get (words_held region h) i
+number_word region None h i some = absurd (none-some h some)
+number_word region (Some x) h i some = state_word region x.shape x.state h i some
 
--- past the words of a block each word is 0
-pub none_past : (c : Contents) (b : BlockId) (h : Held) (i : ℕ) → IsKept (held_at c.numbers) c.region → held_at c.numbers (number_of b) ≡ Some h → h.fields ≤ i
-    → IfSome (plain_of c b) (λ block. Num (pos 0) ≡ word_at block.words i)
-none_past c b h i kept held past = if_plain (block_of c b) (λ block. Num (pos 0) ≡ word_at block.words i)
-    (λ block some. sym (get_or_past block.words i (Num (pos 0)) (words_short c b h i kept held past block some)))
+pub word_there : (c : Contents) (n : ℕ) (h : Held) (i : ℕ) → held_at c.numbers n ≡ Some h
+    → block_word (plain_of c (Core n)) i ≡ slice_get (words_held c.region h) i
+word_there c n h i some = number_word c.region (slice_get c.numbers n) h i some
 
-no_word : (o : Option Known) (i : ℕ) → ((k : Known) → o ≡ Some k → length k.words ≤ i) → None ≡ block_word (option_map plain_block o) i
-no_word None i all = refl
-no_word (Some k) i all = sym (slice_get_past k.words i (all k refl))
+if_word : (o : Option Block) (i : ℕ) (w : Option Word) → block_word o i ≡ w → IfSome o (λ block. unwrap_or w (Num (pos 0)) ≡ word_at block.words i)
+if_word None i w same = tt
+if_word (Some block) i w same = ap (λ (o : Option Word). unwrap_or o (Num (pos 0))) (sym same) ∙ unwrap_or-slice_get block.words i (Num (pos 0))
 
--- past the words of a block there is none
-pub none_there : (c : Contents) (b : BlockId) (h : Held) (i : ℕ) → IsKept (held_at c.numbers) c.region → held_at c.numbers (number_of b) ≡ Some h → h.fields ≤ i
-    → None ≡ block_word (plain_of c b) i
-none_there c b h i kept held past = no_word (block_of c b) i (words_short c b h i kept held past)
+-- the word of a block's field, and past its words the number 0
+pub field_word : (c : Contents) (b : BlockId) (h : Held) (i : ℕ) (w : Option Word) → held_at c.numbers (number_of b) ≡ Some h → w ≡ slice_get (words_held c.region h) i
+    → IfSome (plain_of c b) (λ block. unwrap_or w (Num (pos 0)) ≡ word_at block.words i)
+field_word c (Input n) h i w held found = tt
+field_word c (Core n) h i w held found = if_word (plain_of c (Core n)) i w (word_there c n h i held ∙ sym found)
 
 state_unknown : (region : List SizeClass) (shape : Shape) (s : State) → held_in s ≡ None → known (state_standing region shape s) ≡ None
 state_unknown region shape (LiveState h) none = absurd (none-some h (sym none))

@@ -2,6 +2,7 @@
 pub mod TallyLemmas
 -- the rest
 pub mod CellsLemmas
+pub mod PartsLemmas
 pub mod TableLemmas
 pub mod HeapLemmas
 pub mod Samples

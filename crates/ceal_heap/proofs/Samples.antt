@@ -4,6 +4,7 @@ use Rattle.ceal_base.specs.declared.kind.Shape.TheVariants.{ModInt}
 use Rattle.ceal_base.specs.declared.word.BlockId.TheVariants.{Input, Core}
 use Rattle.ceal_base.specs.declared.word.Word.TheVariants.{Num, Null, Block as BlockWord, At}
 use Rattle.ceal_heap.specs.Cells.{words_in}
+use Rattle.ceal_heap.specs.Parts.{filling}
 use Rattle.ceal_heap.specs.Heap.{Contents, Known, Live, Revoked, standing, block_of, live_count, revoked_count, revoked, released, NoneReleased, IsFree}
 use Rattle.ceal_heap.specs.declared.number.Held.{Held}
 use Rattle.ceal_heap.specs.declared.number.State.{State}
@@ -16,6 +17,10 @@ words : words_in (0 ∷ 7 ∷ 1 ∷ 0 ∷ 3 ∷ 2 ∷ 4 ∷ 4294967301 ∷ [])
     ≡ Num (pos 7) ∷ Null ∷ BlockWord (Core 2) ∷ At (record { block = Input 5; field = 1 }) ∷ []
 words = refl
 
+-- a block of which one word is kept, with a zero and two nulls after it
+parts : filling (record { kept = 1; zeros = 1; nulls = 2 }) ≡ Num (pos 0) ∷ Null ∷ Null ∷ []
+parts = refl
+
 -- the slot of two cells with the number 7
 abbrev slot : Slot
 slot = record { chunk = 1; at = 0; len = 2 }
@@ -24,7 +29,7 @@ abbrev region : List SizeClass
 region = record { size = 1; pieces = []; spare = 0 } ∷ record { size = 2; pieces = Some (0 ∷ 7 ∷ []) ∷ []; spare = 0 } ∷ []
 
 abbrev held : Held
-held = record { slot = slot; fields = 1 }
+held = record { slot = slot; parts = record { kept = 1; zeros = 0; nulls = 0 } }
 
 -- a heap of one number
 abbrev heap : State → Contents

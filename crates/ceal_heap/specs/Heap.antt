@@ -1,6 +1,6 @@
 -- A heap: the state of each block, and the slots of the region (for blocks that are revoked first and released later:
 -- Hammer and Acar, *Memory management for self-adjusting computation*, ISMM 2008).
-use Rattle.std.specs.Prelude.{◌≡◌, ◌≢◌, ℕ, ◌≤◌, List, length, Option, Some, None, IsSome, option_map, pos, slice_get}
+use Rattle.std.specs.Prelude.{◌≡◌, ◌≢◌, ℕ, List, ◌++◌, length, Option, Some, None, IsSome, option_map, pos, slice_get}
 use Rattle.std.specs.Prelude.{slice_index_or}
 use Rattle.ceal_base.specs.Block.{Block}
 use Rattle.ceal_base.specs.declared.kind.Shape.{Shape}
@@ -12,6 +12,7 @@ use Rattle.ceal_words.specs.Region.{words_of, KeepsAll}
 use Rattle.ceal_words.specs.SizeClass.{SizeClass}
 use Rattle.ceal_words.specs.declared.slot.Slot.{Slot}
 use Rattle.ceal_heap.specs.Cells.{read_at, cells_at, cell_count}
+use Rattle.ceal_heap.specs.Parts.{filling}
 use Rattle.ceal_heap.specs.Table.{tally, is_live, is_revoked}
 use Rattle.ceal_heap.specs.declared.number.Held.{Held}
 use Rattle.ceal_heap.specs.declared.number.Number.{Number}
@@ -38,9 +39,13 @@ pub data Standing : Type 0 where
   Revoked : (block : Known) → Standing
   Released : (shape : Shape) → Standing
 
+-- the words of a block: those of its slot, and what comes after them
+abbrev pub words_held : List SizeClass → Held → List Word
+words_held region held = read_at region held.slot ++ filling held.parts
+
 -- what is known of a block, by what holds it
 abbrev pub known_in : List SizeClass → Shape → Held → Known
-known_in region shape held = record { shape = shape; words = read_at region held.slot; slot = held.slot }
+known_in region shape held = record { shape = shape; words = words_held region held; slot = held.slot }
 
 -- the public state of a number, by the state in the table
 abbrev pub state_standing : List SizeClass → Shape → State → Standing
@@ -162,10 +167,9 @@ abbrev pub number_of : BlockId → ℕ
 number_of (Input n) = n
 number_of (Core n) = n
 
--- how what is kept of blocks, by their numbers, lies in the region: each has as many cells as its words need, each slot
--- is that of one number, and there are no other slots
+-- how what is kept of blocks, by their numbers, lies in the region: each has as many cells as its kept words need, each
+-- slot is that of one number, and there are no other slots
 pub record IsKept (held : ℕ → Option Held) (region : List SizeClass) : Type 0 where
-  pub few : (n : ℕ) (x : Held) → held n ≡ Some x → x.fields ≤ 255
-  pub cells : (n : ℕ) (x : Held) → held n ≡ Some x → cells_at region x.slot ≡ cell_count x.fields
+  pub cells : (n : ℕ) (x : Held) → held n ≡ Some x → cells_at region x.slot ≡ cell_count x.parts.kept
   pub one : (n m : ℕ) (x y : Held) → held n ≡ Some x → held m ≡ Some y → x.slot ≡ y.slot → n ≡ m
   pub all : (slot : Slot) → IsSome (words_of region slot) → (n : ℕ) × (x : Held) × (held n ≡ Some x) × (x.slot ≡ slot)

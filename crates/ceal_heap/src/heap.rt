@@ -7,6 +7,7 @@ ghost use Rattle.ceal_heap.specs.Heap.{number_of, IsLive, IsMade, IsFree, KeepsB
 ghost use Rattle.ceal_heap.specs.Heap.{IsUnchanged, HasSlots, IsNew};
 
 use crate::number::Held;
+use crate::parts::Parts;
 use crate::pieces::Pieces;
 use crate::table::Table;
 use ceal_base::kind::Shape;
@@ -66,9 +67,9 @@ impl Heap {
         ensures slots { HasSlots self.new }
     {
         self.table.prepare()?;
-        let slot = self.pieces.put(words)?;
-        let fields = words.len() as u32;
-        let held = Held { slot, fields };
+        let parts = Parts::of(words);
+        let slot = self.pieces.put(&words[..parts.kept as usize])?;
+        let held = Held { slot, parts };
         let given = self.table.give_out(shape, held);
         Ok(NewBlock {
             block: BlockId::Core(given.number),
@@ -82,10 +83,9 @@ impl Heap {
         ensures word { IfSome (plain_of self.now block) (λ b. result ≡ word_at b.words index) }
     {
         let held = self.table.held(number_of(block));
-        if index < held.fields {
-            self.pieces.word(&held.slot, index)
-        } else {
-            Word::Num(0)
+        match self.pieces.find(held, index) {
+            None => Word::Num(0),
+            Some(word) => word,
         }
     }
 
@@ -119,11 +119,7 @@ impl Heap {
             BlockId::Input(_) => None,
             BlockId::Core(number) => {
                 let held = self.table.find(number)?;
-                if index < held.fields {
-                    Some(self.pieces.word(&held.slot, index))
-                } else {
-                    None
-                }
+                self.pieces.find(held, index)
             }
         }
     }

@@ -5,12 +5,14 @@
 //! the region of raw words, whose slots are exactly those of these blocks.
 //!
 //! `heap` has the calls. `table` keeps the state of each number (`number`), those that were revoked, and those that are
-//! free (`stack`); `pieces` keeps the words of blocks in slots, two cells a word (`cells`).
+//! free (`stack`); `pieces` keeps the words of blocks in slots, two cells a word (`cells`), but for the zeros and nulls
+//! at their end (`parts`).
 #![tactic(auto)]
 
 mod cells;
 pub mod heap;
 mod number;
+mod parts;
 mod pieces;
 mod stack;
 mod table;

@@ -4,15 +4,16 @@ ghost use Rattle.std.specs.Prelude.{◌≡◌, option_copied};
 ghost use Rattle.ceal_heap.specs.Table.{held_in, revoked_state};
 ghost use Rattle.ceal_heap.specs.declared.number.State.TheVariants.{Live, Released};
 
+use crate::parts::Parts;
 use ceal_base::kind::Shape;
 use ceal_words::slot::Slot;
 use std::mem;
 
-/// A block that can be read: the slot of its words, and how many words there are.
+/// A block that can be read: the slot of its first words, and how many those are and come after them.
 #[derive(Drop)]
 pub struct Held {
     pub slot: Slot,
-    pub fields: u32,
+    pub parts: Parts,
 }
 
 impl Held {

@@ -4,8 +4,10 @@ ghost use Rattle.std.specs.Prelude.{◌≡◌, ◌+◌, ◌*◌, ◌<◌, ◌≤
 ghost use Rattle.std.specs.Prelude.{OnErr};
 ghost use Rattle.ceal_words.specs.Region.{words_of, KeepsOthers, KeepsAll, IsEmpty};
 ghost use Rattle.ceal_heap.specs.Cells.{read_at, cells_at, cell_count};
+ghost use Rattle.ceal_heap.specs.Heap.{words_held};
 
 use crate::cells::Cells;
+use crate::number::Held;
 use ceal_base::no_memory::NoMemory;
 use ceal_base::word::Word;
 use ceal_words::region::Region;
@@ -86,6 +88,20 @@ impl Pieces {
         let sort = self.region.get(slot, 2 * index);
         let cell = self.region.get(slot, 2 * index + 1);
         Cells { sort, cell }.word()
+    }
+
+    /// A word of what is kept of a block, and None past its words.
+    pub fn find(&self, held: &Held, index: u32) -> Option<Word>
+        requires cells { cells_at self.now held.now.slot ≡ cell_count held.now.parts.kept }
+        ensures { result ≡ slice_get (words_held self.now held.now) index }
+    {
+        let parts = held.parts;
+        let count = parts.count();
+        if index < count {
+            Some(self.word(&held.slot, index))
+        } else {
+            parts.filled(index - count)
+        }
     }
 
     /// Gives a slot back.
