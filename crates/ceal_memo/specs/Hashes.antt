@@ -59,4 +59,4 @@ key_digest seed (OfAlloc key) = alloc_digest seed key
 
 -- the hash of a key
 unfoldable pub hash_of : List ℕ → EntryKey → ℕ
-hash_of seed key = mixed 0 ((key_digest seed key).sum / 2 ^ 64)
+hash_of seed key = mixed 0 ((key_digest seed key).sum / 2 ^ 64) / 2 ^ 32

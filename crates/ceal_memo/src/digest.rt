@@ -19,7 +19,7 @@ struct Digest {
 
 /// The hash that a read with a key is entered under.
 #[tactic(auto, unfolding(crate::specs::Hashes::hash_of, crate::specs::Hashes::key_digest))]
-pub fn hash_of_read(seed: &[u128], key: &ReadKey<'_>) -> u64
+pub fn hash_of_read(seed: &[u128], key: &ReadKey<'_>) -> u32
     ensures { result ≡ hash_of seed.now (OfRead key.now) }
 {
     let closure = key.unit.0 as u64 * 4_294_967_296 + key.var as u64;
@@ -31,7 +31,7 @@ pub fn hash_of_read(seed: &[u128], key: &ReadKey<'_>) -> u64
 
 /// The hash that an allocation with a key is entered under.
 #[tactic(auto, unfolding(crate::specs::Hashes::hash_of, crate::specs::Hashes::key_digest))]
-pub fn hash_of_alloc(seed: &[u128], key: &Key) -> u64
+pub fn hash_of_alloc(seed: &[u128], key: &Key) -> u32
     ensures { result ≡ hash_of seed.now (OfAlloc key.now) }
 {
     finished(digest_of_alloc(seed, key))
@@ -63,10 +63,11 @@ fn nothing() -> Digest
 }
 
 // What a hash is of a digest: the upper half of the sum, scrambled.
-fn finished(digest: Digest) -> u64
-    ensures { result ≡ one_more 0 (digest.sum / 2 ^ 64) }
+fn finished(digest: Digest) -> u32
+    ensures { result ≡ one_more 0 (digest.sum / 2 ^ 64) / 2 ^ 32 }
 {
-    mixed(0, (digest.sum >> 64) as u64)
+    let scrambled = mixed(0, (digest.sum >> 64) as u64);
+    (scrambled >> 32) as u32
 }
 
 // A digest with words after it.
