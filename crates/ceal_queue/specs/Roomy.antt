@@ -11,7 +11,7 @@ pub record Roomy : Type 0 where
 abbrev pub InOne : List Stamp → List Stamp → Type 0
 InOne sequence plain = (sequence ≡ []) ⊎ (plain ≡ [])
 
--- stamps behind one that may stand ahead of them
+-- stamps after a first one, where there is one
 abbrev pub headed : Option Stamp → List Stamp → List Stamp
 headed None rest = rest
 headed (Some first) rest = first ∷ rest

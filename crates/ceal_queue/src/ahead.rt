@@ -1,4 +1,4 @@
-// Stamps, of which the earliest may stand ahead of the others.
+// Stamps, of which the earliest may be ahead of the others.
 
 ghost use Rattle.std.specs.Prelude.{◌≡◌, ◌<◌, ◌≤◌, ◌+◌, ◌^◌, [], ◌∷◌, false, length, insert, remove, option_map};
 ghost use Rattle.std.specs.Prelude.{IfSome, IfOk, IfErr, OnOk, IsTrue};
@@ -14,8 +14,8 @@ use std::marker::Model;
 
 /// A list of stamps. Contracts see `items`, and `capacity`, how many the list may have without a call that can fail.
 ///
-/// One that goes in before all others stands ahead of them, so that it is put in and taken out at little cost: what is
-/// queued while a read is re-executed mostly comes next.
+/// One that goes in before all others is ahead of them, so that it is put in and taken out at little cost: what is queued
+/// while a read is re-executed is mostly the next one that is taken out.
 #[derive(Drop)]
 pub struct Ahead {
     first: Option<Stamp>,
@@ -100,15 +100,15 @@ impl Ahead {
                 if order.before(stamp, first) {
                     return Err(0);
                 }
-                self.search_behind(order, stamp)
+                self.search_all(order, stamp)
             }
         }
     }
 
-    // The same where the stamp may be anywhere. It is called seldom, and is a function of its own, so that the common way
-    // is short.
+    // The same where the stamp may be anywhere. It is called seldom, and is a separate function, so that the usual path is
+    // short.
     #[inline(never)]
-    fn search_behind(&self, order: &Order, stamp: Stamp) -> Result<usize, usize>
+    fn search_all(&self, order: &Order, stamp: Stamp) -> Result<usize, usize>
         requires here { IsTrue (is_in stamp.0 order.now.stamps) }
         requires rising { IsRising order.now.stamps (numbers self.now.items) }
         requires few { length self.now.items < 2 ^ 32 }
@@ -173,7 +173,7 @@ impl Ahead {
     }
 }
 
-// Where a stamp is among rising ones, of which the first stands ahead.
+// Where a stamp is among rising ones, the first of which is ahead.
 fn search_after(rest: &Stamps, order: &Order, first: Stamp, stamp: Stamp) -> Result<usize, usize>
     requires here { IsTrue (is_in stamp.0 order.now.stamps) }
     requires rising { IsRising order.now.stamps (first.0 ∷ numbers rest.now.items) }
