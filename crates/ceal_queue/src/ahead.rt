@@ -14,8 +14,8 @@ use std::marker::Model;
 
 /// A list of stamps. Contracts see `items`, and `capacity`, how many the list may have without a call that can fail.
 ///
-/// One that goes in before all others is ahead of them, so that it is put in and taken out at little cost: what is queued
-/// while a read is re-executed is mostly the next one that is taken out.
+/// One that goes in before all others is ahead of them, so that it is put in and taken out at little cost: what is
+/// queued while a read is re-executed is mostly the next one that is taken out.
 #[derive(Drop)]
 pub struct Ahead {
     first: Option<Stamp>,
@@ -105,8 +105,8 @@ impl Ahead {
         }
     }
 
-    // The same where the stamp may be anywhere. It is called seldom, and is a separate function, so that the usual path is
-    // short.
+    // The same where the stamp may be anywhere. It is called seldom, and is a separate function, so that the usual path
+    // is short.
     #[inline(never)]
     fn search_all(&self, order: &Order, stamp: Stamp) -> Result<usize, usize>
         requires here { IsTrue (is_in stamp.0 order.now.stamps) }
