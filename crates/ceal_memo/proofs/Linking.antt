@@ -10,7 +10,7 @@ use Rattle.ceal_memo.proofs.Grouping.{group_is, set_here, set_others, length_set
 use Rattle.ceal_memo.proofs.Chaining.{chained_as, appended, inserted_first, inserted_after, removed_first, removed_after}
 
 pub bucket_within : (size hash : ℕ) → 0 < size → bucket size hash < size
-bucket_within size hash some = let most = and_le_r (hash / 2 ^ 20) (size - 1) in omega arith
+bucket_within size hash some = let most = and_le_r hash (size - 1) in omega arith
 
 -- the head of a bucket leads to the last group in it
 pub head_last : (heads : List ℕ) (groups : List Group) → IsLinked heads groups → (hash : ℕ)

@@ -27,16 +27,20 @@ abbrev pub with_number : List ℕ → Digest → ℕ → Digest
 with_number seed d number = by (slice_get seed d.at)
   where
     by : Option ℕ → Digest
-    by (Some word) = record { sum = (d.sum + word * number) % 2 ^ 128; at = d.at + 1 }
+    by (Some word) = record { sum = (d.sum + word * number) % 2 ^ 64; at = d.at + 1 }
     by None = record {
-      sum = (seed_word seed 0 * mixed 0 (d.sum / 2 ^ 64) + seed_word seed 1 * number) % 2 ^ 128;
+      sum = (seed_word seed 0 * (mixed 0 d.sum / 2 ^ 32) + seed_word seed 1 * number) % 2 ^ 64;
       at = 2;
     }
+
+-- one more number in two parts, the lower 32 bits and the others
+abbrev pub with_wide : List ℕ → Digest → ℕ → Digest
+with_wide seed d number = with_number seed (with_number seed d (number % 4294967296)) (number / 4294967296)
 
 -- words after a digest
 unfoldable pub with_words : List ℕ → Digest → List Word → Digest
 with_words seed d [] = d
-with_words seed d (w ∷ ws) = with_words seed (with_number seed d (word_number w)) ws
+with_words seed d (w ∷ ws) = with_words seed (with_wide seed d (word_number w)) ws
 
 -- a digest of no numbers
 abbrev pub empty : Digest
@@ -45,18 +49,18 @@ empty = record { sum = 0; at = 0 }
 -- the digest of an allocation's key
 unfoldable pub alloc_digest : List ℕ → Key → Digest
 alloc_digest seed (Init function args) =
-    with_words seed (with_number seed (with_number seed empty (length args * 4 + 1)) function) args
+    with_words seed (with_number seed (with_wide seed empty (length args * 4 + 1)) function) args
 alloc_digest seed ModInt = with_number seed empty 2
 alloc_digest seed (ModPtr pointed) = with_number seed (with_number seed empty 3) pointed
 
 -- the digest of a key
 unfoldable pub key_digest : List ℕ → EntryKey → Digest
 key_digest seed (OfRead key) =
-    with_words seed (with_number seed
-    (with_number seed (with_number seed empty (length key.args * 4)) (place_number key.place))
+    with_words seed (with_wide seed
+    (with_wide seed (with_wide seed empty (length key.args * 4)) (place_number key.place))
     (key.unit.0 * 4294967296 + key.var)) key.args
 key_digest seed (OfAlloc key) = alloc_digest seed key
 
--- the hash of a key
+-- the hash of a key: the upper 31 bits of the sum of its digest, since a part of a key has up to 34
 unfoldable pub hash_of : List ℕ → EntryKey → ℕ
-hash_of seed key = mixed 0 ((key_digest seed key).sum / 2 ^ 64)
+hash_of seed key = (key_digest seed key).sum / 2 ^ 33

@@ -14,22 +14,22 @@ const FEWEST_BUCKETS: usize = 64;
 /// group n.
 #[derive(Drop)]
 pub struct Group {
-    pub hash: u64,
+    pub hash: u32,
     pub next: u32,
     pub list: Rising,
 }
 
 // The bucket that a hash falls into.
-fn bucket(size: usize, hash: u64) -> usize
+fn bucket(size: usize, hash: u32) -> usize
     requires some { 0 < size }
     ensures bucket { result ≡ bucket size hash }
     ensures within { result < size }
 {
-    (hash >> 20) as usize & (size - 1)
+    hash as usize & (size - 1)
 }
 
 // The link to the first group in the bucket of a hash.
-fn first(heads: &[u32], hash: u64) -> u32
+fn first(heads: &[u32], hash: u32) -> u32
     ensures { result ≡ head_at heads.now (bucket (length heads.now) hash) }
 {
     if heads.is_empty() {
@@ -39,7 +39,7 @@ fn first(heads: &[u32], hash: u64) -> u32
 }
 
 /// The group with stamps under a hash.
-pub fn find(heads: &[u32], groups: &[Group], hash: u64) -> Option<u32>
+pub fn find(heads: &[u32], groups: &[Group], hash: u32) -> Option<u32>
     requires linked { IsLinked heads.now groups.now }
     ensures within { IfSome result (λ n. n < length groups.now) }
     ensures few { IfSome result (λ n. n < 4294967295) }

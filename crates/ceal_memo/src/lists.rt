@@ -54,7 +54,7 @@ impl Lists {
     }
 
     /// Puts a stamp into the list of a hash, and gives the number of that list.
-    pub fn put(&mut self, order: &Order, hash: u64, stamp: Stamp) -> Result<u32, NoMemory>
+    pub fn put(&mut self, order: &Order, hash: u32, stamp: Stamp) -> Result<u32, NoMemory>
         requires here { IsTrue (is_in stamp.0 order.now.stamps) }
         requires rising { IsRising order.now.stamps (stamps_at self.old hash) }
         requires absent { is_in stamp.0 (stamps_at self.old hash) ≡ false }
@@ -95,7 +95,7 @@ impl Lists {
     }
 
     /// The list of a hash.
-    pub fn get(&self, hash: u64) -> Option<&Rising>
+    pub fn get(&self, hash: u32) -> Option<&Rising>
         requires unique { OneList self.now }
         ensures some { IfSome result (λ list. list.now ≡ stamps_at self.now hash) }
         ensures none { IfNone result (stamps_at self.now hash ≡ []) }
@@ -183,7 +183,7 @@ fn enter(
     heads: &mut Vec<u32>,
     groups: &mut Vec<Group>,
     free: &mut u32,
-    hash: u64,
+    hash: u32,
     stamp: Stamp,
 ) -> Result<u32, NoMemory>
     requires linked { IsLinked heads.old.items groups.old.items }
@@ -209,7 +209,7 @@ fn enter(
 }
 
 // Fills an empty group again: it gives the one that was emptied before it.
-fn refill(heads: &mut [u32], groups: &mut [Group], number: u32, hash: u64, list: Rising) -> u32
+fn refill(heads: &mut [u32], groups: &mut [Group], number: u32, hash: u32, list: Rising) -> u32
     requires number { number < length groups.old }
     requires few { number < 4294967295 }
     requires empty { stamped groups.old number ≡ false }
@@ -231,7 +231,7 @@ fn refill(heads: &mut [u32], groups: &mut [Group], number: u32, hash: u64, list:
 fn add(
     heads: &mut Vec<u32>,
     groups: &mut Vec<Group>,
-    hash: u64,
+    hash: u32,
     stamp: Stamp,
 ) -> Result<u32, NoMemory>
     requires linked { IsLinked heads.old.items groups.old.items }

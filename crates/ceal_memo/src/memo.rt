@@ -28,7 +28,7 @@ pub struct Memo {
 /// A key as a memo enters it, worked out once.
 #[derive(Clone, Copy, PartialEq)]
 pub struct Hashed {
-    hash: u64,
+    hash: u32,
 }
 
 impl Model for Memo {

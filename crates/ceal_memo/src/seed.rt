@@ -4,14 +4,14 @@ ghost use Rattle.std.specs.Prelude.{◌≡◌};
 
 use std::hash::{DefaultHasher, Hasher};
 
-// How many numbers of a key are multiplied by words of their own.
-const WORDS: usize = 32;
+// How many parts of a key are multiplied by words of their own.
+const WORDS: usize = 64;
 
 /// Words that hashes are made with. Any are right: no clause depends on them. Which keys share a hash depends on all of
 /// them, so whoever chooses keys without knowing them meets as many of one hash as chance gives.
 #[derive(Clone, Copy)]
 pub struct Seed {
-    words: [u128; WORDS],
+    words: [u64; WORDS],
 }
 
 impl Seed {
@@ -28,7 +28,7 @@ impl Seed {
         Seed { words }
     }
 
-    pub(crate) fn words(&self) -> &[u128]
+    pub(crate) fn words(&self) -> &[u64]
         ensures { result.now ≡ self.now.words }
     {
         &self.words
@@ -36,10 +36,8 @@ impl Seed {
 }
 
 // One word of a seed.
-fn word_at(start: DefaultHasher, at: u64) -> u128 {
-    let mut low = start;
-    low.write_u64(at);
-    let mut high = low;
-    high.write_u64(at);
-    u128::from(high.finish()) << 64 | u128::from(low.finish())
+fn word_at(start: DefaultHasher, at: u64) -> u64 {
+    let mut word = start;
+    word.write_u64(at);
+    word.finish()
 }

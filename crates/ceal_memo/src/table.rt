@@ -58,7 +58,7 @@ impl Table {
     }
 
     /// Enters a stamp that has no entry under a hash.
-    pub fn add(&mut self, order: &Order, hash: u64, stamp: Stamp) -> Result<(), NoMemory>
+    pub fn add(&mut self, order: &Order, hash: u32, stamp: Stamp) -> Result<(), NoMemory>
         requires here { IsTrue (is_in stamp.0 order.now.stamps) }
         requires follows { Follows order.now.stamps self.old }
         requires absent { HasNone stamp.0 self.old }
@@ -94,7 +94,7 @@ impl Table {
     pub fn first_between<S: Sought>(
         &self,
         order: &Order,
-        hash: u64,
+        hash: u32,
         sought: &S,
         after: Stamp,
         until: Stamp,

@@ -188,6 +188,7 @@ impl Mods {
     }
 
     /// What a place holds at a stamp, which counts as one look-up.
+    #[inline]
     pub fn value_at(&mut self, order: &Order, place: Place, stamp: Stamp) -> Word
         requires here { IsTrue (is_in stamp.0 order.now.stamps) }
         requires follows { Follows order.now.stamps self.old }

@@ -94,18 +94,32 @@ impl Sheet {
     }
 
     /// Sets a slot; the sheet grows up to its row.
+    #[inline]
     pub fn set(&mut self, row: u32, at: u32, slot: u32) -> Result<(), NoMemory>
         ensures here { OnOk result (slot_in self.new row at ≡ slot) }
         ensures others { (m n : ℕ) → (m ≡ row → n ≡ at → ⊥)
             → slot_in self.new m n ≡ slot_in self.old m n }
         ensures err { OnErr result (SameSlots self.old self.new) }
     {
-        lengthen(&mut self.rows, row as usize + 1)?;
+        make_rows(&mut self.rows, row as usize + 1)?;
         set_in(&mut self.rows, row, at, slot)
     }
 }
 
-// Adds empty rows until there are that many.
+// Sees to it that there are that many rows.
+#[inline]
+fn make_rows(rows: &mut Vec<Row>, count: usize) -> Result<(), NoMemory>
+    ensures same { SameSlots rows.old.items rows.new.items }
+    ensures enough { OnOk result (count ≤ length rows.new.items) }
+{
+    if count <= rows.len() {
+        return Ok(());
+    }
+    lengthen(rows, count)
+}
+
+// Adds empty rows until there are that many, which is seldom needed.
+#[inline(never)]
 fn lengthen(rows: &mut Vec<Row>, count: usize) -> Result<(), NoMemory>
     ensures same { SameSlots rows.old.items rows.new.items }
     ensures enough { OnOk result (count ≤ length rows.new.items) }
@@ -119,6 +133,7 @@ fn lengthen(rows: &mut Vec<Row>, count: usize) -> Result<(), NoMemory>
 }
 
 // Sets a slot of a row that is there.
+#[inline]
 fn set_in(rows: &mut [Row], row: u32, at: u32, slot: u32) -> Result<(), NoMemory>
     requires { row < length rows.old }
     ensures here { OnOk result (slot_in rows.new row at ≡ slot) }

@@ -48,6 +48,7 @@ impl Rising {
     }
 
     /// Whether there are none.
+    #[inline]
     pub fn is_empty(&self) -> bool
         ensures { IsTrue result ↔ (self.now ≡ []) }
     {
@@ -55,6 +56,7 @@ impl Rising {
     }
 
     /// The number of stamps before one.
+    #[inline]
     pub fn count_before(&self, order: &Order, stamp: Stamp) -> usize
         requires here { IsTrue (is_in stamp.0 order.now.stamps) }
         requires rising { IsRising order.now.stamps self.now }
@@ -65,6 +67,7 @@ impl Rising {
     }
 
     /// The nearest one after a stamp, None where there is none.
+    #[inline]
     pub fn first_after(&self, order: &Order, stamp: Stamp) -> Option<Stamp>
         requires here { IsTrue (is_in stamp.0 order.now.stamps) }
         requires rising { IsRising order.now.stamps self.now }
@@ -77,6 +80,7 @@ impl Rising {
     }
 
     /// Puts in a stamp that is not there, after those before it, and says how many those are.
+    #[inline]
     pub fn insert(&mut self, order: &Order, stamp: Stamp) -> Result<usize, NoMemory>
         requires here { IsTrue (is_in stamp.0 order.now.stamps) }
         requires rising { IsRising order.now.stamps self.old }
@@ -94,6 +98,7 @@ impl Rising {
     }
 
     /// Takes out a stamp that is there, and says how many are before it.
+    #[inline]
     pub fn remove(&mut self, order: &Order, stamp: Stamp) -> usize
         requires here { IsTrue (is_in stamp.0 order.now.stamps) }
         requires rising { IsRising order.now.stamps self.old }
@@ -118,6 +123,7 @@ impl Rising {
     }
 
     /// Takes a stamp out, where it is there, along an order.
+    #[inline]
     pub fn take_out_along(&mut self, order: &Order, stamp: Stamp)
         requires here { IsTrue (is_in stamp.0 order.now.stamps) }
         requires rising { IsRising order.now.stamps self.old }
@@ -134,6 +140,7 @@ impl Rising {
 }
 
 // The number of stamps before one, found by halves.
+#[inline]
 fn searched(order: &Order, stamps: &ShortList<Stamp>, stamp: Stamp) -> usize
     requires here { IsTrue (is_in stamp.0 order.now.stamps) }
     requires rising { IsRising order.now.stamps (numbers stamps.now) }

@@ -62,6 +62,7 @@ impl<T: Copy> Sequence<T> {
         count(&self.front) + self.last.len()
     }
 
+    #[inline(never)]
     pub fn get(&self, index: usize) -> T
         requires { index < length self.now }
         ensures { (other : T) → slice_index_or self.now index other ≡ result }
@@ -75,6 +76,7 @@ impl<T: Copy> Sequence<T> {
     }
 
     /// Puts an item in at an index.
+    #[inline(never)]
     pub fn insert(&mut self, index: usize, item: T) -> Result<(), NoMemory>
         requires { index ≤ length self.old }
         ensures ok { OnOk result (self.new ≡ insert self.old index item) }
@@ -175,6 +177,7 @@ impl<T: Copy> Sequence<T> {
     }
 
     /// Takes the item at an index out.
+    #[inline(never)]
     pub fn remove(&mut self, index: usize)
         requires { index < length self.old }
         ensures { self.new ≡ remove self.old index }
@@ -191,6 +194,7 @@ impl<T: Copy> Sequence<T> {
 
 impl Sequence<Stamp> {
     /// The number of stamps before one.
+    #[inline(never)]
     pub fn count_before(&self, order: &Order, stamp: Stamp) -> usize
         requires here { IsTrue (is_in stamp.0 order.now.stamps) }
         requires rising { IsRising order.now.stamps (numbers self.now) }
@@ -204,6 +208,7 @@ impl Sequence<Stamp> {
     }
 
     /// The nearest one after a stamp, None where there is none.
+    #[inline(never)]
     pub fn first_after(&self, order: &Order, stamp: Stamp) -> Option<Stamp>
         requires here { IsTrue (is_in stamp.0 order.now.stamps) }
         requires rising { IsRising order.now.stamps (numbers self.now) }

@@ -62,6 +62,7 @@ impl<T: Copy> ShortList<T> {
         }
     }
 
+    #[inline]
     pub fn len(&self) -> usize
         ensures { result ≡ length self.now }
     {
@@ -73,6 +74,7 @@ impl<T: Copy> ShortList<T> {
         }
     }
 
+    #[inline]
     pub fn get(&self, index: usize) -> T
         requires { index < length self.now }
         ensures { (other : T) → slice_index_or self.now index other ≡ result }
@@ -86,6 +88,7 @@ impl<T: Copy> ShortList<T> {
     }
 
     /// Puts an item in at an index.
+    #[inline]
     pub fn insert(&mut self, index: usize, item: T) -> Result<(), NoMemory>
         requires { index ≤ length self.old }
         ensures ok { OnOk result (self.new ≡ insert self.old index item) }
@@ -110,6 +113,7 @@ impl<T: Copy> ShortList<T> {
     }
 
     /// Takes the item at an index out.
+    #[inline]
     pub fn remove(&mut self, index: usize)
         requires { index < length self.old }
         ensures { self.new ≡ remove self.old index }
@@ -128,6 +132,7 @@ impl<T: Copy> ShortList<T> {
 
 impl ShortList<Stamp> {
     /// The number of stamps before one.
+    #[inline]
     pub fn count_before(&self, order: &Order, stamp: Stamp) -> usize
         requires here { IsTrue (is_in stamp.0 order.now.stamps) }
         requires rising { IsRising order.now.stamps (numbers self.now) }
@@ -143,6 +148,7 @@ impl ShortList<Stamp> {
     }
 
     /// The nearest one after a stamp, None where there is none.
+    #[inline]
     pub fn first_after(&self, order: &Order, stamp: Stamp) -> Option<Stamp>
         requires here { IsTrue (is_in stamp.0 order.now.stamps) }
         requires rising { IsRising order.now.stamps (numbers self.now) }
@@ -167,6 +173,7 @@ impl ShortList<Stamp> {
 }
 
 // How many of two stamps are before another.
+#[inline]
 fn count_of_two(order: &Order, first: Stamp, second: Stamp, stamp: Stamp) -> usize
     requires here { IsTrue (is_in stamp.0 order.now.stamps) }
     requires rising { IsRising order.now.stamps (first.0 ∷ second.0 ∷ []) }
@@ -180,6 +187,7 @@ fn count_of_two(order: &Order, first: Stamp, second: Stamp, stamp: Stamp) -> usi
 }
 
 // The first of two stamps that is after another.
+#[inline]
 fn first_of_two(order: &Order, first: Stamp, second: Stamp, stamp: Stamp) -> Option<Stamp>
     requires here { IsTrue (is_in stamp.0 order.now.stamps) }
     requires rising { IsRising order.now.stamps (first.0 ∷ second.0 ∷ []) }
@@ -211,6 +219,7 @@ fn two<T: Copy>(first: T, index: usize, item: T) -> Form<T>
 }
 
 // Two items, and a third one among them.
+#[inline(never)]
 fn three<T: Copy>(
     alloc: Global,
     first: T,

@@ -1,12 +1,13 @@
 -- Stamps that are put into a queue and taken out of it.
 use Rattle.std.proofs.Common.{◌≡◌, ◌≢◌, ◌<◌, ◌≤◌, ◌+◌, ℕ, suc, inl, inr, true, false, List, [], ◌∷◌, length, get_or, Option, Some, None, refl, sym, ap, subst, ◌∙◌, arith}
 use Rattle.std.proofs.lemmas.Bool.Decides.{eqb_tells}
-use Rattle.std.proofs.lemmas.Bool.{eq-eqb}
+use Rattle.std.proofs.lemmas.Bool.{eq-eqb, le-ltb, cases_Bool}
 use Rattle.std.specs.List.{insert, remove}
 use Rattle.ceal_order.specs.Stamps.{is_in, place, head_of, without}
 use Rattle.ceal_order.specs.declared.stamp.Stamp.{Stamp}
-use Rattle.ceal_order.specs.Rising.{numbers, IsBeforeAll, IsRising}
+use Rattle.ceal_order.specs.Rising.{numbers, count_before, IsBeforeAll, IsRising}
 use Rattle.ceal_order.proofs.Members.{in_insert, in_without}
+use Rattle.ceal_order.proofs.Searching.{count_none}
 use Rattle.ceal_queue.specs.Queue.{IsWith, IsWithout, IsBefore, IsEarliest}
 
 -- ---- being in a list
@@ -93,6 +94,19 @@ module _ (order : List ℕ) where
     gone = absent_before s ss rising.1;
     others = λ t other. sym (in_other t s ss (λ e. other (sym e)));
   }
+
+  -- ---- a stamp before all others
+
+  pub absent_ahead : (s first : ℕ) (xs : List ℕ) → IsRising order (first ∷ xs) → place s order < place first order → is_in s (first ∷ xs) ≡ false
+  absent_ahead s first xs rising less = elim (cases_Bool (is_in s (first ∷ xs))) [
+    | inl found ↦ absurd (let le : place first order ≤ place s order = (is_earliest first xs rising).first s found in omega (arith, le, less))
+    | inr none ↦ none
+  ]
+
+  pub none_ahead : (s first : ℕ) (xs : List ℕ) → IsRising order (first ∷ xs) → place s order < place first order → 0 ≡ count_before order s (first ∷ xs)
+  none_ahead s first xs rising less =
+      let le : place s order ≤ place first order = omega (arith, less) in
+      rw (le-ltb (place first order) (place s order) le) (sym (count_none order s first xs le rising.1))
 
   -- where the earliest is not before a limit, none is
   pub none_before : (first : ℕ) (limit : Option Stamp) (ss : List ℕ) → IsRising order (first ∷ ss) → (IsBefore order limit first → ⊥)

@@ -6,7 +6,7 @@ ghost use Rattle.std.specs.Option.{ForSome};
 ghost use Rattle.ceal_order.specs.Stamps.{is_in};
 ghost use Rattle.ceal_queue.specs.Queue.{Follows, IsWith, IsWithout, IsBefore, IsEarliest};
 
-use crate::stamps::Stamps;
+use crate::ahead::Ahead;
 use ceal_base::no_memory::NoMemory;
 use ceal_order::order::Order;
 use ceal_order::stamp::Stamp;
@@ -17,7 +17,7 @@ use std::marker::Model;
 /// without taking memory. Each call that is handed an order needs that the queue follows it, and leaves it so.
 #[derive(Drop)]
 pub struct Stale {
-    stamps: Stamps,
+    stamps: Ahead,
     spare: u32,
 }
 
@@ -41,7 +41,7 @@ impl Stale {
         ensures follows { IfOk result (λ queue. (order : List ℕ) → Follows order queue) }
     {
         Ok(Stale {
-            stamps: Stamps::new(alloc),
+            stamps: Ahead::new(alloc),
             spare: 0,
         })
     }

@@ -163,6 +163,7 @@ impl Stamps {
 }
 
 // Moves all stamps of a sequence to an empty plain list, where there is room for them.
+#[inline(never)]
 fn move_all(sequence: &mut Sequence<Stamp>, plain: &mut Vec<Stamp>)
     requires empty { plain.old.items ≡ [] }
     requires room { length sequence.old ≤ vec_capacity plain.old }

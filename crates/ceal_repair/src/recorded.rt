@@ -9,6 +9,7 @@ use ceal_order::stamp::Stamp;
 use ceal_trace::trace::Trace;
 
 /// The place and the value of a read.
+#[inline]
 pub fn recorded(trace: &Trace, read: Stamp) -> (Place, Word)
     requires read { IsTrue (is_read (node_at read.0 trace.now.nodes)) }
     ensures { Records result.0 result.1 (node_at read.0 trace.now.nodes) }

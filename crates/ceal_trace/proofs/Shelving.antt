@@ -64,9 +64,9 @@ keyed_some : (block : BlockId) (o : Option Apart) → IsSome (keyed block o) →
 keyed_some block None some = some
 keyed_some block (Some a) some = refl
 
-closed_some : (value : Word) (o : Option Apart) → IsSome (closed value o) → IsSome o
-closed_some value None some = some
-closed_some value (Some a) some = refl
+closed_some : (value : Word) (var : ℕ) (o : Option Apart) → IsSome (closed value var o) → IsSome o
+closed_some value var None some = some
+closed_some value var (Some a) some = refl
 
 -- the other part is there, where the node is whole
 pub stands : (a : Slab Apart) (o : Option Held) (at : ℕ) → IsSome (whole_in a o) → place_of o ≡ Some at → IsSome (get a at)
@@ -74,7 +74,7 @@ stands a None at some is = absurd (cc)
 stands a (Some small.Root) at some is = absurd (cc)
 stands a (Some (small.Alloc block k)) at some is = let same : number_of k ≡ at = cc in subst (λ (n : ℕ). IsSome (get a n)) same (keyed_some block (get a (number_of k)) some)
 stands a (Some (small.Write place value)) at some is = absurd (cc)
-stands a (Some (small.Read value k)) at some is = let same : number_of k ≡ at = cc in subst (λ (n : ℕ). IsSome (get a n)) same (closed_some (word_of value) (get a (number_of k)) some)
+stands a (Some (small.Read value var k)) at some is = let same : number_of k ≡ at = cc in subst (λ (n : ℕ). IsSome (get a n)) same (closed_some (word_of value) var (get a (number_of k)) some)
 stands a (Some (small.End read)) at some is = absurd (cc)
 
 -- a node is whole as long as its other part is kept
@@ -83,7 +83,7 @@ whole_kept a a' None kept = refl
 whole_kept a a' (Some small.Root) kept = refl
 whole_kept a a' (Some (small.Alloc block k)) kept = ap (keyed block) (kept (number_of k) refl)
 whole_kept a a' (Some (small.Write place value)) kept = refl
-whole_kept a a' (Some (small.Read value k)) kept = ap (closed (word_of value)) (kept (number_of k) refl)
+whole_kept a a' (Some (small.Read value var k)) kept = ap (closed (word_of value) var) (kept (number_of k) refl)
 whole_kept a a' (Some (small.End read)) kept = refl
 
 none_or_some : {X : Type 0} (o : Option X) → (o ≡ None) ⊎ IsSome o
@@ -193,21 +193,21 @@ valued_whole a value (small.Alloc block at) = by (get a (number_of at))
     by : (o : Option Apart) → keyed block o ≡ option_map (valued (word_of value)) (keyed block o)
     by None = refl
     by (Some (other.Key key)) = refl
-    by (Some (other.Closure place unit var args)) = refl
+    by (Some (other.Closure place unit args)) = refl
 valued_whole a value (small.Write place word) = refl
-valued_whole a value (small.Read word at) = by (get a (number_of at))
+valued_whole a value (small.Read word var at) = by (get a (number_of at))
   where
-    by : (o : Option Apart) → closed (word_of value) o ≡ option_map (valued (word_of value)) (closed (word_of word) o)
+    by : (o : Option Apart) → closed (word_of value) var o ≡ option_map (valued (word_of value)) (closed (word_of word) var o)
     by None = refl
     by (Some (other.Key key)) = refl
-    by (Some (other.Closure place unit var args)) = refl
+    by (Some (other.Closure place unit args)) = refl
 valued_whole a value (small.End read) = refl
 
 valued_place : (value : Packed) (x : Held) → place_of (Some (held_valued value x)) ≡ place_of (Some x)
 valued_place value small.Root = refl
 valued_place value (small.Alloc block at) = refl
 valued_place value (small.Write place word) = refl
-valued_place value (small.Read word at) = refl
+valued_place value (small.Read word var at) = refl
 valued_place value (small.End read) = refl
 
 some_mapped : {X Y : Type 0} (g : X → Y) (o : Option X) → IsSome o → IsSome (option_map g o)
@@ -283,7 +283,7 @@ fewer (x ∷ xs) =
     one (Some small.Root) = omega arith
     one (Some (small.Alloc block at)) = omega arith
     one (Some (small.Write place value)) = omega arith
-    one (Some (small.Read value at)) = omega arith
+    one (Some (small.Read value var at)) = omega arith
     one (Some (small.End read)) = omega arith
 
 pub apart_less : (h : Slab Held) (a : Slab Apart) → IsFit h a → slab_len a ≤ slab_len h

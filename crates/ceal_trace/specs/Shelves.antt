@@ -24,16 +24,16 @@ keyed block (Some (other.Key key)) = Some (node.Alloc block key)
 keyed block _ = None
 
 -- a read, where its closure is there
-abbrev pub closed : Word → Option Apart → Option Node
-closed value (Some (other.Closure place unit var args)) = Some (node.Read place value unit var args)
-closed value _ = None
+abbrev pub closed : Word → ℕ → Option Apart → Option Node
+closed value var (Some (other.Closure place unit args)) = Some (node.Read place value unit var args)
+closed value var _ = None
 
 -- a whole node
 abbrev pub whole : Slab Apart → Held → Option Node
 whole apart small.Root = Some node.Root
 whole apart (small.Alloc block at) = keyed block (get apart (number_of at))
 whole apart (small.Write place value) = Some (node.Write place (word_of value))
-whole apart (small.Read value at) = closed (word_of value) (get apart (number_of at))
+whole apart (small.Read value var at) = closed (word_of value) var (get apart (number_of at))
 whole apart (small.End read) = Some (node.End read)
 
 abbrev pub whole_in : Slab Apart → Option Held → Option Node
@@ -48,7 +48,7 @@ or_root (Some n) = n
 -- under which key a part stands apart
 abbrev pub place_of : Option Held → Option ℕ
 place_of (Some (small.Alloc block at)) = Some (number_of at)
-place_of (Some (small.Read value at)) = Some (number_of at)
+place_of (Some (small.Read value var at)) = Some (number_of at)
 place_of _ = None
 
 -- whether a part stands apart
@@ -90,7 +90,7 @@ pub record Joined (old new : Slab Apart) (held : Held) (node : Node) : Type 0 wh
 
 -- a read with this value, another one as it is
 abbrev pub held_valued : Packed → Held → Held
-held_valued value (small.Read _ at) = small.Read value at
+held_valued value (small.Read _ var at) = small.Read value var at
 held_valued value h = h
 
 -- the small part at a key has another value

@@ -19,18 +19,17 @@ pub enum Held {
     Root,
     Alloc { block: BlockId, apart: Halves },
     Write { place: Place, value: Packed },
-    Read { value: Packed, apart: Halves },
+    Read { value: Packed, var: u32, apart: Halves },
     End { read: Stamp },
 }
 
-/// The second part: the key of an allocation, or the closure of a read.
+/// The second part: the key of an allocation, or the closure of a read but for its variable.
 #[derive(Drop)]
 pub enum Apart {
     Key(Key),
     Closure {
         place: Place,
         unit: UnitId,
-        var: u32,
         args: Words,
     },
 }
@@ -50,13 +49,12 @@ pub fn join(apart: &mut Slab<Apart>, held: Held) -> Node
             place,
             value: value.word(),
         },
-        Held::Read { value, apart: at } => match apart.remove(at.number() as usize) {
-            Apart::Closure {
-                place,
-                unit,
-                var,
-                args,
-            } => Node::Read {
+        Held::Read {
+            value,
+            var,
+            apart: at,
+        } => match apart.remove(at.number() as usize) {
+            Apart::Closure { place, unit, args } => Node::Read {
                 place,
                 value: value.word(),
                 unit,
@@ -107,13 +105,12 @@ pub fn look<'a>(apart: &'a Slab<Apart>, held: &'a Held) -> Seen<'a>
             place: *place,
             value: value.word(),
         },
-        Held::Read { value, apart: at } => match &apart[at.number() as usize] {
-            Apart::Closure {
-                place,
-                unit,
-                var,
-                args,
-            } => Seen::Read {
+        Held::Read {
+            value,
+            var,
+            apart: at,
+        } => match &apart[at.number() as usize] {
+            Apart::Closure { place, unit, args } => Seen::Read {
                 place: *place,
                 value: value.word(),
                 unit: *unit,

@@ -95,14 +95,10 @@ impl NewNode for NewRead {
             var,
             args,
         } = self;
-        let at = apart.insert_reserved(Apart::Closure {
-            place,
-            unit,
-            var,
-            args,
-        });
+        let at = apart.insert_reserved(Apart::Closure { place, unit, args });
         Held::Read {
             value: Packed::of(value),
+            var,
             apart: Halves::of(at as u64),
         }
     }

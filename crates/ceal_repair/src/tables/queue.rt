@@ -113,6 +113,7 @@ impl Tables {
     }
 
     // Whether a read has not the content of its moment.
+    #[inline]
     pub fn differs(&mut self, read: Stamp) -> bool
         requires kept { Kept self.old }
         requires here { IsTrue (is_read (node_at read.0 self.old.trace.nodes)) }
@@ -171,6 +172,7 @@ impl Tables {
     }
 
     // Whether a place holds without a write what it holds with it.
+    #[inline]
     pub fn is_needless(&mut self, write: Stamp, place: Place) -> bool
         requires kept { Kept self.old }
         requires here { (v : WordOf)
@@ -192,6 +194,7 @@ impl Tables {
     }
 
     // Queues the read that a change of a place after a node affects, unless nothing has changed.
+    #[inline]
     pub fn wake_unless(&mut self, same: bool, place: Place, after: Stamp)
         requires here { IsTrue (has_node after.0 self.old.trace.nodes) }
         requires mods { Mods_follow (stamps_in self.old.trace.nodes) self.old.mods }
@@ -215,6 +218,7 @@ impl Tables {
     }
 
     // Takes a node out of the queue that has none before it, and says whether it was there.
+    #[inline]
     pub fn unqueue(&mut self, read: Stamp) -> bool
         requires here { IsTrue (has_node read.0 self.old.trace.nodes) }
         requires stale { Queue_follows (stamps_in self.old.trace.nodes) self.old.stale }
@@ -235,6 +239,7 @@ impl Tables {
     }
 
     // Takes a read out of the queue that has none before it; where it was there, the next one of its place goes in.
+    #[inline]
     pub fn hand_on(&mut self, read: Stamp, place: Place)
         requires here { IsTrue (has_node read.0 self.old.trace.nodes) }
         requires mods { Mods_follow (stamps_in self.old.trace.nodes) self.old.mods }
