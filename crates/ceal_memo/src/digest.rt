@@ -112,7 +112,8 @@ fn with_number(seed: &[u128], digest: Digest, number: u128) -> Digest
     }
 }
 
-// The sum where no word is left: they begin anew behind what is there. It is a function of its own, so that the common way is short.
+// The sum where no word is left: they begin anew behind what is there. It is a function of its own, so that the common
+// way is short.
 #[inline(never)]
 fn anew(seed: &[u128], sum: u128, number: u128) -> u128
     ensures { result ≡ (seed_word seed.now 0 * one_more 0 (sum / 2 ^ 64)
