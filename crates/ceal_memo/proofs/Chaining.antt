@@ -167,7 +167,8 @@ module _ (of of' : ℕ → ℕ → Type 0) (size count f b : ℕ) (head next : �
             elim (eqb_tells n p) [
               | inl at_p ↦
                   let same : c ≡ b = one p c b (subst (λ (k : ℕ). of k c) at_p.1 was) in_p in
-                  subst (λ (k : ℕ). IsLast of' c k (next' k)) (sym at_p.1) (subst (λ (d : ℕ). IsLast of' d p (next' p)) (sym same) (subst (IsLast of' b p) (sym next_p) (leads p (next p) passed_p up last_p)))
+                  subst (λ (k : ℕ). IsLast of' c k (next' k)) (sym at_p.1)
+                  (subst (λ (d : ℕ). IsLast of' d p (next' p)) (sym same) (subst (IsLast of' b p) (sym next_p) (leads p (next p) passed_p up last_p)))
               | inr at_p ↦
                   subst (IsLast of' c n) (sym (next_other n at.1 at_p.1)) (stays c n (next n) (λ same above. elim (less_or n p) [
                     | inl fewer ↦ let earlier = last_p.last n fewer (subst (of n) same was) in absurd (omega arith)
@@ -252,7 +253,8 @@ module _ (of of' : ℕ → ℕ → Type 0) (size count f b : ℕ) (head next : �
           elim (eqb_tells n p) [
             | inl at ↦
                 let same : c ≡ b = one p c b (subst (λ (k : ℕ). of k c) at.1 was) in_p in
-                subst (λ (k : ℕ). IsLast of' c k (next' k)) (sym at.1) (subst (λ (d : ℕ). IsLast of' d p (next' p)) (sym same) (subst (IsLast of' b p) (sym next_p) (passes p (next p) was_next last_of_p)))
+                subst (λ (k : ℕ). IsLast of' c k (next' k)) (sym at.1)
+                (subst (λ (d : ℕ). IsLast of' d p (next' p)) (sym same) (subst (IsLast of' b p) (sym next_p) (passes p (next p) was_next last_of_p)))
             | inr at ↦
                 subst (IsLast of' c n) (sym (next_other n apart at.1)) (left c n (next n) (λ same.
                 let own : c ≡ b = one f c b ((chained.nexts n c under was).there f same) here in

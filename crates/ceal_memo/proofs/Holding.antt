@@ -68,7 +68,8 @@ holds_more order s key old new seed entries none change holds = record { stamps 
         | inl q ↦ subst (λ (h : ℕ). is_in t (entries_of new h) ≡ is_under seed h (with_key s key entries t)) q.1
             (here t ∙ rw p.0 (sym (eq-eqb own own refl)))
         | inr q ↦
-            let out : is_in t (entries_of new hash) ≡ false = ap (is_in t) (change.others hash (λ same. q.1 (sym same))) ∙ subst (λ (u : ℕ). is_in u (entries_of old hash) ≡ false) p.1 (none.none hash) in
+            let out : is_in t (entries_of new hash)
+            ≡ false = ap (is_in t) (change.others hash (λ same. q.1 (sym same))) ∙ subst (λ (u : ℕ). is_in u (entries_of old hash) ≡ false) p.1 (none.none hash) in
             out ∙ rw (p.0, q.0) refl
       ]
       | inr p ↦ elim (eqb_tells own hash) [
@@ -86,7 +87,8 @@ holds_less order s old new seed entries follows less holds = record { stamps = s
   where
     stamps : (hash t : ℕ) → is_in t (entries_of new hash) ≡ is_under seed hash (without_key s entries t)
     stamps hash t =
-        let e : is_in t (entries_of new hash) ≡ (if s == t then false else is_in t (entries_of old hash)) = ap (is_in t) (less hash) ∙ in_without order t s (entries_of old hash) (follows.rising hash) in
+        let e : is_in t (entries_of new hash)
+        ≡ (if s == t then false else is_in t (entries_of old hash)) = ap (is_in t) (less hash) ∙ in_without order t s (entries_of old hash) (follows.rising hash) in
         elim (eqb_tells s t) [
           | inl p ↦ e ∙ rw p.0 refl
           | inr p ↦ e ∙ rw p.0 (holds.stamps hash t)

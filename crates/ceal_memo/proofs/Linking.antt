@@ -1,5 +1,6 @@
 -- Groups in the chains of their buckets.
-use Rattle.std.proofs.Common.{◌≡◌, ◌≢◌, ◌<◌, ◌≤◌, ◌-◌, ◌/◌, ◌^◌, ℕ, suc, zero, Bool, true, false, inl, inr, List, [], ◌∷◌, ◌++◌, length, set, refl, sym, ap, ◌∙◌, subst, arith, slice_index_or, slice_set}
+use Rattle.std.proofs.Common.{◌≡◌, ◌≢◌, ◌<◌, ◌≤◌, ◌-◌, ◌/◌, ◌^◌, ℕ, suc, zero, Bool, true, false, inl, inr, List, [], ◌∷◌, ◌++◌, length, set, refl, sym, ap, ◌∙◌, subst, arith, slice_index_or}
+use Rattle.std.proofs.Common.{slice_set}
 use Rattle.std.proofs.lemmas.Nat.{and_le_r}
 use Rattle.std.proofs.lemmas.Bool.{eq-eqb, false≢true}
 use Rattle.std.proofs.lemmas.Bool.Decides.{eqb_tells}
@@ -146,7 +147,8 @@ module _ (heads heads' : List ℕ) (groups groups' : List Group) (size : length 
       comes_first =
           subst (λ (s : ℕ). IsChained (IsIn (stamped groups') (length heads') groups') s (suc number) (head_at heads') (next_at groups')) (sym size)
           (appended (IsIn (stamped groups') (length heads') groups') (length heads) number (head_at heads) (next_at groups)
-          (chained_as (IsIn (stamped groups) (length heads) groups) (IsIn (stamped groups') (length heads') groups') (length heads) number (head_at heads) (head_at heads) (next_at groups) (next_at groups)
+          (chained_as (IsIn (stamped groups) (length heads) groups) (IsIn (stamped groups') (length heads') groups') (length heads) number (head_at heads) (head_at heads) (next_at groups)
+          (next_at groups)
           (λ n c low is. among_new n c is) (λ n c low is. among_old n c is) (λ c low. refl) (λ n c low is. refl) chained)
           b (head_at heads') (next_at groups') (λ c is. one_bucket (stamped groups') (length heads') groups' number c b is in_bucket) in_bucket inside
           head head_other next next_other)
@@ -193,7 +195,8 @@ module _ (heads : List ℕ) (groups : List Group) (number : ℕ) (empty : stampe
       subst (λ (k : ℕ). Chained k (stamped new) heads new) (sym (length_set groups number own))
       (chains_kept (length groups) (stamped groups) (stamped new) heads groups new
       (λ n under. elim (eqb_tells n number) [
-        | inl p ↦ subst (λ (k : ℕ). stamped new k ≡ stamped groups k) (sym p.1) (ap (λ (g : Group). has_stamps g.list) (set_here groups number own blank within) ∙ ap (λ (g : Group). has_stamps g.list) (group_is groups number d within))
+        | inl p ↦ subst (λ (k : ℕ). stamped new k ≡ stamped groups k) (sym p.1)
+            (ap (λ (g : Group). has_stamps g.list) (set_here groups number own blank within) ∙ ap (λ (g : Group). has_stamps g.list) (group_is groups number d within))
         | inr p ↦ ap (λ (g : Group). has_stamps g.list) (set_others groups number own blank n p.1)
       ])
       (λ n under is. ap (λ (g : Group). g.hash) (set_others groups number own blank n (apart n is)))
@@ -214,7 +217,8 @@ module _ (groups : List Group) (number : ℕ) (d : Group) (list : List ℕ) (wit
         chained = subst (λ (k : ℕ). Chained k (stamped new) heads new) (sym count)
             (chains_kept (length groups) (with_one number (stamped groups)) (stamped new) heads groups new
             (λ n under. elim (eqb_tells n number) [
-              | inl p ↦ subst (λ (k : ℕ). stamped new k ≡ with_one number (stamped groups) k) (sym p.1) (ap (λ (g : Group). has_stamps g.list) here ∙ some_is list some ∙ sym (with_itself number (stamped groups)))
+              | inl p ↦ subst (λ (k : ℕ). stamped new k ≡ with_one number (stamped groups) k) (sym p.1)
+                  (ap (λ (g : Group). has_stamps g.list) here ∙ some_is list some ∙ sym (with_itself number (stamped groups)))
               | inr p ↦ rw p.0 (ap (λ (g : Group). has_stamps g.list) (set_others groups number own blank n p.1))
             ])
             (λ n under is. elim (eqb_tells n number) [

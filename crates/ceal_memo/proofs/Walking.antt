@@ -45,7 +45,8 @@ module _ (order stamps : List ℕ) (is : ℕ → Type 0) (after : ℕ) where
         behind = (let a = passed.behind in let b = first.behind in omega (arith, a, b));
         others = λ t there so later.
             let nearest = first.nearest t there (passed.others t there so later) in
-            let apart : place next order ≢ place t order = λ same. fails (subst is (sym (place_tells next t order (in_order next stamps order rising first.there) (in_order t stamps order rising there) same)) so) in
+            let apart : place next order ≢ place t order = λ same. fails
+            (subst is (sym (place_tells next t order (in_order next stamps order rising first.there) (in_order t stamps order rising there) same)) so) in
             omega (arith, nearest, apart);
       }
 

@@ -1,6 +1,7 @@
 -- Groups of stamps by hash, in chains
 -- (hash tables with separate chaining: Knuth, *The Art of Computer Programming*, volume 3, 6.4).
-use Rattle.std.specs.Prelude.{◌≡◌, ◌-◌, ◌<◌, ◌≤◌, ◌==◌, ℕ, suc, Bool, true, List, [], ◌∷◌, length, slice_index_or, set, bit_and, if◌then◌else◌}
+use Rattle.std.specs.Prelude.{◌≡◌, ◌-◌, ◌<◌, ◌≤◌, ◌==◌, ℕ, suc, Bool, true, List, [], ◌∷◌, length}
+use Rattle.std.specs.Prelude.{slice_index_or, set, bit_and, if◌then◌else◌}
 use Rattle.ceal_memo.specs.Lists.{has_stamps}
 use Rattle.ceal_memo.specs.declared.chains.Group.{Group}
 

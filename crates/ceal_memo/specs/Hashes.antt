@@ -1,6 +1,7 @@
 -- The hashes of keys: sums of products with the words of a seed (multilinear hashing: Carter and Wegman, "Universal
 -- classes of hash functions", 1979; Lemire and Kaser, "Strongly universal string hashing is fast", 2014).
-use Rattle.std.specs.Prelude.{ℕ, ◌+◌, ◌*◌, ◌/◌, ◌%◌, ◌^◌, List, [], ◌∷◌, length, Option, None, Some, slice_get, unwrap_or}
+use Rattle.std.specs.Prelude.{ℕ, ◌+◌, ◌*◌, ◌/◌, ◌%◌, ◌^◌, List, [], ◌∷◌, length, Option, None, Some, slice_get}
+use Rattle.std.specs.Prelude.{unwrap_or}
 use mir.Syntax.{w64}
 use mir.Val.{of_z as cast_unsigned}
 use Rattle.ceal_base.specs.Hashing.{mixed, place_number}

@@ -1,7 +1,9 @@
 // Groups of stamps by hash, in chains.
 
-ghost use Rattle.std.specs.Prelude.{◌≡◌, ◌≢◌, ◌<◌, ◌≤◌, ◌+◌, ◌*◌, ◌^◌, ℕ, suc, Bool, true, false, length, IfSome, IfNone, OnOk, OnErr, IsTrue};
-ghost use Rattle.ceal_memo.specs.Chains.{bucket, group_at, head_at, next_at, lists_of, with_one, stamped, IsBefore, Chained, IsLinked};
+ghost use Rattle.std.specs.Prelude.{◌≡◌, ◌≢◌, ◌<◌, ◌≤◌, ◌+◌, ◌*◌, ◌^◌, ℕ, suc, Bool, true, false, length, IfSome};
+ghost use Rattle.std.specs.Prelude.{IfNone, OnOk, OnErr, IsTrue};
+ghost use Rattle.ceal_memo.specs.Chains.{bucket, group_at, head_at, next_at, lists_of, with_one, stamped, IsBefore};
+ghost use Rattle.ceal_memo.specs.Chains.{Chained, IsLinked};
 
 use ceal_base::no_memory::NoMemory;
 use ceal_order::rising::Rising;
@@ -9,7 +11,8 @@ use ceal_order::rising::Rising;
 // The fewest buckets.
 const FEWEST_BUCKETS: usize = 64;
 
-/// The stamps under a hash. A group with stamps is in the chain of the bucket that its hash falls into: there those with
+/// The stamps under a hash. A group with stamps is in the chain of the bucket that its hash falls into: there those
+/// with
 /// higher numbers are before it, and `next` is the link to the one after it. The link 0 leads nowhere, and n + 1 to the
 /// group n.
 #[derive(Drop)]

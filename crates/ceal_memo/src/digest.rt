@@ -122,7 +122,8 @@ fn with_number(seed: &[u64], digest: Digest, number: u64) -> Digest
     }
 }
 
-// The sum where no word is left: they begin anew behind what is there. It is a function of its own, so that the common way is short.
+// The sum where no word is left: they begin anew behind what is there. It is a function of its own, so that the common
+// way is short.
 #[inline(never)]
 fn anew(seed: &[u64], sum: u64, number: u64) -> u64
     ensures { result ≡ (seed_word seed.now 0 * (one_more 0 sum / 2 ^ 32)

@@ -1,6 +1,7 @@
 // Lists of stamps by hash, each of which rises along the order.
 
-ghost use Rattle.std.specs.Prelude.{◌≡◌, ◌≢◌, ◌<◌, ◌≤◌, ◌↔◌, ◌++◌, ◌∷◌, ℕ, List, [], true, false, length, set, IfSome, IfNone, IfOk, OnOk, OnErr, IsTrue};
+ghost use Rattle.std.specs.Prelude.{◌≡◌, ◌≢◌, ◌<◌, ◌≤◌, ◌↔◌, ◌++◌, ◌∷◌, ℕ, List, [], true, false, length, set, IfSome};
+ghost use Rattle.std.specs.Prelude.{IfNone, IfOk, OnOk, OnErr, IsTrue};
 ghost use Rattle.ceal_order.specs.Stamps.{is_in, without};
 ghost use Rattle.ceal_order.specs.Rising.{IsRising};
 ghost use Rattle.ceal_memo.specs.Lists.{stamps_at, with_stamp};
@@ -22,7 +23,8 @@ const MOST_LISTS: usize = 4294967295;
 // The number of no group.
 const NO_GROUP: u32 = u32::MAX;
 
-/// A list of stamps for each hash. A list has a number, which stays its own as long as it has stamps; the number of a list
+/// A list of stamps for each hash. A list has a number, which stays its own as long as it has stamps; the number of a
+/// list
 /// that has become empty goes to the next new hash.
 #[derive(Drop)]
 pub struct Lists {
@@ -163,7 +165,8 @@ fn spare(groups: &[Group], free: u32) -> Option<u32>
     }
 }
 
-// Takes a group that has become empty out of its bucket. The one that was emptied before it is told in the place of its link.
+// Takes a group that has become empty out of its bucket. The one that was emptied before it is told in the place of its
+// link.
 fn let_go(heads: &mut [u32], groups: &mut [Group], free: u32, number: u32)
     requires number { number < length groups.old }
     requires enough { length groups.old ≤ length heads.old }

@@ -3,7 +3,8 @@
 ghost use Rattle.std.specs.Prelude.{◌≡◌, ◌≢◌, ◌<◌, ℕ, List, Option, IfSome, IfNone, IfOk, OnOk, OnErr, IsTrue};
 ghost use Rattle.ceal_order.specs.Stamps.{is_in, place};
 ghost use Rattle.ceal_memo.specs.Keys.{EntryKey, OfRead, OfAlloc};
-ghost use Rattle.ceal_memo.specs.Memo.{no_entries, with_key, without_key, IsFirstWith, NoneWith, Holds, IsOf, Follows, HasNone};
+ghost use Rattle.ceal_memo.specs.Memo.{no_entries, with_key, without_key, IsFirstWith, NoneWith, Holds, IsOf, Follows};
+ghost use Rattle.ceal_memo.specs.Memo.{HasNone};
 
 use crate::digest::{hash_of_alloc, hash_of_read};
 use crate::key::ReadKey;
@@ -17,7 +18,8 @@ use ceal_order::stamp::Stamp;
 use std::alloc::Global;
 use std::marker::Model;
 
-/// Entries of recorded reads and of allocations by their keys: a stamp has one at most. The keys themselves are only with
+/// Entries of recorded reads and of allocations by their keys: a stamp has one at most. The keys themselves are only
+/// with
 /// who tells them (`Keys`). Each call that is handed an order needs that the memo follows it, and leaves it so.
 #[derive(Drop)]
 pub struct Memo {

@@ -23,7 +23,8 @@ pub trait Sought {
         ensures { IsTrue result ↔ is self.now stamp.0 };
 }
 
-/// The earliest stamp of a list with a key after one and before another. Those with another key are passed: of these there are
+/// The earliest stamp of a list with a key after one and before another. Those with another key are passed: of these
+/// there are
 /// some only where two keys have one hash.
 pub fn first_with_key<S: Sought>(
     list: &Rising,

@@ -17,8 +17,10 @@ const NEAR_FIELDS: u32 = 256;
 // Blocks below this number, and below twice the number of slots more, are found by it.
 const NEAR_BLOCKS: u32 = 4096;
 
-/// A slot for each place. Blocks are numbered from 0, and fields too, so a place is found by its two numbers, as long as
-/// these are not much above the number of slots; a place of a larger number is found by hashing. A sheet has a row for each
+/// A slot for each place. Blocks are numbered from 0, and fields too, so a place is found by its two numbers, as long
+/// as
+/// these are not much above the number of slots; a place of a larger number is found by hashing. A sheet has a row for
+/// each
 /// field: few fields are modifiables, and the numbers of blocks are dense.
 #[derive(Drop)]
 pub struct Index {
@@ -49,7 +51,8 @@ impl Index {
         self.far(place)
     }
 
-    // The slot of a place that is found by hashing. It is a function of its own, so that the others are found without it at little cost.
+    // The slot of a place that is found by hashing. It is a function of its own, so that the others are found without
+    // it at little cost.
     #[inline(never)]
     fn far(&self, place: Place) -> u32
         ensures { result ≡ far_of self.now place }

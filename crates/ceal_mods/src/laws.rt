@@ -25,7 +25,8 @@ pub fn follows_still()
     rising_still();
 }
 
-/// Laws: at which stamps a place has writes and reads, and which values the writes have, after one is put in or taken out.
+/// Laws: at which stamps a place has writes and reads, and which values the writes have, after one is put in or taken
+/// out.
 pub fn stamps_after()
     ensures write_in { (order : List ℕ) (s t : ℕ) (value : Word) (cell : Cell)
         → is_in t (stamps_of (with_write order s value cell).writes)
@@ -48,7 +49,8 @@ pub fn stamps_after()
     rising_members();
 }
 
-/// Laws: there is a value at each stamp of a write and at no other one, and writes whose stamps rise along one order are
+/// Laws: there is a value at each stamp of a write and at no other one, and writes whose stamps rise along one order
+/// are
 /// equal where they have the same value at each stamp.
 pub fn writes_go_by_values()
     ensures there { (s : ℕ) (writes : List Write)

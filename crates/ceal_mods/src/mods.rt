@@ -1,12 +1,14 @@
 // The modifiables of all places.
 
-ghost use Rattle.std.specs.Prelude.{◌≡◌, ◌≢◌, ℕ, ◌<◌, ◌+◌, ◌-◌, ◌^◌, ◌++◌, ◌∷◌, [], List, None, Some, false, length, min, IsTrue, IfSome, IfNone, IfOk, IsOk, OnOk, OnErr, vec_len, vec_capacity};
+ghost use Rattle.std.specs.Prelude.{◌≡◌, ◌≢◌, ℕ, ◌<◌, ◌+◌, ◌-◌, ◌^◌, ◌++◌, ◌∷◌, [], List, None, Some, false, length};
+ghost use Rattle.std.specs.Prelude.{min, IsTrue, IfSome, IfNone, IfOk, IsOk, OnOk, OnErr, vec_len, vec_capacity};
 ghost use Rattle.std.specs.Map.{lookup};
 ghost use Rattle.ceal_base.specs.contracts.word.PlacePartialEq.TheImpl.{ghosts};
 ghost use Rattle.ceal_base.specs.declared.word.Place.{Place as PlaceOf};
 ghost use Rattle.ceal_order.specs.Stamps.{is_in};
 ghost use Rattle.ceal_mods.specs.Writes.{stamps_of};
-ghost use Rattle.ceal_mods.specs.Cell.{untouched, value_before, latest_value, with_base, with_write, without_write, with_read, without_read, Sees, IsAffected};
+ghost use Rattle.ceal_mods.specs.Cell.{untouched, value_before, latest_value, with_base, with_write, without_write};
+ghost use Rattle.ceal_mods.specs.Cell.{with_read, without_read, Sees, IsAffected};
 ghost use Rattle.ceal_mods.specs.Index.{where_from, slot_of, Indexes};
 ghost use Rattle.ceal_mods.specs.Mods.{cell_of, HasCell, IsUntouched, Changes, Follows};
 ghost use Rattle.ceal_mods.specs.Slots.{no_slot};
@@ -26,7 +28,8 @@ use std::alloc::Global;
 use std::marker::Model;
 
 /// The modifiables, each with its base, its writes and its reads; a place that was never touched has the base 0. Each
-/// call that is handed an order needs that they follow it, and leaves them so. A place is found by its numbers and a stamp
+/// call that is handed an order needs that they follow it, and leaves them so. A place is found by its numbers and a
+/// stamp
 /// by halves; a write or a read after all others of its place goes in without a search. Removals and look-ups take no
 /// memory.
 #[derive(Drop)]
@@ -86,7 +89,8 @@ impl Mods {
         Ok(())
     }
 
-    /// Sets what a place that was never touched holds before any write, and answers true. A place that was touched is left as it
+    /// Sets what a place that was never touched holds before any write, and answers true. A place that was touched is
+    /// left as it
     /// is, and the answer is false.
     pub fn begin(&mut self, place: Place, value: Word) -> Result<bool, NoMemory>
         ensures untouched { IfOk result
@@ -293,7 +297,8 @@ fn enter(
     }
 }
 
-// Gives a place that has no cell one with this base. Most cells begin so; it is made when it has its slot, so that it is
+// Gives a place that has no cell one with this base. Most cells begin so; it is made when it has its slot, so that it
+// is
 // moved once.
 fn enter_base(
     cells: &mut Vec<(Place, Cell)>,

@@ -6,7 +6,8 @@ use Rattle.ceal_base.specs.declared.word.Word.{Word}
 use Rattle.ceal_order.specs.Stamps.{Listing, IsOrder, is_in}
 use Rattle.ceal_trace.specs.declared.node.Node.{Node}
 use Rattle.ceal_trace.specs.declared.node.Node.TheVariants.{Root, Alloc, Write, Read, End}
-use Rattle.ceal_trace.specs.Nodes.{Entry, stamps_in, entry_at, held_by, steps_on, node_at, steps_at, steps_sum, is_read, ends, changed_at, valued, value_set, steps_set, with_value, with_steps, IsTrace, NoLooseEnd, SameBut}
+use Rattle.ceal_trace.specs.Nodes.{Entry, stamps_in, entry_at, held_by, steps_on, node_at, steps_at, steps_sum, is_read, ends, changed_at, valued, value_set, steps_set, with_value, with_steps}
+use Rattle.ceal_trace.specs.Nodes.{IsTrace, NoLooseEnd, SameBut}
 use Rattle.ceal_trace.specs.Rows.{Row, Table, row_of}
 use Rattle.ceal_trace.specs.Keeping.{steps_of, end_of, node_of, entry_of, listed, timeline, noted, HasNodes, KnowsEnds, Sound, Wider, ValueSet, StepsSet}
 use Rattle.ceal_trace.proofs.Entries.{has-read, stamps-changed, entry-changed, entry-unchanged, sum-changed, ends-changed}

@@ -136,7 +136,8 @@ module _ (order order' : Listing) (t t' : Table) (s steps : ℕ) (node : Node)
     other_ends = λ read other. ap (λ (l : List Entry). end_in read l) nodes_are ∙ ends_same read other;
     loose = λ closed. subst (λ (l : List Entry). LooseEndOf s l) (sym nodes_are) (less_loose es order.spare order'.spare s node sound.is_trace held one_es order_es closed);
     closed = λ closed unfinished. subst (λ (l : List Entry). NoLooseEnd l) (sym nodes_are) (less_closed es order.spare order'.spare s node sound.is_trace held one_es order_es closed unfinished);
-    still = λ read loose unfinished. subst (λ (l : List Entry). LooseEndOf read l) (sym nodes_are) (less_still es order.spare order'.spare s node sound.is_trace held one_es order_es read loose unfinished);
+    still = λ read loose unfinished. subst (λ (l : List Entry). LooseEndOf read l) (sym nodes_are)
+        (less_still es order.spare order'.spare s node sound.is_trace held one_es order_es read loose unfinished);
     mended = λ read loose does. subst (λ (l : List Entry). NoLooseEnd l) (sym nodes_are) (less_mended es order.spare order'.spare s node sound.is_trace held one_es order_es read loose does);
   }
 

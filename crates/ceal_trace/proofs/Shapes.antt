@@ -7,9 +7,11 @@ use Rattle.ceal_order.specs.declared.stamp.Stamp.{Stamp}
 use Rattle.ceal_order.specs.Stamps.{IsOrder, OneMore, is_in, head_of, place, without}
 use Rattle.ceal_trace.specs.declared.node.Node.{Node}
 use Rattle.ceal_trace.specs.declared.node.Node.TheVariants.{Root, End}
-use Rattle.ceal_trace.specs.Nodes.{Entry, stamps_in, has_node, position, entry_at, held_by, node_at, is_plain, is_read, ends, end_in, with_entry_after, without_entry, new_entry, IsTrace, NoLooseEnd, LooseEndOf, OneMoreNode, Inserted, SameBut}
+use Rattle.ceal_trace.specs.Nodes.{Entry, stamps_in, has_node, position, entry_at, held_by, node_at, is_plain, is_read, ends, end_in, with_entry_after, without_entry, new_entry, IsTrace, NoLooseEnd}
+use Rattle.ceal_trace.specs.Nodes.{LooseEndOf, OneMoreNode, Inserted, SameBut}
 use Rattle.ceal_trace.proofs.Stamped.{apart, head_in, head-after, head-without, length-after, length-without, up_to}
-use Rattle.ceal_trace.proofs.Entries.{has-held, has-read, ends_is, ends_own, ends_other, plain_ends, some_of, is_some_of, none_of, end-found, stamps-after, entry-new, entry-old, sum-after, ends-after, end-new, stamps-without, entry-left, sum-without, ends-left}
+use Rattle.ceal_trace.proofs.Entries.{has-held, has-read, ends_is, ends_own, ends_other, plain_ends, some_of, is_some_of, none_of, end-found, stamps-after, entry-new, entry-old, sum-after, ends-after}
+use Rattle.ceal_trace.proofs.Entries.{end-new, stamps-without, entry-left, sum-without, ends-left}
 
 -- ---- a node more
 

@@ -1,5 +1,6 @@
 -- Two slabs that fit together, while nodes are put into them and taken out.
-use Rattle.std.proofs.Common.{◌≡◌, ◌≢◌, ◌⊎◌, ℕ, zero, suc, inl, inr, ◌+◌, ◌<◌, ◌≤◌, Bool, false, List, [], ◌∷◌, length, get_or, Option, Some, None, IsSome, is_some, count_by, cond, refl, sym, ap, subst, ◌∙◌, arith, option_map}
+use Rattle.std.proofs.Common.{◌≡◌, ◌≢◌, ◌⊎◌, ℕ, zero, suc, inl, inr, ◌+◌, ◌<◌, ◌≤◌, Bool, false, List, [], ◌∷◌, length, get_or, Option, Some, None, IsSome, is_some, count_by, cond, refl, sym, ap}
+use Rattle.std.proofs.Common.{subst, ◌∙◌, arith, option_map}
 use Rattle.std.specs.Prelude.{sum_by}
 use Rattle.std.proofs.lemmas.Bool.{cases_eq}
 use Rattle.std.proofs.lemmas.List.Sums.{sum_by-cons, sum_by-set}
@@ -42,7 +43,8 @@ module _ {X : Type 0} (w : Option X → Bool) (none : w None ≡ false) where
   counted_same [] [] same = refl
   counted_same [] (y ∷ ys) same = let first = nothing y (same 0) in let later = counted_same [] ys (λ k. same (suc k)) in omega (arith, sum_by-cons f y ys, first, later)
   counted_same (x ∷ xs) [] same = let first = nothing x (sym (same 0)) in let later = counted_same xs [] (λ k. same (suc k)) in omega (arith, sum_by-cons f x xs, first, later)
-  counted_same (x ∷ xs) (y ∷ ys) same = let first : f y ≡ f x = ap f (same 0) in let later = counted_same xs ys (λ k. same (suc k)) in omega (arith, sum_by-cons f x xs, sum_by-cons f y ys, first, later)
+  counted_same (x ∷ xs) (y ∷ ys) same = let first : f y
+      ≡ f x = ap f (same 0) in let later = counted_same xs ys (λ k. same (suc k)) in omega (arith, sum_by-cons f x xs, sum_by-cons f y ys, first, later)
 
   -- a slot that was empty has this now, and no other one changed
   pub counted_more : (k : ℕ) (xs ys : List (Option X)) (v : Option X) → get_or ys k None ≡ v → get_or xs k None ≡ None
@@ -164,7 +166,8 @@ module _ (h h' : Slab Held) (a a' : Slab Apart) (key : ℕ) (n : Node) (x : Held
   back k o differs is = ap place_of (sym (ups.others k differs)) ∙ is
 
   gone_place : (k at : ℕ) → k ≡ key → place_of (get h' k) ≡ Some at → ⊥
-  gone_place k at same is = let none : place_of (get h' key) ≡ None = ap place_of ups.changed in let here : place_of (get h' key) ≡ Some at = subst (λ (m : ℕ). place_of (get h' m) ≡ Some at) same is in cc
+  gone_place k at same is = let none : place_of (get h' key) ≡ None = ap place_of ups.changed in let here : place_of (get h' key)
+      ≡ Some at = subst (λ (m : ℕ). place_of (get h' m) ≡ Some at) same is in cc
 
   pub took_fits : IsFit h' a'
   took_fits = record {

@@ -1,5 +1,6 @@
 -- Nodes in two parts, each in a slab.
-use Rattle.std.specs.Prelude.{◌≡◌, ◌≢◌, ◌<◌, ◌≤◌, ◌+◌, ℕ, Bool, Option, None, Some, IsSome, is_some, count_by, option_map, if◌then◌else◌}
+use Rattle.std.specs.Prelude.{◌≡◌, ◌≢◌, ◌<◌, ◌≤◌, ◌+◌, ℕ, Bool, Option, None, Some, IsSome, is_some, count_by}
+use Rattle.std.specs.Prelude.{option_map, if◌then◌else◌}
 use Rattle.slab.specs.Slab.{Slab, get, slab_len, with_value}
 use Rattle.ceal_base.specs.declared.word.Word.{Word}
 use Rattle.ceal_base.specs.declared.word.BlockId.{BlockId}

@@ -3,7 +3,9 @@
 ghost use Rattle.std.specs.Prelude.{◌≡◌, ◌↔◌, ◌+◌, ◌++◌, ◌∷◌, [], ℕ, List, Option, length, true, false, Some};
 ghost use Rattle.ceal_base.specs.Trace.{Trace, flat, steps_of};
 ghost use Rattle.ceal_order.specs.Stamps.{Distinct};
-ghost use Rattle.ceal_trace.specs.Nodes.{Timeline, Entry, IsTrace, is_read, is_plain, ends, end_in, node_at, stamps_in, has_node, position, entry_at, steps_sum, with_entry_after, without_entry, changed_at};
+ghost use Rattle.ceal_trace.specs.Nodes.{Timeline, Entry, IsTrace, is_read, is_plain, ends, end_in, node_at, stamps_in};
+ghost use Rattle.ceal_trace.specs.Nodes.{has_node, position, entry_at, steps_sum, with_entry_after, without_entry};
+ghost use Rattle.ceal_trace.specs.Nodes.{changed_at};
 ghost use Rattle.ceal_trace.specs.Items.{forest_of, unclosed, Nests, Parted};
 
 /// A law: nodes that nest are the flat form of a forest, whose steps are theirs.

@@ -14,7 +14,8 @@ use ceal_order::packed::{Halves, Packed};
 use ceal_order::stamp::Stamp;
 use slab::Slab;
 
-/// A node that is put in, as its parts. Each kind has a type of its own, so that its parts go to where they stand, and no
+/// A node that is put in, as its parts. Each kind has a type of its own, so that its parts go to where they stand, and
+/// no
 /// whole node is made on the way.
 pub trait NewNode {
     /// the node that these are the parts of

@@ -2,7 +2,8 @@
 
 ghost use Rattle.std.specs.Prelude.{◌≡◌, ◌<◌, ◌≤◌, ℕ, Some, None, IsSome, OnOk};
 ghost use Rattle.ceal_trace.specs.Nodes.{seen, ended_by, valued};
-ghost use Rattle.ceal_trace.specs.Shelves.{IsFit, at, or_root, count_of, SameShelf, AlsoAt, NoMoreAt, ValuedAt, HeldValued};
+ghost use Rattle.ceal_trace.specs.Shelves.{IsFit, at, or_root, count_of, SameShelf, AlsoAt, NoMoreAt, ValuedAt};
+ghost use Rattle.ceal_trace.specs.Shelves.{HeldValued};
 ghost use Rattle.slab.specs.Slab.{ContainsKey};
 
 use crate::held::{Apart, Held, give_value, join, look, release};

@@ -10,7 +10,8 @@ use ceal_order::room::make_room;
 /// Stands for no stamp: no order has a stamp of this number.
 pub const NO_STAMP: u32 = u32::MAX;
 
-/// The key of a stamp's node, its steps, and the stamp of its end where it is a finished read. A number that is no stamp has
+/// The key of a stamp's node, its steps, and the stamp of its end where it is a finished read. A number that is no
+/// stamp has
 /// no key.
 #[derive(Clone, Copy)]
 pub struct Slot {
@@ -66,7 +67,8 @@ pub fn set_end(slots: &mut Vec<Slot>, at: u32, end: u32)
     slot.end = end;
 }
 
-/// Adds slots until there are that many. It is called seldom, and is a function of its own, so that the common way is short.
+/// Adds slots until there are that many. It is called seldom, and is a function of its own, so that the common way is
+/// short.
 #[inline(never)]
 pub fn lengthen(slots: &mut Vec<Slot>, count: usize) -> Result<(), NoMemory>
     ensures longer { Longer slots.old.items slots.new.items }

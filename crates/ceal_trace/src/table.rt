@@ -4,7 +4,8 @@ ghost use Rattle.std.specs.Prelude.{◌≡◌, ◌<◌, ◌≤◌, ◌+◌, ℕ,
 ghost use Rattle.ceal_trace.specs.declared.node.Node.{Node as NodeOf};
 ghost use Rattle.ceal_trace.specs.Nodes.{ends, ended_by, seen};
 ghost use Rattle.ceal_trace.specs.Slots.{Reopened};
-ghost use Rattle.ceal_trace.specs.Keeping.{node_of, steps_of, end_of, noted, held_at, PutAt, TakenFrom, Wider, ValueSet, StepsSet, EndSet};
+ghost use Rattle.ceal_trace.specs.Keeping.{node_of, steps_of, end_of, noted, held_at, PutAt, TakenFrom, Wider};
+ghost use Rattle.ceal_trace.specs.Keeping.{ValueSet, StepsSet, EndSet};
 
 use crate::new_node::NewNode;
 use crate::node::{Gone, Node, Seen};
@@ -16,7 +17,8 @@ use ceal_order::stamp::Stamp;
 use std::alloc::Global;
 use std::marker::Model;
 
-/// A slot for each stamp and each spare place of the order, by its number, and a few more; and the nodes. Contracts see a
+/// A slot for each stamp and each spare place of the order, by its number, and a few more; and the nodes. Contracts see
+/// a
 /// row for each slot, with the node in it.
 #[derive(Drop)]
 pub struct Table {

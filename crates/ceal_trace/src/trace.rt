@@ -1,6 +1,7 @@
 // The nodes of a trace in the order of time.
 
-ghost use Rattle.std.specs.Prelude.{◌≡◌, ◌≢◌, ◌+◌, ◌<◌, ◌≤◌, ℕ, [], ◌∷◌, false, Some, None, IfSome, IfNone, IfOk, OnOk, OnErr, IsTrue, option_map};
+ghost use Rattle.std.specs.Prelude.{◌≡◌, ◌≢◌, ◌+◌, ◌<◌, ◌≤◌, ℕ, [], ◌∷◌, false, Some, None, IfSome, IfNone, IfOk, OnOk};
+ghost use Rattle.std.specs.Prelude.{OnErr, IsTrue, option_map};
 ghost use Rattle.ceal_base.specs.Trace.{steps_in};
 ghost use Rattle.ceal_order.specs.Stamps.{head_of};
 ghost use Rattle.ceal_base.specs.declared.forest.Key.{Key as KeyOf};
@@ -9,7 +10,10 @@ ghost use Rattle.ceal_base.specs.declared.word.Place.{Place as PlaceOf};
 ghost use Rattle.ceal_base.specs.declared.word.Word.{Word as WordOf};
 ghost use Rattle.ceal_trace.specs.declared.node.Node.{Node as NodeOf};
 ghost use Rattle.ceal_trace.specs.declared.node.Node.TheVariants.{Root, Alloc, Write, Read, End};
-ghost use Rattle.ceal_trace.specs.Nodes.{order_of, stamps_in, has_node, position, new_entry, node_at, steps_at, steps_sum, is_read, ends, end_in, with_entry_after, without_entry, valued, with_value, with_steps, IsTrace, NoLooseEnd, LooseEndOf, OneMoreNode, Inserted, SameBut, is_plain, seen, seen_read};
+ghost use Rattle.ceal_trace.specs.Nodes.{order_of, stamps_in, has_node, position, new_entry, node_at, steps_at};
+ghost use Rattle.ceal_trace.specs.Nodes.{steps_sum, is_read, ends, end_in, with_entry_after, without_entry, valued};
+ghost use Rattle.ceal_trace.specs.Nodes.{with_value, with_steps, IsTrace, NoLooseEnd, LooseEndOf, OneMoreNode};
+ghost use Rattle.ceal_trace.specs.Nodes.{Inserted, SameBut, is_plain, seen, seen_read};
 ghost use Rattle.ceal_trace.specs.Items.{forest_of};
 
 use crate::new_node::{NewAlloc, NewEnd, NewNode, NewRead, NewRoot, NewWrite};
@@ -106,7 +110,8 @@ impl Trace {
         self.widen(nodes)
     }
 
-    // Makes room where there is none. It is called seldom, and is a function of its own, so that the common way is short.
+    // Makes room where there is none. It is called seldom, and is a function of its own, so that the common way is
+    // short.
     #[inline(never)]
     fn widen(&mut self, nodes: u32) -> Result<(), NoMemory>
         ensures nodes { self.new.nodes ≡ self.old.nodes }

@@ -6,7 +6,8 @@ use Rattle.ceal_words.proofs.PieceLemmas.{Agree}
 
 pub link_same : (size made i j : ℕ) (before after : List ℕ) → 0 < size → Agree size made i before after → j ≢ i → j < made → link size after j ≡ link size before j
 link_same size made i j before after some agree other below =
-    let first = λ (words : List ℕ). get_or-take 1 (drop (j * size) words) 0 0 (omega arith) ∙ get_or-drop (j * size) words 0 0 ∙ ap (λ (k : ℕ). get_or words k 0) {x = j * size + 0} {y = j * size} (omega arith) in
+    let first = λ (words : List ℕ). get_or-take 1 (drop (j * size) words) 0 0 (omega arith) ∙ get_or-drop (j * size) words 0 0 ∙ ap (λ (k : ℕ). get_or words k 0) {x = j * size + 0} {y = j * size}
+    (omega arith) in
     sym (first after) ∙ ap (λ (words : List ℕ). get_or words 0 0) (agree j 1 other below some) ∙ first before
 
 -- marks that are the same but for piece i

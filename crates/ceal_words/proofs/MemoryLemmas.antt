@@ -47,7 +47,8 @@ module _ {M : Type 1} {𝓤 : Ura M} (𝓛 : Logic 𝓤) (b : ℕ) where
   -- a cell is room, whether or not it is written
   emptied : (c : Option ℕ) (o : ℕ) → ent 𝓤 (sem 𝓛 (cell b o c)) (H.room (ty_int w64) b o)
   emptied None o = id⊢ 𝓤 _
-  emptied (Some x) o = qed 𝓛 (‵ (part_at u64 full_share x b o) ∷ []) ∵ use1 𝓛 (‵ (fat full_share (ty_int w64) b o (vint w64 x))) (uint_out 𝓛 full_share w64 x b o) $ by ! (𝓛.laws.at_room (ty_int w64) b o (vint w64 x))
+  emptied (Some x) o = qed 𝓛 (‵ (part_at u64 full_share x b o) ∷ []) ∵ use1 𝓛 (‵ (fat full_share (ty_int w64) b o (vint w64 x))) (uint_out 𝓛 full_share w64 x b o) $ by !
+      (𝓛.laws.at_room (ty_int w64) b o (vint w64 x))
 
   pub room_out : (cs : List (Option ℕ)) (i o : ℕ) → i < length cs → ent 𝓤 (sem 𝓛 (cells b o cs)) (sep 𝓤 (H.room (ty_int w64) b (i * 8 + o)) (sem 𝓛 (besides b o cs i)))
   room_out cs i o l =
@@ -55,7 +56,8 @@ module _ {M : Type 1} {𝓤 : Ura M} (𝓛 : Logic 𝓤) (b : ℕ) where
       use1 𝓛 (‵ (froom (ty_int w64) b (place 8 o i))) (emptied (get_or cs i None) (place 8 o i)) $
       rewrite ! 0 (λ (k : ℕ). ‵ (froom (ty_int w64) b k)) (place_is 8 o i) refl $ done !
 
-  pub written : (cs : List (Option ℕ)) (i x o : ℕ) → i < length cs → ent 𝓤 (sep 𝓤 (H.at full_share (ty_int w64) b (i * 8 + o) (vint w64 x)) (sem 𝓛 (besides b o cs i))) (sem 𝓛 (cells b o (set cs i (Some x))))
+  pub written : (cs : List (Option ℕ)) (i x o : ℕ) → i < length cs
+      → ent 𝓤 (sep 𝓤 (H.at full_share (ty_int w64) b (i * 8 + o) (vint w64 x)) (sem 𝓛 (besides b o cs i))) (sem 𝓛 (cells b o (set cs i (Some x))))
   written cs i x o l =
       qed 𝓛 (‵ (fat full_share (ty_int w64) b (i * 8 + o) (vint w64 x)) ∷ ‵ (besides b o cs i) ∷ []) ∵
       use1 𝓛 (‵ (cell b (i * 8 + o) (Some x))) (uint_in 𝓛 full_share w64 x b (i * 8 + o)) $

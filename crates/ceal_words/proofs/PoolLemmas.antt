@@ -193,7 +193,8 @@ module _ (size made head spare : ℕ) (words marks : List ℕ) (laid : IsLaidOut
 
   pub view_longer : (more : List ℕ) → view size (words ++ more) marks spare ≡ view size words marks spare
   view_longer more = ap (λ (ps : List (Option (List ℕ))). record { size = size; pieces = ps; spare = spare })
-      (pieces_same size marks words (words ++ more) fits (λ j n below small. agree_append size (length marks) (length marks) words more has_room j n (λ e. absurd (omega (arith, e, below))) below small))
+      (pieces_same size marks words (words ++ more) fits
+      (λ j n below small. agree_append size (length marks) (length marks) words more has_room j n (λ e. absurd (omega (arith, e, below))) below small))
 
   -- one more piece, which becomes the head
   module _ (enough : made * size + size ≤ length words) where

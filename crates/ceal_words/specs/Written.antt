@@ -1,5 +1,6 @@
 -- Words that are written, and room after them.
-use Rattle.std.specs.Prelude.{◌≡◌, ℕ, ◌*◌, ◌-◌, ◌^◌, ◌<◌, ◌≤◌, List, [], ◌∷◌, ◌++◌, length, map, replicate, Option, Some, None}
+use Rattle.std.specs.Prelude.{◌≡◌, ℕ, ◌*◌, ◌-◌, ◌^◌, ◌<◌, ◌≤◌, List, [], ◌∷◌, ◌++◌, length, map, replicate, Option}
+use Rattle.std.specs.Prelude.{Some, None}
 
 -- the words that cells hold, up to the first cell that is not written
 abbrev pub held : List (Option ℕ) → List ℕ

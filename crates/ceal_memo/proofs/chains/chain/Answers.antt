@@ -22,7 +22,8 @@ returns-clause-chained c =
     (c.bucket-bucket.ensures.bucket ∙ ap (λ (g : Group). bucket (length heads) g.hash) (group_is groups number _ c.requires.number))
     c.lead.ensures.heads c.lead.ensures.unmoved c.requires.chained at
     (λ first. c.lead.ensures.head first ∙ more)
-    (λ first. ap (λ (gs : List Group). next_at gs number) (c.lead.ensures.same first) ∙ ap (λ (g : Group). g.next) (set_here groups number _ blank c.requires.number) ∙ c.link_after-next.ensures.head first)
+    (λ first. ap (λ (gs : List Group). next_at gs number) (c.lead.ensures.same first) ∙ ap (λ (g : Group). g.next)
+    (set_here groups number _ blank c.requires.number) ∙ c.link_after-next.ensures.head first)
     (λ n is. c.lead.ensures.group n is ∙ more)
     (λ n is.
     let after = at.after n is in

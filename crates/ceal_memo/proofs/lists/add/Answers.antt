@@ -26,7 +26,8 @@ returns-clause-ok c =
     let own : Group = record { hash = c.args.hash; next = 0; list = c.one-list.result } in
     let long : length groups ≡ length c.args.groups.now.items = same_length _ _ c.make_buckets.ensures.lists ∙ ap (λ (gs : List Group). length gs) c.deref_mut.ensures.value in
     let back = with_items_is c.args.groups.now groups (long ∙ sym c.args.groups.now.ok.0) in
-    let count : length c.chain_first.new.groups ≡ length c.push_reserved.new.self.items = same_length _ _ c.chain_first.ensures.lists ∙ ap (λ (gs : List Group). length gs) c.deref_mut-3.ensures.value in
+    let count : length c.chain_first.new.groups
+    ≡ length c.push_reserved.new.self.items = same_length _ _ c.chain_first.ensures.lists ∙ ap (λ (gs : List Group). length gs) c.deref_mut-3.ensures.value in
     let back_last = with_items_is c.push_reserved.new.self c.chain_first.new.groups (count ∙ sym c.push_reserved.new.self.ok.0) in
     ap (λ (gs : List Group). lists_of gs) back_last ∙ c.chain_first.ensures.lists
     ∙ ap (λ (gs : List Group). lists_of gs) (c.deref_mut-3.ensures.value ∙ c.push_reserved.ensures.items ∙ ap (λ (gs : List Group). gs ++ own ∷ []) (c.make_room.ensures.same ∙ back))
@@ -42,7 +43,8 @@ returns-clause-linked c =
     let long : length groups ≡ length c.args.groups.now.items = same_length _ _ c.make_buckets.ensures.lists ∙ ap (λ (gs : List Group). length gs) c.deref_mut.ensures.value in
     let back = with_items_is c.args.groups.now groups (long ∙ sym c.args.groups.now.ok.0) in
     let last = c.push_reserved.ensures.items ∙ ap (λ (gs : List Group). gs ++ own ∷ []) (c.make_room.ensures.same ∙ back) in
-    let count : length c.chain_first.new.groups ≡ length c.push_reserved.new.self.items = same_length _ _ c.chain_first.ensures.lists ∙ ap (λ (gs : List Group). length gs) c.deref_mut-3.ensures.value in
+    let count : length c.chain_first.new.groups
+    ≡ length c.push_reserved.new.self.items = same_length _ _ c.chain_first.ensures.lists ∙ ap (λ (gs : List Group). length gs) c.deref_mut-3.ensures.value in
     let back_last = with_items_is c.push_reserved.new.self c.chain_first.new.groups (count ∙ sym c.push_reserved.new.self.ok.0) in
     let size : length c.chain_first.new.heads ≡ length heads.items = c.chain_first.ensures.size ∙ ap (λ (hs : List ℕ). length hs) c.deref_mut-2.ensures.value in
     let back_heads = with_items_is heads c.chain_first.new.heads (size ∙ sym heads.ok.0) in

@@ -14,4 +14,8 @@ returns-clause-rising c =
 
 pub returns-clause-ok : goal.returns-clause-ok
 returns-clause-ok c =
-    rw (with_set c.args.cells.now c.args.slot c.index-cells-slot.result _ c.requires.there, cell_is c.args.cells.now c.args.slot c.index-cells-slot.result c.requires.there, c.in_ok-add.ensures.ok) refl
+    rw (
+      with_set c.args.cells.now c.args.slot c.index-cells-slot.result _ c.requires.there,
+      cell_is c.args.cells.now c.args.slot c.index-cells-slot.result c.requires.there,
+      c.in_ok-add.ensures.ok,
+    ) refl

@@ -14,4 +14,8 @@ returns-clause-rising c =
 
 pub returns-clause-cell : goal.returns-clause-cell
 returns-clause-cell c =
-    rw (with_set c.args.cells.now c.args.slot c.index-cells-slot.result _ c.requires.there, cell_is c.args.cells.now c.args.slot c.index-cells-slot.result c.requires.there, c.remove.ensures.writes) refl
+    rw (
+      with_set c.args.cells.now c.args.slot c.index-cells-slot.result _ c.requires.there,
+      cell_is c.args.cells.now c.args.slot c.index-cells-slot.result c.requires.there,
+      c.remove.ensures.writes,
+    ) refl

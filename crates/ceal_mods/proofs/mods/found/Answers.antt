@@ -10,4 +10,5 @@ cell_at-requires c = (held _ c.args.cells.now c.args.place c.find-slot.result c.
 
 pub returns-clause-some : goal.returns-clause-some
 returns-clause-some c =
-    rw c.cell_at.ensures (lookup_stands c.args.place c.args.cells.now c.find-slot.result (held _ c.args.cells.now c.args.place c.find-slot.result c.requires c.find-slot.ensures c.if-slot.false).stands)
+    rw c.cell_at.ensures (lookup_stands c.args.place c.args.cells.now c.find-slot.result
+    (held _ c.args.cells.now c.args.place c.find-slot.result c.requires c.find-slot.ensures c.if-slot.false).stands)

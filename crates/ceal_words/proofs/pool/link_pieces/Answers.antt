@@ -12,6 +12,8 @@ loop-i-preserved c =
     let enough = room_for a.pieces.size a.pieces.made l.i a.more (length l.chunk) c.loop-i-test.true room in
     rw (c.add.ensures, c.set.ensures) (record {
       long = length-set l.chunk ((a.pieces.made + l.i) * a.pieces.size) l.head ∙ l.invariant.long;
-      laid = λ spare h. laid_one a.pieces.size a.pieces.made l.head spare l.i l.chunk l.marks.lens (class_of a.pieces.size a.chunk.now a.marks.now.lens spare) (l.invariant.laid spare h) enough (l.invariant.class spare h);
-      class = λ spare h. class_one a.pieces.size a.pieces.made l.head spare l.i l.chunk l.marks.lens (class_of a.pieces.size a.chunk.now a.marks.now.lens spare) (l.invariant.laid spare h) enough (l.invariant.class spare h);
+      laid = λ spare h. laid_one a.pieces.size a.pieces.made l.head spare l.i l.chunk l.marks.lens (class_of a.pieces.size a.chunk.now a.marks.now.lens spare) (l.invariant.laid spare h) enough
+          (l.invariant.class spare h);
+      class = λ spare h. class_one a.pieces.size a.pieces.made l.head spare l.i l.chunk l.marks.lens (class_of a.pieces.size a.chunk.now a.marks.now.lens spare) (l.invariant.laid spare h) enough
+          (l.invariant.class spare h);
     })

@@ -87,4 +87,5 @@ returns-in_ok-number-in-None-clause-ok c =
     let order = c.args.order.now.stamps in
     let none = none_found c.self.inside.groups.items c.args.hash
     (subst (λ (gs : List Group). (n : ℕ) → stamped gs n ≡ true → (group_at gs n).hash ≢ c.args.hash) c.deref-2.ensures.value c.in-None.ensures.none) in
-    rw (← c.self.view_is) (subst (λ (l : List ℕ). IsEntered lists (lists_of c.enter.new.groups.items) c.args.hash c.in_ok-number-in-None.number (with_stamp order c.args.stamp.0 l)) (sym none) c.in_ok-number-in-None.ensures.ok)
+    rw (← c.self.view_is) (subst (λ (l : List ℕ). IsEntered lists (lists_of c.enter.new.groups.items) c.args.hash c.in_ok-number-in-None.number (with_stamp order c.args.stamp.0 l))
+    (sym none) c.in_ok-number-in-None.ensures.ok)

@@ -41,7 +41,8 @@ let_go-requires-clause-chained c =
     let value : length c.deref_mut.result.now ≡ length groups = ap (λ (gs : List Group). length gs) c.deref_mut.ensures.value in
     let long : length new ≡ length groups = omega arith in
     let back = with_items_is c.self.inside.groups new (long ∙ sym c.self.inside.groups.ok.0) in
-    subst (λ (hs : List ℕ). Chained (length c.deref_mut-then-take_at-2.result.now) (with_one number (stamped c.deref_mut-then-take_at-2.result.now)) hs c.deref_mut-then-take_at-2.result.now) (sym c.deref_mut-then-take_at.ensures.value)
+    subst (λ (hs : List ℕ). Chained (length c.deref_mut-then-take_at-2.result.now) (with_one number (stamped c.deref_mut-then-take_at-2.result.now)) hs c.deref_mut-then-take_at-2.result.now)
+    (sym c.deref_mut-then-take_at.ensures.value)
     (subst (λ (gs : List Group). Chained (length gs) (with_one number (stamped gs)) heads gs) (sym (c.deref_mut-then-take_at-2.ensures.value ∙ back ∙ is))
     (emptied groups number list within heads stamps gone c.self.invariant))
 
@@ -78,7 +79,9 @@ returns-then-take_at-clause-hashes c =
     let back = with_items_is c.self.inside.groups new (long ∙ sym c.self.inside.groups.ok.0) in
     let count : length c.let_go.new.groups ≡ length new = same_length _ _ c.let_go.ensures.lists ∙ ap (λ (gs : List Group). length gs) (c.deref_mut-then-take_at-2.ensures.value ∙ back) in
     let last = with_items_is (with_items c.self.inside.groups new) c.let_go.new.groups (count ∙ long ∙ sym c.self.inside.groups.ok.0) in
-    rw (← c.self.view_is) (ap hashes_in (ap (λ (gs : List Group). lists_of gs) last ∙ c.let_go.ensures.lists ∙ ap (λ (gs : List Group). lists_of gs) (c.deref_mut-then-take_at-2.ensures.value ∙ back ∙ is)) ∙ hashes_kept groups number list)
+    rw (← c.self.view_is) (ap hashes_in
+    (ap (λ (gs : List Group). lists_of gs) last ∙ c.let_go.ensures.lists ∙ ap (λ (gs : List Group). lists_of gs)
+    (c.deref_mut-then-take_at-2.ensures.value ∙ back ∙ is)) ∙ hashes_kept groups number list)
 
 pub returns-then-take_at-clause-here : goal.returns-then-take_at-clause-here
 returns-then-take_at-clause-here c =
@@ -94,7 +97,8 @@ returns-then-take_at-clause-here c =
     let back = with_items_is c.self.inside.groups new (long ∙ sym c.self.inside.groups.ok.0) in
     let count : length c.let_go.new.groups ≡ length new = same_length _ _ c.let_go.ensures.lists ∙ ap (λ (gs : List Group). length gs) (c.deref_mut-then-take_at-2.ensures.value ∙ back) in
     let last = with_items_is (with_items c.self.inside.groups new) c.let_go.new.groups (count ∙ long ∙ sym c.self.inside.groups.ok.0) in
-    rw (← c.self.view_is) (ap (λ (ls : List (ℕ × List ℕ)). list_at ls number) (ap (λ (gs : List Group). lists_of gs) last ∙ c.let_go.ensures.lists ∙ ap (λ (gs : List Group). lists_of gs) (c.deref_mut-then-take_at-2.ensures.value ∙ back ∙ is))
+    rw (← c.self.view_is) (ap (λ (ls : List (ℕ × List ℕ)). list_at ls number)
+    (ap (λ (gs : List Group). lists_of gs) last ∙ c.let_go.ensures.lists ∙ ap (λ (gs : List Group). lists_of gs) (c.deref_mut-then-take_at-2.ensures.value ∙ back ∙ is))
     ∙ list_here groups number list (stamped_within groups number stamps) ∙ ap (without c.args.stamp.0) (sym (list_of groups number)))
 
 pub returns-then-take_at-clause-others : goal.returns-then-take_at-clause-others
@@ -111,7 +115,8 @@ returns-then-take_at-clause-others c = λ i other.
     let back = with_items_is c.self.inside.groups new (long ∙ sym c.self.inside.groups.ok.0) in
     let count : length c.let_go.new.groups ≡ length new = same_length _ _ c.let_go.ensures.lists ∙ ap (λ (gs : List Group). length gs) (c.deref_mut-then-take_at-2.ensures.value ∙ back) in
     let last = with_items_is (with_items c.self.inside.groups new) c.let_go.new.groups (count ∙ long ∙ sym c.self.inside.groups.ok.0) in
-    rw (← c.self.view_is) (ap (λ (ls : List (ℕ × List ℕ)). list_at ls i) (ap (λ (gs : List Group). lists_of gs) last ∙ c.let_go.ensures.lists ∙ ap (λ (gs : List Group). lists_of gs) (c.deref_mut-then-take_at-2.ensures.value ∙ back ∙ is))
+    rw (← c.self.view_is) (ap (λ (ls : List (ℕ × List ℕ)). list_at ls i)
+    (ap (λ (gs : List Group). lists_of gs) last ∙ c.let_go.ensures.lists ∙ ap (λ (gs : List Group). lists_of gs) (c.deref_mut-then-take_at-2.ensures.value ∙ back ∙ is))
     ∙ list_other groups number list (stamped_within groups number stamps) i other)
 
 pub returns-else-take_at-clause-hashes : goal.returns-else-take_at-clause-hashes
@@ -139,7 +144,8 @@ returns-else-take_at-clause-here c =
     let value : length c.deref_mut.result.now ≡ length groups = ap (λ (gs : List Group). length gs) c.deref_mut.ensures.value in
     let long : length new ≡ length groups = omega arith in
     let back = with_items_is c.self.inside.groups new (long ∙ sym c.self.inside.groups.ok.0) in
-    rw (← c.self.view_is) (ap (λ (gs : List Group). list_at (lists_of gs) number) (back ∙ is) ∙ list_here groups number list (stamped_within groups number stamps) ∙ ap (without c.args.stamp.0) (sym (list_of groups number)))
+    rw (← c.self.view_is) (ap (λ (gs : List Group). list_at (lists_of gs) number) (back ∙ is) ∙ list_here groups number list (stamped_within groups number stamps) ∙ ap (without c.args.stamp.0)
+    (sym (list_of groups number)))
 
 pub returns-else-take_at-clause-others : goal.returns-else-take_at-clause-others
 returns-else-take_at-clause-others c = λ i other.

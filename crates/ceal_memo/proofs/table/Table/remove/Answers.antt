@@ -13,7 +13,8 @@ invariant_of-self c =
     c.self.inside.homes c.self.invariant c.take-home.new.self c.take-home.ensures.gone
 
 pub returns-clause-stamps : goal.returns-clause-stamps
-returns-clause-stamps c = rw (← c.self.view_is) (stamps_less c.args.stamp.0 (record { lists = c.self.inside.lists }) (record { lists = c.forget.new.lists }) c.forget.ensures c.self.inside.homes c.self.invariant)
+returns-clause-stamps c = rw (← c.self.view_is)
+    (stamps_less c.args.stamp.0 (record { lists = c.self.inside.lists }) (record { lists = c.forget.new.lists }) c.forget.ensures c.self.inside.homes c.self.invariant)
 
 pub returns-clause-gone : goal.returns-clause-gone
 returns-clause-gone c =

@@ -27,7 +27,8 @@ returns-clause-touched c =
 
 pub returns-clause-others_touched : goal.returns-clause-others_touched
 returns-clause-others_touched c = λ p h.
-    added_too c.self.inside.index c.self.inside.cells.items c.args.place c.find-slot.result c.self.invariant c.find-slot.ensures c.if-slot.false _ _ c.in_ok-enter_base.ensures.ok p (rw (← c.self.view_is) at h)
+    added_too c.self.inside.index c.self.inside.cells.items c.args.place c.find-slot.result c.self.invariant c.find-slot.ensures c.if-slot.false _ _ c.in_ok-enter_base.ensures.ok p
+    (rw (← c.self.view_is) at h)
 
 pub returns-clause-untouched : goal.returns-clause-untouched
 returns-clause-untouched c = λ _.
@@ -35,9 +36,12 @@ returns-clause-untouched c = λ _.
 
 pub returns-clause-begun : goal.returns-clause-begun
 returns-clause-begun c = λ _.
-    rw (← c.self.view_is, cell_none c.self.inside.index c.self.inside.cells.items c.args.place c.find-slot.result c.self.invariant c.find-slot.ensures c.if-slot.false) (added c.self.inside.index c.self.inside.cells.items c.args.place c.find-slot.result c.self.invariant c.find-slot.ensures c.if-slot.false c.self.inside.looked c.self.inside.differed _ _ c.in_ok-enter_base.ensures.ok)
+    rw (← c.self.view_is, cell_none c.self.inside.index c.self.inside.cells.items c.args.place c.find-slot.result c.self.invariant c.find-slot.ensures c.if-slot.false)
+    (added c.self.inside.index c.self.inside.cells.items c.args.place c.find-slot.result c.self.invariant c.find-slot.ensures c.if-slot.false c.self.inside.looked
+    c.self.inside.differed _ _ c.in_ok-enter_base.ensures.ok)
 
 pub returns-clause-follows : goal.returns-clause-follows
 returns-clause-follows c = λ order follows.
     let rise = rw (← c.self.view_is) at follows in
-    follow_added c.self.inside.index c.self.inside.cells.items c.args.place c.find-slot.result c.self.invariant c.find-slot.ensures c.if-slot.false order _ _ rise c.in_ok-enter_base.ensures.ok (record { writes = tt; reads = tt })
+    follow_added c.self.inside.index c.self.inside.cells.items c.args.place c.find-slot.result c.self.invariant c.find-slot.ensures c.if-slot.false order _ _ rise c.in_ok-enter_base.ensures.ok
+    (record { writes = tt; reads = tt })

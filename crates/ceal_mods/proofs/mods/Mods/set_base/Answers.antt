@@ -19,7 +19,9 @@ returns-then-slot-clause-ok c =
     let cell = rw c.deref_mut.ensures.value at c.set_base_at.ensures in
     let long : length c.set_base_at.new.cells ≡ length c.self.inside.cells.items = rw cell (length-with _ _ _) in
     let back = with_items_is c.self.inside.cells c.set_base_at.new.cells (long ∙ sym c.self.inside.cells.ok.0) in
-    rw (← c.self.view_is, cell_here c.self.inside.index c.self.inside.cells.items c.args.place c.find-slot.result c.self.invariant c.find-slot.ensures c.if-slot.true) (changed c.self.inside.index c.self.inside.cells.items c.args.place c.find-slot.result c.self.invariant c.find-slot.ensures c.if-slot.true c.self.inside.looked c.self.inside.differed _ _ (back ∙ cell))
+    rw (← c.self.view_is, cell_here c.self.inside.index c.self.inside.cells.items c.args.place c.find-slot.result c.self.invariant c.find-slot.ensures c.if-slot.true)
+    (changed c.self.inside.index c.self.inside.cells.items c.args.place c.find-slot.result c.self.invariant c.find-slot.ensures c.if-slot.true c.self.inside.looked c.self.inside.differed _ _
+    (back ∙ cell))
 
 pub returns-then-slot-clause-follows : goal.returns-then-slot-clause-follows
 returns-then-slot-clause-follows c = λ order follows.
@@ -28,7 +30,8 @@ returns-then-slot-clause-follows c = λ order follows.
     let back = with_items_is c.self.inside.cells c.set_base_at.new.cells (long ∙ sym c.self.inside.cells.ok.0) in
     let rise = rw (← c.self.view_is) at follows in
     let rises = rises_here c.self.inside.index c.self.inside.cells.items c.args.place c.find-slot.result c.self.invariant c.find-slot.ensures c.if-slot.true order rise in
-    follow c.self.inside.index c.self.inside.cells.items c.args.place c.find-slot.result c.self.invariant c.find-slot.ensures c.if-slot.true order _ _ rise (back ∙ cell) (record { writes = rises.writes; reads = rises.reads })
+    follow c.self.inside.index c.self.inside.cells.items c.args.place c.find-slot.result c.self.invariant c.find-slot.ensures c.if-slot.true order _ _ rise (back ∙ cell)
+    (record { writes = rises.writes; reads = rises.reads })
 
 pub returns-in_err-enter_base-clause-follows : goal.returns-in_err-enter_base-clause-follows
 returns-in_err-enter_base-clause-follows c = λ order follows.
@@ -37,12 +40,15 @@ returns-in_err-enter_base-clause-follows c = λ order follows.
 
 pub returns-clause-ok : goal.returns-clause-ok
 returns-clause-ok c =
-    rw (← c.self.view_is, cell_none c.self.inside.index c.self.inside.cells.items c.args.place c.find-slot.result c.self.invariant c.find-slot.ensures c.if-slot.false) (added c.self.inside.index c.self.inside.cells.items c.args.place c.find-slot.result c.self.invariant c.find-slot.ensures c.if-slot.false c.self.inside.looked c.self.inside.differed _ _ c.in_ok-enter_base.ensures.ok)
+    rw (← c.self.view_is, cell_none c.self.inside.index c.self.inside.cells.items c.args.place c.find-slot.result c.self.invariant c.find-slot.ensures c.if-slot.false)
+    (added c.self.inside.index c.self.inside.cells.items c.args.place c.find-slot.result c.self.invariant c.find-slot.ensures c.if-slot.false c.self.inside.looked
+    c.self.inside.differed _ _ c.in_ok-enter_base.ensures.ok)
 
 pub returns-clause-follows : goal.returns-clause-follows
 returns-clause-follows c = λ order follows.
     let rise = rw (← c.self.view_is) at follows in
-    follow_added c.self.inside.index c.self.inside.cells.items c.args.place c.find-slot.result c.self.invariant c.find-slot.ensures c.if-slot.false order _ _ rise c.in_ok-enter_base.ensures.ok (record { writes = tt; reads = tt })
+    follow_added c.self.inside.index c.self.inside.cells.items c.args.place c.find-slot.result c.self.invariant c.find-slot.ensures c.if-slot.false order _ _ rise c.in_ok-enter_base.ensures.ok
+    (record { writes = tt; reads = tt })
 
 pub returns-then-slot-clause-touched : goal.returns-then-slot-clause-touched
 returns-then-slot-clause-touched c =
@@ -70,4 +76,5 @@ returns-clause-touched c =
 
 pub returns-clause-others_touched : goal.returns-clause-others_touched
 returns-clause-others_touched c = λ p h.
-    added_too c.self.inside.index c.self.inside.cells.items c.args.place c.find-slot.result c.self.invariant c.find-slot.ensures c.if-slot.false _ _ c.in_ok-enter_base.ensures.ok p (rw (← c.self.view_is) at h)
+    added_too c.self.inside.index c.self.inside.cells.items c.args.place c.find-slot.result c.self.invariant c.find-slot.ensures c.if-slot.false _ _ c.in_ok-enter_base.ensures.ok p
+    (rw (← c.self.view_is) at h)

@@ -30,7 +30,8 @@ returns-in-Err-clause-rising c =
 
 pub returns-in-Ok-clause-ok : goal.returns-in-Ok-clause-ok
 returns-in-Ok-clause-ok c =
-    rw (c.in_ok-at.ensures.ok, c.in-Ok.ensures.ok, c.in_ok-at.ensures.at, packed-insert _ _ _, c.of.ensures, ← c.self.view_is, stamps-written _ _ (as_many-packed _ _ c.self.invariant)) (written-insert _ _ _ _ _ (as_many-packed _ _ c.self.invariant))
+    rw (c.in_ok-at.ensures.ok, c.in-Ok.ensures.ok, c.in_ok-at.ensures.at, packed-insert _ _ _, c.of.ensures, ← c.self.view_is, stamps-written _ _ (as_many-packed _ _ c.self.invariant))
+    (written-insert _ _ _ _ _ (as_many-packed _ _ c.self.invariant))
 
 pub returns-in-Ok-clause-rising : goal.returns-in-Ok-clause-rising
 returns-in-Ok-clause-rising c =

@@ -20,4 +20,5 @@ returns-else-count-eq0 c =
     let within = c.count_before-count.ensures.within in
     let same = c.self.invariant in let many = as_many-packed _ _ same in
     let value = value_after-at c.args.base c.args.base (map word_of c.self.inside.values) c.count_before-count.result (omega (arith, some)) (omega (arith, within, many)) in
-    rw (← c.self.view_is, last-before _ _ _ _ _ (as_many-packed _ _ c.self.invariant) rising, ← c.count_before-count.ensures.count) (c.word.ensures ∙ sym (packed-get c.self.inside.values (c.count_before-count.result - 1) c.args.base c.get.result (omega (arith, some, within, same)) c.get.ensures) ∙ sym value)
+    rw (← c.self.view_is, last-before _ _ _ _ _ (as_many-packed _ _ c.self.invariant) rising, ← c.count_before-count.ensures.count)
+    (c.word.ensures ∙ sym (packed-get c.self.inside.values (c.count_before-count.result - 1) c.args.base c.get.result (omega (arith, some, within, same)) c.get.ensures) ∙ sym value)

@@ -10,4 +10,5 @@ returns-else-count-eq0 c =
     let many = as_many-packed _ _ c.self.invariant in
     let long : c.len-count.result ≡ length (map word_of c.self.inside.values) = count ∙ sym c.self.invariant ∙ many in
     let value = value_after-at c.args.base c.args.base (map word_of c.self.inside.values) c.len-count.result (omega (arith, some)) (omega (arith, long)) in
-    rw (← c.self.view_is, last-written _ _ _ many, ← long) (c.word.ensures ∙ sym (packed-get c.self.inside.values (c.len-count.result - 1) c.args.base c.get.result (omega (arith, some, count)) c.get.ensures) ∙ sym value)
+    rw (← c.self.view_is, last-written _ _ _ many, ← long)
+    (c.word.ensures ∙ sym (packed-get c.self.inside.values (c.len-count.result - 1) c.args.base c.get.result (omega (arith, some, count)) c.get.ensures) ∙ sym value)

@@ -52,7 +52,8 @@ returns-clause-inserted c =
     let unfinished = rw (← c.self.view_is) at c.requires.unfinished in
     let up = rw (← c.self.view_is) at c.requires.behind in
     let e = c.insert_after-end.ensures in
-    rw (← c.self.view_is) (end_grew _ _ _ _ _ _ _ _ c.self.invariant closed here e.stamps e.spare e.others e.after e.whole c.put.ensures _ c.args.read refl reads unfinished up c.set_end.ensures).inserted
+    rw (← c.self.view_is) (end_grew _ _ _ _ _ _ _ _ c.self.invariant closed here e.stamps e.spare e.others e.after e.whole c.put.ensures _ c.args.read refl reads unfinished up
+    c.set_end.ensures).inserted
 
 pub returns-clause-finished : goal.returns-clause-finished
 returns-clause-finished c =

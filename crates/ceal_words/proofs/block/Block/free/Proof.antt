@@ -44,8 +44,10 @@ free_spec 𝓤 𝓛 𝓜 𝓡 wired A L g d dd met md =
     let S = T.signature.params in let K = T.kept in
     let stays : Stays S K = (stay_dropped (slot_at 0 S) K.0, (stay_dropped (slot_at 1 S) K.1.0, (stay_dropped (slot_at 2 S) K.1.1.0, (stay_dropped (slot_at 3 S) K.1.1.1.0, tt)))) in
     let 𝓣 = tables 𝓤 H 𝓜 𝓡 𝓡.env in let C = 𝓣.C in let Λ = 𝓣.Λ in
-    proved_at 𝓛 T stays c 𝓜 𝓡
-    (Goes-blank 𝓛 2 (slot_at 0 S) K.0 (λ κs x f. tt), (Goes-blank 𝓛 2 (slot_at 1 S) K.1.0 (λ κs x f. tt), (Goes-dropped 𝓛 2 (slot_at 2 S) K.1.1.0 (λ κs x f. refl), (Goes-dropped 𝓛 2 (slot_at 3 S) K.1.1.1.0 (λ κs x f. refl), tt))))
+    proved_at 𝓛 T stays c 𝓜 𝓡 (
+      Goes-blank 𝓛 2 (slot_at 0 S) K.0 (λ κs x f. tt),
+      (Goes-blank 𝓛 2 (slot_at 1 S) K.1.0 (λ κs x f. tt), (Goes-dropped 𝓛 2 (slot_at 2 S) K.1.1.0 (λ κs x f. refl), (Goes-dropped 𝓛 2 (slot_at 3 S) K.1.1.1.0 (λ κs x f. refl), tt))),
+    )
     (#self args) fn (compiled.unfolded 𝓤 H 𝓜 𝓡 wired (A, tt) d dd) (λ z are.
     let Post : Val → SProp 𝓤 = (walk_of 𝓛 T stays c).post z in
     let a = z.0.3 in let vss = z.0.4 in
@@ -74,8 +76,10 @@ free_spec 𝓤 𝓛 𝓜 𝓡 wired A L g d dd met md =
     first ! $ blocks ! $
     sets ! (of_opd ! (get ! refl)) refl (tt, tt) $
     sets ! (bin ! (get ! refl) (lit ! tt) (record { fits = bytes })) refl (tt, record { fits = bytes }) $
-    use3 𝓛 (raw ((Gives Y 𝓛 𝓜.mem 𝓡.returns).pre y)) (Gives-goes Y 𝓛 𝓜.mem 𝓡.returns κ q handle h (⊑_trans κ z.0.0.1.0 A.lives z.0.2.0 le) b o (n * 8) 8 τ (capped_is (n * 8) (omega (arith, bytes))) refl bytes (lit< tt)) $
-    calls_at_last ! (framed 𝓤 H 𝓜 𝓣) (Gives Y 𝓛 𝓜.mem 𝓡.returns) (met.deallocate dd) y (and_then ! (get ! refl) (and_then ! (get ! refl) (and_then ! (get ! refl) (and_then ! (lit ! tt) (no_more !))))) (λ v.
+    use3 𝓛 (raw ((Gives Y 𝓛 𝓜.mem 𝓡.returns).pre y))
+    (Gives-goes Y 𝓛 𝓜.mem 𝓡.returns κ q handle h (⊑_trans κ z.0.0.1.0 A.lives z.0.2.0 le) b o (n * 8) 8 τ (capped_is (n * 8) (omega (arith, bytes))) refl bytes (lit< tt)) $
+    calls_at_last ! (framed 𝓤 H 𝓜 𝓣) (Gives Y 𝓛 𝓜.mem 𝓡.returns) (met.deallocate dd) y (and_then ! (get ! refl) (and_then ! (get ! refl) (and_then ! (get ! refl) (and_then ! (lit ! tt) (no_more !)))))
+    (λ v.
     use1 𝓛 (later (given (v ≡ vunit) (‵ (flft κ q)))) (Gives-Gives Y 𝓛 𝓜.mem 𝓡.returns κ q handle h b o (n * 8) 8 τ v) $ await ! tt $ learn ! (λ e. join ! $
     regoal ! (λ (u : Val). settles En (place 6 []) u (out_of_block 𝓛 (then_runs 𝓛 C Λ En (after 2 fn.body) (at_ret En Post)))) e refl $ lands_last ! refl (tt, tt) $
     exec ! C Λ En (after 2 fn.body) (at_ret En Post) $

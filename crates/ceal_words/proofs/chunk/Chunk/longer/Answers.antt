@@ -38,8 +38,13 @@ module _ (c : goal.After-clear) where
 pub invariant_of-result : goal.invariant_of-result
 invariant_of-result c =
     let made = c.in-Some.ensures in
-    let at = c.clear.ensures.at ∙ c.copy.ensures.at in
-    (written_front c.clear.new.block.words (old c ++ replicate (c.args.len - count c) 0) c.args.len (room c) (cells c) (long_zeros (old c) (count c) c.args.len (counted c) (longer c)) (within c) (omega (arith, c.if-room-gt-MOST_WORDS.false)), made.1 ∙ sym at, made.2, made.3)
+    let at = c.clear.ensures.at ∙ c.copy.ensures.at in (
+      written_front c.clear.new.block.words (old c ++ replicate (c.args.len - count c) 0) c.args.len (room c) (cells c) (long_zeros (old c) (count c) c.args.len (counted c) (longer c)) (within c)
+          (omega (arith, c.if-room-gt-MOST_WORDS.false)),
+      made.1 ∙ sym at,
+      made.2,
+      made.3,
+    )
 
 pub returns-in-Some : goal.returns-in-Some
 returns-in-Some c =

@@ -36,8 +36,13 @@ module _ (c : goal.After-self-1) where
 
 pub invariant_of-self : goal.invariant_of-self
 invariant_of-self c =
-    let laid = c.self.invariant in
-    (written_front c.clear.new.block.words (words c ++ replicate (c.args.len - count c) 0) c.args.len (room c) (cells c) (long c) (within c) laid.0.fits, laid.1 ∙ sym c.clear.ensures.at, laid.2, laid.3)
+    let laid = c.self.invariant in (
+      written_front c.clear.new.block.words (words c ++ replicate (c.args.len - count c) 0) c.args.len (room c) (cells c) (long c)
+          (within c) laid.0.fits,
+      laid.1 ∙ sym c.clear.ensures.at,
+      laid.2,
+      laid.3,
+    )
 
 pub returns-then-len-self-2-clause-kept : goal.returns-then-len-self-2-clause-kept
 returns-then-len-self-2-clause-kept c =

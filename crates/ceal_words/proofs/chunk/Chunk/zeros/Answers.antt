@@ -15,8 +15,13 @@ module _ (c : goal.After-clear) where
 
 pub invariant_of-result : goal.invariant_of-result
 invariant_of-result c =
-    let made = c.in-Some.ensures in
-    (written_front c.clear.new.block.words (replicate (count c - 0) 0) (count c) (count c) (cells c) (long_zeros [] 0 (count c) refl (omega arith)) (omega arith) (omega (arith, c.if-count-gt-MOST_WORDS.false)), made.1 ∙ sym c.clear.ensures.at, made.2, made.3)
+    let made = c.in-Some.ensures in (
+      written_front c.clear.new.block.words (replicate (count c - 0) 0) (count c) (count c) (cells c) (long_zeros [] 0 (count c) refl (omega arith)) (omega arith)
+          (omega (arith, c.if-count-gt-MOST_WORDS.false)),
+      made.1 ∙ sym c.clear.ensures.at,
+      made.2,
+      made.3,
+    )
 
 pub returns-in-Some : goal.returns-in-Some
 returns-in-Some c =

@@ -20,7 +20,8 @@ returns-clause-raises c =
     let region = c.self.inside.pools.items in let some = subst (λ (r : List SizeClass). IsSome (words_of r c.args.slot)) (sym c.self.view_is) c.requires in
     let class = c.index_mut-pool.result.now in
     let e = class_of_slot region c.args.slot some class c.index_mut-pool.ensures.value c.self.invariant c.give.ensures.length in
-    rw c.give.ensures.given (subst (λ (r : List SizeClass). spare (set region c.args.slot.chunk (given c.args.slot.at c.index_mut-pool.result.now)) (slot_len c.args.slot) ≡ spare r (slot_len c.args.slot) + 1) c.self.view_is
+    rw c.give.ensures.given (subst (λ (r : List SizeClass). spare (set region c.args.slot.chunk (given c.args.slot.at c.index_mut-pool.result.now)) (slot_len c.args.slot)
+    ≡ spare r (slot_len c.args.slot) + 1) c.self.view_is
     (given_raises region c.args.slot some class c.index_mut-pool.ensures.value e))
 
 pub returns-clause-others : goal.returns-clause-others

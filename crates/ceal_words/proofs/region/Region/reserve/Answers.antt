@@ -16,7 +16,8 @@ returns-clause-raises c =
     let region = c.self.inside.pools.items in let k = c.size_class.result in let class = c.index_mut-pool.result.now in let more = c.reserve.new.self.spare - class.spare in
     subst (λ (n : SizeClass). spare c.args.self.now c.args.len ≤ spare (set region k n) c.args.len) (sym c.reserve.ensures.kept)
     (subst (λ (r : List SizeClass). spare r c.args.len ≤ spare (set region k (grown more class)) c.args.len) c.self.view_is
-    (let e = grown_spare region k more class (omega (arith, c.size_class.ensures.small, c.self.invariant.counted)) c.index_mut-pool.ensures.value c.args.len (sym c.size_class.ensures.value) in omega (arith, e)))
+    (let e = grown_spare region k more class (omega (arith, c.size_class.ensures.small, c.self.invariant.counted)) c.index_mut-pool.ensures.value c.args.len (sym c.size_class.ensures.value) in omega
+    (arith, e)))
 
 pub returns-clause-others : goal.returns-clause-others
 returns-clause-others c =
