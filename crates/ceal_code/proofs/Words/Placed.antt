@@ -1,5 +1,6 @@
 -- Each place that a memory or a stack names is that of a modifiable. A run keeps it so.
-use Rattle.std.proofs.Common.{◌≡◌, ℕ, ◌+◌, ◌<◌, ◌^◌, nat_lt, pos, negsuc, ◌&&◌, Bool, true, false, Option, Some, None, List, [], ◌∷◌, length, if◌then◌else◌, refl, sym, ap, ◌∙◌, subst, slice_get, is_some, arith}
+use Rattle.std.proofs.Common.{◌≡◌, ℕ, ◌+◌, ◌<◌, ◌^◌, nat_lt, pos, negsuc, ◌&&◌, Bool, true, false, Option, Some, None, List, [], ◌∷◌, length, if◌then◌else◌, refl, sym, ap, ◌∙◌, subst, slice_get}
+use Rattle.std.proofs.Common.{is_some, arith}
 use Rattle.std.specs.Prelude.{⊤}
 use Rattle.ceal_base.specs.Access.{of_struct, is_struct, place_in}
 use Rattle.ceal_base.specs.Block.{Block, Blocks, block_at, written_at}
@@ -95,7 +96,8 @@ module _ (structs : List StructInfo) (m : Blocks) (well : WellPlaced structs m) 
     element-if b n true l h =
         cell-placed b s (f + n) (block_at m b) refl (subst (λ k. (is_cell k && is_some (of_struct s (block_at m b))) ≡ true) (sym (rows s f row starts n (l refl))) h)
 
-    element-placed : (b : BlockId) (i : Word) → (is_cell (field_kind structs (Struct s) f) && is_some (of_struct s (block_at m b))) ≡ true → Placed structs m (picked row (At (record { block = b; field = f })) i)
+    element-placed : (b : BlockId) (i : Word) → (is_cell (field_kind structs (Struct s) f) && is_some (of_struct s (block_at m b))) ≡ true
+        → Placed structs m (picked row (At (record { block = b; field = f })) i)
     element-placed b (Num (pos n)) h = element-if b n (nat_lt n row && nat_lt (f + n) (2 ^ 32)) (below-row n (nat_lt (f + n) (2 ^ 32))) h
     element-placed b (Num (negsuc n)) h = tt
     element-placed b Null h = tt
@@ -182,7 +184,8 @@ module _ (code : Code) (m : Blocks) (well : WellPlaced code.structs m) (key : Ke
   grown-if ok true c e h block g =
       let e' : block_at (with_block m (made code (block_at m) key)) (Core (length m.made)) ≡ Some block = rw (block-same c (Core (length m.made)) e) at g in
       let is : made code (block_at m) key ≡ block = some-same (made code (block_at m) key) block (sym (grown-here m (made code (block_at m) key)) ∙ e') in
-      subst (λ block. Each (Placed code.structs m) block.words) is (made-of (Starts code.structs) (Placed code.structs m) code (block_at m) (placed-closed code.structs m well (rows-valid code ok)) (picks-valid code ok) key h)
+      subst (λ block. Each (Placed code.structs m) block.words) is
+      (made-of (Starts code.structs) (Placed code.structs m) code (block_at m) (placed-closed code.structs m well (rows-valid code ok)) (picks-valid code ok) key h)
   grown-if ok false (Input i) e h block g = well (Input i) block g
   grown-if ok false (Core c) e h block g = well (Core c) block (sym (get-push_other m.made (made code (block_at m) key) c e) ∙ g)
 
