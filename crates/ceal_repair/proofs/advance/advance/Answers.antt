@@ -23,7 +23,7 @@ turns-requires-clause-comes c =
 pub turns-requires-clause-idle : goal.turns-requires-clause-idle
 turns-requires-clause-idle c = idle-first c.at_root-repair.result.stack.now.waits.aside c.at_root-repair.result.frames.now.items c.at_root-repair.ensures.frames
 
--- the turns went on from a repair of the call that has begun, and what they come to is a slice of it
+-- the turns continue a repair of the call that has begun, and what they end with is a slice of it
 pub returns-clause-sliced : goal.returns-clause-sliced
 returns-clause-sliced c = λ f args r part.
     let e = c.at_root-repair.ensures in

@@ -19,7 +19,7 @@ unreachable-requires c =
     let both : Some (stamp_of_number q.5.spot.end) ≡ None = sym (limit-ended (code_of old) (inputs_of old) q.0 q.1 q.2 q.3 q.4 q.5 q.6.stack (view old) now none) ∙ c.in-None.is in
     cc
 
--- what is left over inside the read stands between the cursor and its end
+-- what is left over inside the read is between the cursor and its end
 pub cut_until-requires-clause-lies : goal.cut_until-requires-clause-lies
 cut_until-requires-clause-lies c =
     let old : Repair = c.args.self.now in

@@ -31,7 +31,7 @@ finish_read-requires-clause-here c =
     let v : View = record (view_under c.args.below r) { frames = Begun (units_on c.args.below r) c.args.read ∷ (view_under c.args.below r).frames } in
     cursor-here c.requires.ends.0 v e.now.reads (entries e.now.left ++ e.now.tail) e.now.placed
 
--- the cursor is not before the read, since all that was put in stands after it
+-- the cursor is not before the read, since all that was put in is after it
 pub finish_read-requires-clause-order : goal.finish_read-requires-clause-order
 finish_read-requires-clause-order c =
     let r : Repair = c.args.self.now in

@@ -15,7 +15,7 @@ use Rattle.ceal_repair.proofs.Runs.Paid.{stays, due-steps}
 use Rattle.ceal_repair.specs.declared.running.Running.{Running}
 use Rattle.ceal_repair.proofs.repair.Repair.leave.Goals as goal
 
--- what is left over inside the read stands between the cursor and its end
+-- what is left over inside the read is between the cursor and its end
 pub cut_until-requires-clause-lies : goal.cut_until-requires-clause-lies
 cut_until-requires-clause-lies c =
     let old : Repair = c.args.self.now in

@@ -16,7 +16,7 @@ use Rattle.ceal_repair.proofs.Runs.Paid.{stays, due-steps}
 use Rattle.ceal_repair.specs.declared.running.Running.{Running}
 use Rattle.ceal_repair.proofs.repair.Repair.pass_all.Goals as goal
 
--- the end of the read is there, and the cursor goes on it
+-- the end of the read is there, and the cursor moves to it
 pub set_steps-requires-clause-here : goal.set_steps-requires-clause-here
 set_steps-requires-clause-here c =
     let old : Repair = c.args.self.now in

@@ -29,7 +29,7 @@ cut_until-requires-clause-has c =
     let a = c.requires.acts.1 in
     (code_of old, inputs_of old, has-stepped old c.step.new.self h c.requires.acts.0 a.stack a.now)
 
--- the allocation lies in what is left over, so what is to be revoked stands between the cursor and it
+-- the allocation lies in what is left over, so what will be revoked is between the cursor and it
 pub cut_until-requires-clause-lies : goal.cut_until-requires-clause-lies
 cut_until-requires-clause-lies c =
     let old : Repair = c.args.self.now in

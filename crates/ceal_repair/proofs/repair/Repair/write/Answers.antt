@@ -19,7 +19,7 @@ put_write-requires-clause-here c =
     let h : IsStepped c.args.self.now c.step.new.self = record { rest = e.rest; heap = e.heap; spent = e.spent; more = record { nodes = e.nodes; mods = e.mods; queue = e.queue; kept = e.kept } } in
     stepped-here c.requires.acts.0 c.requires.acts.1.stack c.args.self.now c.step.new.self c.requires.acts.1.now h
 
--- a node is put in for the write, and the unit goes on after it
+-- a node is put in for the write, and the unit continues after it
 pub returns-clause-runs : goal.returns-clause-runs
 returns-clause-runs c = λ start a.
     let old : Repair = c.args.self.now in
