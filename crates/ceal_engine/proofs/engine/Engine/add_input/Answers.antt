@@ -75,7 +75,7 @@ returns-clause-looks c =
     (state-left v.code v.fuel v.inputs v.call.call v.run c.touch.new.self c.touch.ensures.same ∙ c.self.view_is)
     (looks-input v.code v.fuel v.inputs v.call.call v.code.structs (length v.inputs) c.args.shape c.args.words.now (v.inputs ++ b ∷ []) c.touch.new.self c.add.new.self set))
 
--- the repair that goes on has one input more, which its items do not name
+-- the repair that continues has one input more, which its items do not name
 pub returns-clause-carries : goal.returns-clause-carries
 returns-clause-carries c = λ next r carries.
     let v = c.self.inside in

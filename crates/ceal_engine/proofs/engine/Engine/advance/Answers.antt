@@ -31,7 +31,7 @@ advance-requires-clause-part c =
     let v = c.self.inside in
     open-part v.code v.fuel v.inputs v.run v.call.call c.self.invariant.keeps c.open.new.run (ap opened c.in-Kept.is ∙ ap Some (sym c.open.ensures))
 
--- the repair goes on: what the slice left is kept as a partial run
+-- the repair continues: what the slice left is kept as a partial run
 pub invariant_of-self : goal.invariant_of-self
 invariant_of-self c =
     let v = c.self.inside in
@@ -208,7 +208,7 @@ returns-in-Ok-Done-clause-looks c = λ n.
     (subst (λ s. LooksOfRepair s (finished v.code v.fuel v.inputs v.call.call c.advance.new.running)) c.self.view_is
     (looks-repair v.code v.fuel v.inputs v.call.call v.run c.open.new.run c.advance.new.running is c.in-Ok-Done.ensures.pays stage.Finished))
 
--- the same, where the repair goes on
+-- the same, where the repair continues
 pub returns-in-Ok-More-clause-looks : goal.returns-in-Ok-More-clause-looks
 returns-in-Ok-More-clause-looks c = λ n.
     let v = c.self.inside in

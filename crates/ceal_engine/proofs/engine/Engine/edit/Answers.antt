@@ -46,7 +46,7 @@ returns-clause-looks c =
     (subst (λ e. LooksOfEdit e (state_of v.code v.fuel (with_base v.inputs c.args.place c.args.value) v.call.call c.edit.new.self)) c.self.view_is
     (looks-edit v.code v.fuel v.inputs v.call.call c.args.place c.args.value (with_base v.inputs c.args.place c.args.value) v.run c.edit.new.self c.in_ok-edit.ensures.ok))
 
--- the repair that goes on is one on the edited inputs
+-- the repair that continues is one on the edited inputs
 pub returns-clause-carries : goal.returns-clause-carries
 returns-clause-carries c = λ next r carries.
     let v = c.self.inside in

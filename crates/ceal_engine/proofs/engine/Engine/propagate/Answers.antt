@@ -49,7 +49,7 @@ returns-in_ok-advance-in-Pending-clause-looks_always c =
     looks-either c.args.self.now c.advance.new.self c.in_ok-advance-in-Pending.field-0
     (subst (λ e. has_run e.phase ≡ true) c.self.view_is (ap has_run (sym c.phase.ensures ∙ c.in-Pending.is))) a.looks a.looks_anew a.first
 
--- the same, where a repair went on
+-- the same, where a repair was in progress
 pub returns-in_ok-advance-in-Partial-clause-looks_always : goal.returns-in_ok-advance-in-Partial-clause-looks_always
 returns-in_ok-advance-in-Partial-clause-looks_always c =
     let a = c.in_ok-advance-in-Partial.ensures in
