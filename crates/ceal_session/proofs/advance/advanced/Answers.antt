@@ -32,7 +32,7 @@ returns-in-Pending c = record {
       o.result o.ensures.phase o.ensures.present o.ensures.comes (some-reads o.result c.args.reads o.ensures.more) o.ensures.keeps.out_of_fuel o.ensures.keeps.dropped;
 }
 
--- the same, where a repair goes on
+-- the same, where a repair continues
 pub returns-in-Partial : goal.returns-in-Partial
 returns-in-Partial c = record {
   brings = λ call again.
