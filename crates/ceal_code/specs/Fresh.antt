@@ -8,7 +8,8 @@ use Rattle.ceal_base.specs.declared.word.Word.{Word}
 use Rattle.ceal_base.specs.declared.word.Word.TheVariants.{At}
 use Rattle.ceal_code.specs.Init.{made, pointer}
 use Rattle.ceal_code.specs.Program.{Code}
-use Rattle.ceal_code.specs.Step.{Stack, Run, Act, Over, Quiet, Makes, Writes, Reads, variable_default, entered, started, words_after_read, next}
+use Rattle.ceal_code.specs.Step.{Stack, Run, Act, Over, Quiet, Makes, Writes, Reads, variable_default, entered, started}
+use Rattle.ceal_code.specs.Step.{words_after_read, next}
 use Rattle.ceal_code.specs.Value.{set}
 
 -- after a step of this sort, where `again` is the run from there

@@ -16,7 +16,8 @@ use Rattle.ceal_code.specs.Program.{Code}
 use Rattle.ceal_code.specs.Value.{Plain, Variables, field_kind, expr_value}
 use Rattle.ceal_code.specs.declared.function.FunctionCode.{FunctionCode}
 use Rattle.ceal_code.specs.declared.function.FunctionCode.TheVariants.{Core as CoreFunction, Init as InitFunction}
-use Rattle.ceal_code.specs.declared.function.InitStmt.{InitStmt, Set, If', Row_of-InitStmt, end_of-InitStmt, more_of-InitStmt}
+use Rattle.ceal_code.specs.declared.function.InitStmt.{InitStmt, Set, If', Row_of-InitStmt, end_of-InitStmt}
+use Rattle.ceal_code.specs.declared.function.InitStmt.{more_of-InitStmt}
 
 -- the words with another one at a field, if it is a plain one
 abbrev pub set_plain : Option FieldKind → List Word → ℕ → Word → List Word

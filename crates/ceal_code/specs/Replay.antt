@@ -1,5 +1,6 @@
 -- What a trace of a call is: what a stack yields, when items replay a call, and when they are honest.
-use Rattle.std.specs.Prelude.{◌≡◌, ℕ, ◌+◌, ◌<◌, ◌≤◌, ◌==◌, pos, if◌then◌else◌, Option, Some, None, List, [], ◌∷◌, length, slice_get, unwrap_or, ⊤}
+use Rattle.std.specs.Prelude.{◌≡◌, ℕ, ◌+◌, ◌<◌, ◌≤◌, ◌==◌, pos, if◌then◌else◌, Option, Some, None, List, [], ◌∷◌}
+use Rattle.std.specs.Prelude.{length, slice_get, unwrap_or, ⊤}
 use Rattle.std.specs.Option.{option_map}
 use Rattle.ceal_base.specs.Block.{Block}
 use Rattle.ceal_base.specs.Operators.{same_block, same_place}
@@ -21,7 +22,8 @@ use Rattle.ceal_code.specs.Init.{made, pointer}
 use Rattle.ceal_code.specs.declared.function.FunctionCode.{FunctionCode}
 use Rattle.ceal_code.specs.declared.function.FunctionCode.TheVariants.{Core as CoreFunction, Init as InitFunction}
 use Rattle.ceal_code.specs.Program.{Code}
-use Rattle.ceal_code.specs.Step.{Stack, Empty, Run, Over, Quiet, Makes, Writes, Reads, entered, started, words_after_read, next}
+use Rattle.ceal_code.specs.Step.{Stack, Empty, Run, Over, Quiet, Makes, Writes, Reads, entered, started}
+use Rattle.ceal_code.specs.Step.{words_after_read, next}
 use Rattle.ceal_code.specs.Value.{Plain, set, is_cell, field_kind, field_default}
 
 -- A stack yields exactly these items over the plain words, where each read is answered by its recorded value and

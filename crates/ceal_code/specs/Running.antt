@@ -1,5 +1,6 @@
 -- The states of a run from scratch, and when everything that a state names is there.
-use Rattle.std.specs.Prelude.{◌≡◌, ◌⊎◌, ℕ, ◌+◌, ◌<◌, true, Option, Some, None, List, [], ◌∷◌, length, slice_get, is_some, ⊤}
+use Rattle.std.specs.Prelude.{◌≡◌, ◌⊎◌, ℕ, ◌+◌, ◌<◌, true, Option, Some, None, List, [], ◌∷◌, length, slice_get}
+use Rattle.std.specs.Prelude.{is_some, ⊤}
 use Rattle.ceal_base.specs.Access.{pointed, content_of}
 use Rattle.ceal_base.specs.Block.{Blocks, block_at, written_at}
 use Rattle.ceal_base.specs.Finished.{with_block}
@@ -19,16 +20,20 @@ use Rattle.ceal_base.specs.declared.word.Word.{Word}
 use Rattle.ceal_base.specs.declared.word.Word.TheVariants.{Num, Null, Block as BlockWord, At}
 use Rattle.ceal_code.specs.Init.{arguments, made, pointer}
 use Rattle.ceal_code.specs.Program.{Code}
-use Rattle.ceal_code.specs.Step.{Stack, Empty, Run, Quiet, Makes, Writes, Reads, unit_at, command_at, entry_of, kinds_of, variable_default, entered, words_after_read, stack_after_quiet, next}
+use Rattle.ceal_code.specs.Step.{Stack, Empty, Run, Quiet, Makes, Writes, Reads, unit_at, command_at, entry_of}
+use Rattle.ceal_code.specs.Step.{kinds_of, variable_default, entered, words_after_read, stack_after_quiet, next}
 use Rattle.ceal_code.specs.Valid.{others, is_core}
 use Rattle.ceal_code.specs.Value.{Variables, set, field_kind, is_cell, expr_value, operand_value, values}
 use Rattle.ceal_code.specs.declared.command.Cmd.{Cmd}
-use Rattle.ceal_code.specs.declared.command.Cmd.TheVariants.{Move, Tick, Alloc, Modref, Write, If, Done, Tail, Read, Call}
-use Rattle.ceal_code.specs.declared.expr.CodeExpr.{CodeExpr, Num as NumExpr, Null as NullExpr, Var, Unary', Binary', Field', Address', Row_of-CodeExpr, end_of-CodeExpr, more_of-CodeExpr}
+use Rattle.ceal_code.specs.declared.command.Cmd.TheVariants.{Move, Tick, Alloc, Modref, Write, If, Done, Tail, Read}
+use Rattle.ceal_code.specs.declared.command.Cmd.TheVariants.{Call}
+use Rattle.ceal_code.specs.declared.expr.CodeExpr.{CodeExpr, Num as NumExpr, Null as NullExpr, Var, Unary', Binary'}
+use Rattle.ceal_code.specs.declared.expr.CodeExpr.{Field', Address', Row_of-CodeExpr, end_of-CodeExpr, more_of-CodeExpr}
 use Rattle.ceal_code.specs.declared.expr.VarId.{VarId}
 use Rattle.ceal_code.specs.declared.function.FunctionCode.{FunctionCode}
 use Rattle.ceal_code.specs.declared.function.FunctionCode.TheVariants.{Core as CoreFunction, Init as InitFunction}
-use Rattle.ceal_code.specs.declared.function.InitStmt.{InitStmt, Set, If' as IfStmt', Row_of-InitStmt, end_of-InitStmt, more_of-InitStmt}
+use Rattle.ceal_code.specs.declared.function.InitStmt.{InitStmt, Set, If' as IfStmt', Row_of-InitStmt, end_of-InitStmt}
+use Rattle.ceal_code.specs.declared.function.InitStmt.{more_of-InitStmt}
 
 -- one step of a run, from a memory and a stack to the next
 pub data Steps (code : Code) : Blocks → Stack → Blocks → Stack → Type 0 where

@@ -1,5 +1,6 @@
 -- The stack of a run, and the next step, as the code keeps them.
-use Rattle.std.specs.Prelude.{◌≡◌, ℕ, ◌+◌, ◌-◌, ◌<◌, ◌^◌, Bool, true, false, Option, Some, None, List, [], ◌∷◌, drop, length, reverse, take, if◌then◌else◌}
+use Rattle.std.specs.Prelude.{◌≡◌, ℕ, ◌+◌, ◌-◌, ◌<◌, ◌^◌, Bool, true, false, Option, Some, None, List, [], ◌∷◌, drop}
+use Rattle.std.specs.Prelude.{length, reverse, take, if◌then◌else◌}
 use Rattle.ceal_base.specs.declared.forest.Key.{Key}
 use Rattle.ceal_base.specs.declared.forest.Key.TheVariants.{Init}
 use Rattle.ceal_base.specs.declared.word.Word.{Word}
@@ -12,13 +13,15 @@ use Rattle.ceal_code.specs.declared.command.Cmd.{Cmd}
 use Rattle.ceal_code.specs.declared.stack.Activation.{Activation}
 use Rattle.ceal_code.specs.declared.stack.Stack.{Stack as CodeStack}
 use Rattle.ceal_code.specs.declared.step.Act.{Act as CodeAct}
-use Rattle.ceal_code.specs.declared.step.Act.TheVariants.{Over as IsOver, Quiet as IsQuiet, Makes as IsMakes, Writes as IsWrites, Reads as IsReads}
+use Rattle.ceal_code.specs.declared.step.Act.TheVariants.{Over as IsOver, Quiet as IsQuiet, Makes as IsMakes}
+use Rattle.ceal_code.specs.declared.step.Act.TheVariants.{Writes as IsWrites, Reads as IsReads}
 use Rattle.ceal_code.specs.declared.step.Maker.{Maker}
 use Rattle.ceal_code.specs.declared.step.Maker.TheVariants.{Init as IsInit, Modref as IsModref}
 use Rattle.ceal_code.specs.declared.step.Making.{Making}
 use Rattle.ceal_code.specs.declared.step.Reading.{Reading}
 use Rattle.ceal_code.specs.declared.step.Step.{Step as CodeStep}
-use Rattle.ceal_code.specs.declared.step.Step.TheVariants.{Over as StepOver, Quiet as StepQuiet, Makes as StepMakes, Writes as StepWrites, Reads as StepReads}
+use Rattle.ceal_code.specs.declared.step.Step.TheVariants.{Over as StepOver, Quiet as StepQuiet, Makes as StepMakes}
+use Rattle.ceal_code.specs.declared.step.Step.TheVariants.{Writes as StepWrites, Reads as StepReads}
 use Rattle.ceal_code.specs.declared.waits.Waiting.{Waiting}
 use Rattle.ceal_code.specs.declared.waits.Floor.{Floor}
 

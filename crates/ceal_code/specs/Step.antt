@@ -1,5 +1,6 @@
 -- What the next step of trace code is. Running, replaying and repairing all go by this one function.
-use Rattle.std.specs.Prelude.{ℕ, ◌+◌, ◌==◌, Option, Some, None, List, [], ◌∷◌, length, slice_get, unwrap_or, if◌then◌else◌}
+use Rattle.std.specs.Prelude.{ℕ, ◌+◌, ◌==◌, Option, Some, None, List, [], ◌∷◌, length, slice_get, unwrap_or}
+use Rattle.std.specs.Prelude.{if◌then◌else◌}
 use Rattle.ceal_base.specs.Access.{holds}
 use Rattle.ceal_base.specs.Shapes.{default_of}
 use Rattle.ceal_base.specs.declared.forest.Key.{Key}
@@ -14,7 +15,8 @@ use Rattle.ceal_base.specs.declared.word.Word.TheVariants.{Num, Null, Block as B
 use Rattle.ceal_code.specs.Program.{Unit, Code}
 use Rattle.ceal_code.specs.Value.{Plain, Variables, unset, set, expr_value, values}
 use Rattle.ceal_code.specs.declared.command.Cmd.{Cmd}
-use Rattle.ceal_code.specs.declared.command.Cmd.TheVariants.{Move, Tick, Alloc, Modref, Write, If, Done, Tail, Read, Call}
+use Rattle.ceal_code.specs.declared.command.Cmd.TheVariants.{Move, Tick, Alloc, Modref, Write, If, Done, Tail, Read}
+use Rattle.ceal_code.specs.declared.command.Cmd.TheVariants.{Call}
 use Rattle.ceal_code.specs.declared.expr.VarId.{VarId}
 use Rattle.ceal_code.specs.declared.function.FunctionCode.{FunctionCode}
 use Rattle.ceal_code.specs.declared.function.FunctionCode.TheVariants.{Core as CoreFunction, Init as InitFunction}

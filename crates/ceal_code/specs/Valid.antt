@@ -1,7 +1,9 @@
 -- When code is valid: every number is in range, a unit's body is a tree that is gone through forwards, so that each
 -- command of it lies on a path from the first, a variable is used only where it has a word, and expressions have the
 -- types that are asked.
-use Rattle.std.specs.Prelude.{ℕ, zero, suc, ◌+◌, ◌==◌, ◌&&◌, nat_lt, nat_le, Bool, true, false, not, if◌then◌else◌, Option, Some, None, List, [], ◌∷◌, ◌++◌, length, replicate, slice_get, slice_set, unwrap_or}
+use Rattle.std.specs.Prelude.{ℕ, zero, suc, ◌+◌, ◌==◌, ◌&&◌, nat_lt, nat_le, Bool, true, false, not, if◌then◌else◌}
+use Rattle.std.specs.Prelude.{Option, Some, None, List, [], ◌∷◌, ◌++◌, length, replicate, slice_get, slice_set}
+use Rattle.std.specs.Prelude.{unwrap_or}
 use Rattle.ceal_base.specs.Kinds.{same_kind, is_pointer}
 use Rattle.ceal_base.specs.Shapes.{row_at}
 use Rattle.ceal_base.specs.declared.kind.FieldKind.{FieldKind}
@@ -20,13 +22,15 @@ use Rattle.ceal_code.specs.Value.{field_kind, is_cell}
 use Rattle.ceal_code.specs.declared.command.Cmd.{Cmd}
 use Rattle.ceal_code.specs.declared.command.Followers.{Followers}
 use Rattle.ceal_code.specs.declared.command.Followers.TheVariants.{Nowhere, One, Two}
-use Rattle.ceal_code.specs.declared.command.Cmd.TheVariants.{Move, Tick, Alloc, Modref, Write, If, Done, Tail, Read, Call}
+use Rattle.ceal_code.specs.declared.command.Cmd.TheVariants.{Move, Tick, Alloc, Modref, Write, If, Done, Tail, Read}
+use Rattle.ceal_code.specs.declared.command.Cmd.TheVariants.{Call}
 use Rattle.ceal_code.specs.declared.expr.CodeExpr.{CodeExpr, Num, Null, Var, Unary', Binary', Field', Address'}
 use Rattle.ceal_code.specs.declared.expr.CodeExpr.{Row_of-CodeExpr, end_of-CodeExpr, more_of-CodeExpr}
 use Rattle.ceal_code.specs.declared.expr.VarId.{VarId}
 use Rattle.ceal_code.specs.declared.function.FunctionCode.{FunctionCode}
 use Rattle.ceal_code.specs.declared.function.FunctionCode.TheVariants.{Core as CoreFunction, Init as InitFunction}
-use Rattle.ceal_code.specs.declared.function.InitStmt.{InitStmt, Set, If' as IfStmt', Row_of-InitStmt, end_of-InitStmt, more_of-InitStmt}
+use Rattle.ceal_code.specs.declared.function.InitStmt.{InitStmt, Set, If' as IfStmt', Row_of-InitStmt, end_of-InitStmt}
+use Rattle.ceal_code.specs.declared.function.InitStmt.{more_of-InitStmt}
 use Rattle.ceal_code.specs.declared.typing.ExprType.{ExprType}
 use Rattle.ceal_code.specs.declared.typing.ExprType.TheVariants.{Of, AnyPointer, AnyPlace}
 

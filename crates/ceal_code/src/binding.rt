@@ -1,6 +1,7 @@
 // The words of variables, and those with which units begin.
 
-ghost use Rattle.std.specs.Prelude.{◌≡◌, ◌+◌, ◌<◌, ◌≤◌, ◌==◌, length, min, slice_get, unwrap_or, Some, if◌then◌else◌, IfOk, OnOk};
+ghost use Rattle.std.specs.Prelude.{◌≡◌, ◌+◌, ◌<◌, ◌≤◌, ◌==◌, length, min, slice_get, unwrap_or, Some, if◌then◌else◌};
+ghost use Rattle.std.specs.Prelude.{IfOk, OnOk};
 ghost use Rattle.ceal_base.specs.declared.word.Word.{Word};
 ghost use Rattle.ceal_code.specs.Init.{arguments};
 ghost use Rattle.ceal_code.specs.Step.{bound, chosen, woven};
@@ -177,7 +178,8 @@ fn given_word(p: VarId, v: u32, value: Word, args: &[Word], at: usize) -> Word
     }
 }
 
-/// The words of the parameters of a unit that goes on after a read, in place of those that there are. The last ones come
+/// The words of the parameters of a unit that goes on after a read, in place of those that there are. The last ones
+/// come
 /// first, as the last variable makes room for all.
 pub fn bind_given(
     env: &mut Vec<Word>,

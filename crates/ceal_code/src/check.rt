@@ -2,7 +2,9 @@
 
 ghost use Rattle.std.specs.Prelude.{◌≡◌, ℕ, Bool, List, Option, false, true, slice_get, length};
 ghost use Rattle.ceal_code.specs.Step.{kinds_of};
-ghost use Rattle.ceal_code.specs.Valid.{all_fit, params_fit, others, unit_fits, read_fits, entry_fits, call_fits, alloc_fits, modref_fits, place_fits, type_of, is_content, content_fits, write_fits, command_ok};
+ghost use Rattle.ceal_code.specs.Valid.{all_fit, params_fit, others, unit_fits, read_fits, entry_fits, call_fits};
+ghost use Rattle.ceal_code.specs.Valid.{alloc_fits, modref_fits, place_fits, type_of, is_content, content_fits};
+ghost use Rattle.ceal_code.specs.Valid.{write_fits, command_ok};
 
 use crate::code::Code;
 use crate::command::Cmd;

@@ -1,6 +1,7 @@
 // A whole program as trace code.
 
-ghost use Rattle.std.specs.Prelude.{◌≡◌, ◌<◌, ◌^◌, ◌∷◌, [], ◌++◌, ⊤, length, slice_get, unwrap_or, MatchOption, Some, OnOk, OnErr};
+ghost use Rattle.std.specs.Prelude.{◌≡◌, ◌<◌, ◌^◌, ◌∷◌, [], ◌++◌, ⊤, length, slice_get, unwrap_or, MatchOption, Some};
+ghost use Rattle.std.specs.Prelude.{OnOk, OnErr};
 ghost use Rattle.std.specs.Option.{option_map};
 ghost use Rattle.ceal_code.specs.Step.{unit_at, command_at, entry_of, kinds_of};
 ghost use Rattle.ceal_code.specs.declared.command.Cmd.TheVariants.{Done};
@@ -33,7 +34,12 @@ impl Model for Code {
 
     ghost coded = { Prim.hlevel (codes, expr.the_row.coded, stmt.the_row.coded) };
 
-    ghost view = { λ c. record { structs = c.structs; functions = c.functions.items; units = c.units.items; kinds = c.kinds.items } };
+    ghost view = { λ c. record {
+      structs = c.structs;
+      functions = c.functions.items;
+      units = c.units.items;
+      kinds = c.kinds.items;
+    } };
 }
 
 impl Code {
@@ -172,7 +178,8 @@ impl Code {
         }
     }
 
-    /// The unit in which a call of the function begins; `units.len()`, where there is no unit, if it is no core function.
+    /// The unit in which a call of the function begins; `units.len()`, where there is no unit, if it is no core
+    /// function.
     pub fn entry_of(&self, function: u32) -> usize
         ensures value { result ≡ entry_of self.now function }
     {

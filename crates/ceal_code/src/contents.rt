@@ -1,6 +1,7 @@
 // The contents of modifiables.
 
-ghost use Rattle.std.specs.Prelude.{◌≡◌, ◌==◌, ◌-◌, ◌++◌, ◌+◌, length, replicate, Option, Some, get_or, if◌then◌else◌, OnOk};
+ghost use Rattle.std.specs.Prelude.{◌≡◌, ◌==◌, ◌-◌, ◌++◌, ◌+◌, length, replicate, Option, Some, get_or, if◌then◌else◌};
+ghost use Rattle.std.specs.Prelude.{OnOk};
 ghost use Rattle.ceal_base.specs.declared.word.Place.{Place as Cell};
 ghost use Rattle.ceal_code.specs.Program.{Code as Parts};
 ghost use Rattle.ceal_code.specs.Replay.{Store, bases, cell_default, content_in};

@@ -1,7 +1,8 @@
 // Laws of trace code, each the contract of a function that does nothing.
 
 ghost use Rattle.ceal_code.specs.After.{StoreLaw, InputsLaw as Inputs_after_law};
-ghost use Rattle.ceal_code.specs.Laws.{StepLaw, BlockLaw, OverLaw, AlikeLaw, TraceLaw, PathLaw, ProgressLaw, EndedLaw, StateLaw, InputsLaw};
+ghost use Rattle.ceal_code.specs.Laws.{StepLaw, BlockLaw, OverLaw, AlikeLaw, TraceLaw, PathLaw, ProgressLaw, EndedLaw};
+ghost use Rattle.ceal_code.specs.Laws.{StateLaw, InputsLaw};
 
 /// A step of trace code depends on the plain words of the blocks that its stack can reach, and on nothing else
 /// (our own).
@@ -31,7 +32,8 @@ pub fn trace_law()
     ensures law { TraceLaw }
 {}
 
-/// Each command of a unit of valid code lies on a path from the unit's first command, and is right for the variables that
+/// Each command of a unit of valid code lies on a path from the unit's first command, and is right for the variables
+/// that
 /// have a word on that path (our own).
 pub fn path_law()
     ensures law { PathLaw }
@@ -43,14 +45,16 @@ pub fn progress_law()
     ensures law { ProgressLaw }
 {}
 
-/// An honest walk over the items of a trace ends at the store that the items lead to, and the input blocks after a trace
+/// An honest walk over the items of a trace ends at the store that the items lead to, and the input blocks after a
+/// trace
 /// that replays a call are those of the memory after it (our own).
 pub fn after_law()
     ensures store { StoreLaw }
     ensures inputs { Inputs_after_law }
 {}
 
-/// A run from scratch is after each number of steps at a state that it came to, and it ends at one from which no step goes
+/// A run from scratch is after each number of steps at a state that it came to, and it ends at one from which no step
+/// goes
 /// on.
 pub fn ended_law()
     ensures law { EndedLaw }

@@ -1,7 +1,8 @@
 // The text of code.
 
 ghost use Rattle.std.specs.Prelude.{◌≡◌, ◌++◌, ◌∷◌, [], ℕ, List, length, replicate, slice_get, IfOk};
-ghost use Rattle.ceal_code.specs.Listing.{added, grouped, unit_lines, unit_text_at, units_text, stmt_text, stmts_text, else_text, function_text, functions_text, listing_text};
+ghost use Rattle.ceal_code.specs.Listing.{added, grouped, unit_lines, unit_text_at, units_text, stmt_text, stmts_text};
+ghost use Rattle.ceal_code.specs.Listing.{else_text, function_text, functions_text, listing_text};
 
 use crate::branches::{deeper, put_body, put_else};
 use crate::code::Code;

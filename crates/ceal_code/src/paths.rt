@@ -1,6 +1,7 @@
 // The paths of a unit's body: an explicit stack of those that are still to be gone down.
 
-ghost use Rattle.std.specs.Prelude.{◌≡◌, ◌≤◌, ◌<◌, ◌+◌, ◌-◌, ◌&&◌, ◌∷◌, [], ◌++◌, ℕ, Bool, List, true, false, length, replicate, slice_get, slice_set, IfOk};
+ghost use Rattle.std.specs.Prelude.{◌≡◌, ◌≤◌, ◌<◌, ◌+◌, ◌-◌, ◌&&◌, ◌∷◌, [], ◌++◌, ℕ, Bool, List, true, false, length};
+ghost use Rattle.std.specs.Prelude.{replicate, slice_get, slice_set, IfOk};
 ghost use Rattle.ceal_code.specs.Parts.{parts_ok, weight, weights};
 ghost use Rattle.ceal_code.specs.Step.{kinds_of};
 ghost use Rattle.ceal_code.specs.Valid.{paths_ok, path_ok, onward, with_params};

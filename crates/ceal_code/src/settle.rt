@@ -4,7 +4,8 @@ ghost use Rattle.std.specs.Prelude.{◌≡◌, true, unwrap_or, if◌then◌else
 ghost use Rattle.std.specs.Option.{option_map};
 ghost use Rattle.ceal_code.specs.Init.{arguments};
 ghost use Rattle.ceal_code.specs.Stacks.{waits_in, stack_in, aside_in, landing, Stands};
-ghost use Rattle.ceal_code.specs.Step.{Stack as StackOf, Empty, command_at, entered, landed, stack_after_quiet_at, stack_after_quiet};
+ghost use Rattle.ceal_code.specs.Step.{Stack as StackOf, Empty, command_at, entered, landed, stack_after_quiet_at};
+ghost use Rattle.ceal_code.specs.Step.{stack_after_quiet};
 ghost use Rattle.ceal_code.specs.Value.{values};
 ghost use Rattle.ceal_code.specs.declared.command.Cmd.TheVariants.{Done};
 

@@ -4,7 +4,8 @@ ghost use Rattle.std.specs.Prelude.{◌≡◌, ◌<◌, length, true, false, IfO
 ghost use Rattle.std.specs.declared.alloc.Global.{Global as Allocator};
 ghost use Rattle.ceal_base.specs.Operators.{number_of};
 ghost use Rattle.ceal_code.specs.Init.{arguments};
-ghost use Rattle.ceal_code.specs.Stacks.{Began, over, waits_in, stack_in, aside_in, above_floor, under_floor, top_of, below_in, below_count, left_in};
+ghost use Rattle.ceal_code.specs.Stacks.{Began, over, waits_in, stack_in, aside_in, above_floor, under_floor, top_of};
+ghost use Rattle.ceal_code.specs.Stacks.{below_in, below_count, left_in};
 ghost use Rattle.ceal_code.specs.Step.{Empty, Run, entered, started, words_after_read};
 ghost use Rattle.ceal_code.specs.Value.{set, expr_value, values};
 
@@ -31,7 +32,8 @@ pub struct Closure {
     pub args: Words,
 }
 
-/// The continuation of a read: the unit that goes on with the content of the place, the variable of the unit that takes it,
+/// The continuation of a read: the unit that goes on with the content of the place, the variable of the unit that takes
+/// it,
 /// and the words for the unit's other parameters, where they stand.
 #[derive(Clone, Copy)]
 pub struct Continuation<'a> {
@@ -48,7 +50,8 @@ pub struct Activation {
     pub env: Vec<Word>,
 }
 
-/// Units still to do. One of them runs, or none; the others wait, over those that are set aside. What has room for the words of a
+/// Units still to do. One of them runs, or none; the others wait, over those that are set aside. What has room for the
+/// words of a
 /// unit keeps it.
 #[derive(Drop)]
 pub struct Stack {

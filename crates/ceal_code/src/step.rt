@@ -4,8 +4,10 @@ ghost use Rattle.std.specs.Prelude.{◌≡◌, ◌+◌, ◌<◌, ◌^◌, true, 
 ghost use Rattle.ceal_base.specs.Access.{holds};
 ghost use Rattle.ceal_code.specs.Init.{arguments};
 ghost use Rattle.ceal_code.specs.Program.{Code as Parts};
-ghost use Rattle.ceal_code.specs.Stacks.{waits_in, stack_in, aside_in, act_in, act_on, top_of, key_made, making_in, reading_in, step_in};
-ghost use Rattle.ceal_code.specs.Step.{Run, variable_default, entered, words_after_read, key_of, place_of, writes_at, next};
+ghost use Rattle.ceal_code.specs.Stacks.{waits_in, stack_in, aside_in, act_in, act_on, top_of, key_made, making_in};
+ghost use Rattle.ceal_code.specs.Stacks.{reading_in, step_in};
+ghost use Rattle.ceal_code.specs.Step.{Run, variable_default, entered, words_after_read, key_of, place_of, writes_at};
+ghost use Rattle.ceal_code.specs.Step.{next};
 ghost use Rattle.ceal_code.specs.Value.{Plain, set, values};
 ghost use Rattle.ceal_base.specs.declared.word.Word.TheVariants.{Num as IsNum};
 ghost use Rattle.ceal_code.specs.declared.step.Act.TheVariants.{Makes as IsMakes, Reads as IsReads};
@@ -65,7 +67,8 @@ pub struct Reading<'c> {
     pub args: &'c CodeExprs,
 }
 
-/// What the next step is. Its arguments are evaluated when they are asked for: in the unit that runs, which is still there.
+/// What the next step is. Its arguments are evaluated when they are asked for: in the unit that runs, which is still
+/// there.
 #[derive(Clone, Copy)]
 pub enum Step<'c> {
     Over,
@@ -277,7 +280,8 @@ fn perform<'c, P: PlainWords>(
 }
 
 impl Stack {
-    /// The next step of the stack, which is that after it; a block that is made and a read are to be taken from it. After
+    /// The next step of the stack, which is that after it; a block that is made and a read are to be taken from it.
+    /// After
     /// running out of memory it is of no further use.
     #[tactic(auto, unfolding(crate::specs::Step::next))]
     pub fn step<'c, P: PlainWords>(

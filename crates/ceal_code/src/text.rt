@@ -1,7 +1,10 @@
 // Pieces of the text of code.
 
 ghost use Rattle.std.specs.Prelude.{◌≡◌, ◌++◌, ◌∷◌, [], codes, length, slice_get, IfOk};
-ghost use Rattle.ceal_code.specs.Listing.{field_name, name_of_struct, name_of_function, unary_sign, binary_sign, is_pick, without_index, var_text, unit_text, expr_text, more_exprs, exprs_inside, exprs_text, more_vars, vars_inside, vars_text, shape_text, indent};
+ghost use Rattle.ceal_code.specs.Listing.{field_name, name_of_struct, name_of_function, unary_sign, binary_sign};
+ghost use Rattle.ceal_code.specs.Listing.{is_pick, without_index, var_text, unit_text, expr_text, more_exprs};
+ghost use Rattle.ceal_code.specs.Listing.{exprs_inside, exprs_text, more_vars, vars_inside, vars_text, shape_text};
+ghost use Rattle.ceal_code.specs.Listing.{indent};
 
 use crate::code::Code;
 use crate::expr::{CodeExpr, VarId};

@@ -14,7 +14,8 @@ ghost use Rattle.ceal_code.specs.Init.{made};
 ghost use Rattle.ceal_code.specs.PlainWords.{block_shape, block_word};
 ghost use Rattle.ceal_code.specs.Program.{Code as Parts};
 ghost use Rattle.ceal_code.specs.Replay.{Store, learnt, input_plain, plain_of, bases, cleared, stored};
-ghost use Rattle.ceal_code.specs.Tables.{code_in, inputs_in, plain_in, store_in, word_in, memory_in, plain_item, plain_flat, store_item, store_flat, defaulted, plain_field_word};
+ghost use Rattle.ceal_code.specs.Tables.{code_in, inputs_in, plain_in, store_in, word_in, memory_in, plain_item};
+ghost use Rattle.ceal_code.specs.Tables.{plain_flat, store_item, store_flat, defaulted, plain_field_word};
 
 use crate::code::Code;
 use crate::contents::{Fields, base};

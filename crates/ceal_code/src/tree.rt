@@ -1,7 +1,9 @@
 // Whether a unit's body goes forward and is a tree.
 
-ghost use Rattle.std.specs.Prelude.{◌≡◌, ◌<◌, ◌^◌, ◌∷◌, ◌&&◌, [], ℕ, Bool, List, true, false, Some, None, if◌then◌else◌, slice_get, unwrap_or, IfOk};
-ghost use Rattle.ceal_code.specs.Valid.{goes_forward, all_forward, reached, followers, all_followers, all_true, all_but_first, is_tree};
+ghost use Rattle.std.specs.Prelude.{◌≡◌, ◌<◌, ◌^◌, ◌∷◌, ◌&&◌, [], ℕ, Bool, List, true, false, Some, None};
+ghost use Rattle.std.specs.Prelude.{if◌then◌else◌, slice_get, unwrap_or, IfOk};
+ghost use Rattle.ceal_code.specs.Valid.{goes_forward, all_forward, reached, followers, all_followers, all_true};
+ghost use Rattle.ceal_code.specs.Valid.{all_but_first, is_tree};
 
 use crate::command::{Cmd, Followers};
 use crate::paths::{no_flags, set_flag};

@@ -4,7 +4,9 @@ ghost use Rattle.std.specs.Prelude.{◌≡◌, slice_get, unwrap_or, false};
 ghost use Rattle.ceal_base.specs.Kinds.{same_kind, is_pointer};
 ghost use Rattle.ceal_base.specs.declared.kind.Shape.TheVariants.{Struct};
 ghost use Rattle.ceal_base.specs.Shapes.{row_at};
-ghost use Rattle.ceal_code.specs.Valid.{is_place, fits, fits_maybe, one_type, int_if, element_type, binary_type, is_row_of, starts_row, left_suits, variable_type, points_to, plain_type, cell_type, type_of};
+ghost use Rattle.ceal_code.specs.Valid.{is_place, fits, fits_maybe, one_type, int_if, element_type, binary_type};
+ghost use Rattle.ceal_code.specs.Valid.{is_row_of, starts_row, left_suits, variable_type, points_to, plain_type};
+ghost use Rattle.ceal_code.specs.Valid.{cell_type, type_of};
 ghost use Rattle.ceal_code.specs.Value.{field_kind};
 
 use crate::expr::{CodeExpr, VarId};

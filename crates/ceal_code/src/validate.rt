@@ -1,7 +1,10 @@
 // Whether code is valid.
 
-ghost use Rattle.std.specs.Prelude.{◌≡◌, ◌<◌, ◌≤◌, ◌&&◌, ◌+◌, ◌^◌, ℕ, Bool, List, true, false, length, replicate, slice_get, IfOk};
-ghost use Rattle.ceal_code.specs.Valid.{kind_ok, kinds_ok, field_ok, fields_ok, same_field, row_goes_on, row_whole, rows_ok, structs_ok, is_prefix, below, is_core, unit_ok, units_ok, entry_ok, is_empty, function_ok, functions_ok, valid};
+ghost use Rattle.std.specs.Prelude.{◌≡◌, ◌<◌, ◌≤◌, ◌&&◌, ◌+◌, ◌^◌, ℕ, Bool, List, true, false, length, replicate};
+ghost use Rattle.std.specs.Prelude.{slice_get, IfOk};
+ghost use Rattle.ceal_code.specs.Valid.{kind_ok, kinds_ok, field_ok, fields_ok, same_field, row_goes_on, row_whole};
+ghost use Rattle.ceal_code.specs.Valid.{rows_ok, structs_ok, is_prefix, below, is_core, unit_ok, units_ok, entry_ok};
+ghost use Rattle.ceal_code.specs.Valid.{is_empty, function_ok, functions_ok, valid};
 
 use crate::code::Code;
 use crate::evaluate::is_modifiable;
@@ -332,7 +335,8 @@ fn are_functions_ok(
 }
 
 /// Whether code is valid: every number in it is in range, the body of each unit is a tree that is gone through
-/// forwards, so that each command lies on a path from the first, a variable is used only where it has a word, expressions have the types that are asked, and no unit
+/// forwards, so that each command lies on a path from the first, a variable is used only where it has a word,
+/// expressions have the types that are asked, and no unit
 /// goes on to another without a step.
 #[tactic(auto, unfolding(crate::specs::Valid::valid))]
 pub fn validate(alloc: Global, code: &Code) -> Result<bool, NoMemory>

@@ -27,7 +27,8 @@ pub struct Floor {
     pub words: usize,
 }
 
-/// Units that wait, the next one last, and the words of their variables one after another. Those below the floor are set aside.
+/// Units that wait, the next one last, and the words of their variables one after another. Those below the floor are
+/// set aside.
 #[derive(Drop)]
 pub struct Waits {
     units: Vec<Waiting>,

@@ -1,5 +1,6 @@
 -- Trace code treats the numbers of core blocks alike.
-use Rattle.std.proofs.Common.{◌≡◌, ℕ, zero, suc, ◌+◌, ◌^◌, nat_lt, ℤ, pos, negsuc, Bool, true, false, ◌==◌, ◌&&◌, not, if◌then◌else◌, Option, Some, None, List, [], ◌∷◌, refl, ap, ◌∙◌, subst, slice_get, unwrap_or, is_some, map, arith}
+use Rattle.std.proofs.Common.{◌≡◌, ℕ, zero, suc, ◌+◌, ◌^◌, nat_lt, ℤ, pos, negsuc, Bool, true, false, ◌==◌, ◌&&◌, not, if◌then◌else◌, Option, Some, None, List, [], ◌∷◌, refl, ap, ◌∙◌, subst}
+use Rattle.std.proofs.Common.{slice_get, unwrap_or, is_some, map, arith}
 use Rattle.ceal_base.specs.Access.{of_struct, is_struct, place_in, holds}
 use Rattle.ceal_base.specs.Block.{Block}
 use Rattle.ceal_base.specs.Operators.{number_of, unary_value, binary_value, element, picked_element, truth, same_block, same_place, same_word}
@@ -23,10 +24,12 @@ use Rattle.ceal_base.specs.declared.word.Word.{Word}
 use Rattle.ceal_base.specs.declared.word.Word.TheVariants.{Null, Block as BlockWord, At}
 use Rattle.ceal_code.proofs.Words.Closed.{unary-of, binary-of, default-of, field_default-of, kind_default-of}
 use Rattle.ceal_code.proofs.Words.PickedRows.{IfPick}
-use Rattle.ceal_code.specs.Alike.{Pairs, Tied, IdAlike, PlaceAlike, WordAlike, WordsAlike, KeyAlike, VariablesAlike, StackAlike, ActAlike, FieldsAlike, BlockAlike, MaybeAlike, PlainAlike, TraceAlike, Within, OneToOne}
+use Rattle.ceal_code.specs.Alike.{Pairs, Tied, IdAlike, PlaceAlike, WordAlike, WordsAlike, KeyAlike, VariablesAlike, StackAlike, ActAlike, FieldsAlike, BlockAlike, MaybeAlike, PlainAlike, TraceAlike}
+use Rattle.ceal_code.specs.Alike.{Within, OneToOne}
 use Rattle.ceal_code.specs.Init.{set_plain, set_by, set_by_row, set_by_all, arguments, made_by, made, pointer}
 use Rattle.ceal_code.specs.Program.{Code}
-use Rattle.ceal_code.specs.Step.{Stack, Run, Quiet, unit_at, command_at, entry_of, variable_default, kinds_of, bound, entered, first_word, later_words, woven, words_after_read, key_of, place_of, writes_at, reads_at, act, landed, stack_after_quiet_at, stack_after_quiet, acted, next}
+use Rattle.ceal_code.specs.Step.{Stack, Run, Quiet, unit_at, command_at, entry_of, variable_default, kinds_of, bound, entered, first_word, later_words, woven, words_after_read, key_of, place_of}
+use Rattle.ceal_code.specs.Step.{writes_at, reads_at, act, landed, stack_after_quiet_at, stack_after_quiet, acted, next}
 use Rattle.ceal_code.specs.Value.{Plain, Variables, unset, set, field_kind, is_cell, field_default, plain_word, field_in, field_value, address_value, expr_value, operand_value, values}
 use Rattle.ceal_code.specs.declared.command.Cmd.{Cmd}
 use Rattle.ceal_code.specs.declared.command.Cmd.TheVariants.{Move, Tick, Alloc, Modref, Write, If, Done, Tail, Read, Call}
@@ -268,7 +271,8 @@ module _ (ps : Pairs) where
         → WordAlike ps (field_in (field_kind structs (Struct s) field) (of_struct s o) field) (field_in (field_kind structs (Struct s) field) (of_struct s q) field)
     in-alike MaybeAlike.none = field_default-self (field_kind structs (Struct s) field)
     in-alike (MaybeAlike.some {b = b} {c = c} h) =
-        subst (λ t. WordAlike ps (field_in (field_kind structs (Struct s) field) (if is_struct s b.shape then Some b else None) field) (field_in (field_kind structs (Struct s) field) (if t then Some c else None) field))
+        subst (λ t. WordAlike ps (field_in (field_kind structs (Struct s) field) (if is_struct s b.shape then Some b else None) field)
+        (field_in (field_kind structs (Struct s) field) (if t then Some c else None) field))
         (ap (is_struct s) h.shape) (in-if b c (is_struct s b.shape) refl h)
 
     some-if : (b c : Block) (t : Bool) → is_some (if t then Some b else None) ≡ is_some (if t then Some c else None)
@@ -380,7 +384,8 @@ module _ (ps : Pairs) (one : OneToOne ps) where
       values-alike [] = WordsAlike.none
       values-alike (e ∷ es) = WordsAlike.more (value-alike e) (values-alike es)
 
-      fields-if : (b : Bool) {kinds : List FieldKind} {vs ws vs' ws' : List Word} → FieldsAlike ps kinds vs ws → FieldsAlike ps kinds vs' ws' → FieldsAlike ps kinds (if b then vs else vs') (if b then ws else ws')
+      fields-if : (b : Bool) {kinds : List FieldKind} {vs ws vs' ws' : List Word} → FieldsAlike ps kinds vs ws → FieldsAlike ps kinds vs' ws'
+          → FieldsAlike ps kinds (if b then vs else vs') (if b then ws else ws')
       fields-if true h k = h
       fields-if false h k = k
 
@@ -392,7 +397,8 @@ module _ (ps : Pairs) (one : OneToOne ps) where
               → FieldsAlike ps (kinds_of_shape structs (Struct s)) (set_by structs x env s vs stmt) (set_by structs y env' s ws stmt)
           set_by-alike (Set field e) h = fields-set ps h field (value-alike e)
           set_by-alike (IfStmt' test _ first _ second) {vs} {ws} h =
-              subst (λ t. FieldsAlike ps (kinds_of_shape structs (Struct s)) (if holds (expr_value structs x env test) then set_by_row structs x env s vs first else set_by_row structs x env s vs second)
+              subst (λ t. FieldsAlike ps (kinds_of_shape structs (Struct s))
+              (if holds (expr_value structs x env test) then set_by_row structs x env s vs first else set_by_row structs x env s vs second)
               (if t then set_by_row structs y env' s ws first else set_by_row structs y env' s ws second))
               (holds-alike ps (value-alike test)) (fields-if (holds (expr_value structs x env test)) (row-alike first h) (row-alike second h))
 
@@ -437,10 +443,12 @@ module _ (ps : Pairs) (one : OneToOne ps) where
     writes-alike (WordAlike.at p) h k = ActAlike.writes p h k
 
     null-alike : (u : UnitId) (v : ℕ) {vs ws : List Word} {st st' : Stack} → WordsAlike ps vs ws → StackAlike ps st st'
-        → ActAlike ps (Quiet (entered code u.0 (words_after_read code u.0 v vs (variable_default code u.0 v)) st)) (Quiet (entered code u.0 (words_after_read code u.0 v ws (variable_default code u.0 v)) st'))
+        → ActAlike ps (Quiet (entered code u.0 (words_after_read code u.0 v vs (variable_default code u.0 v)) st))
+        (Quiet (entered code u.0 (words_after_read code u.0 v ws (variable_default code u.0 v)) st'))
     null-alike u v h k = ActAlike.quiet (words_after_read-alike ps code u.0 v h (kind_default-self ps (slice_get (kinds_of code (unit_at code u.0).function) v)) k)
 
-    reads-alike : {p q : Word} (u : UnitId) (v : ℕ) {vs ws : List Word} {st st' : Stack} → WordAlike ps p q → WordsAlike ps vs ws → StackAlike ps st st' → ActAlike ps (reads_at code (place_of p) u v vs st) (reads_at code (place_of q) u v ws st')
+    reads-alike : {p q : Word} (u : UnitId) (v : ℕ) {vs ws : List Word} {st st' : Stack} → WordAlike ps p q → WordsAlike ps vs ws → StackAlike ps st st'
+        → ActAlike ps (reads_at code (place_of p) u v vs st) (reads_at code (place_of q) u v ws st')
     reads-alike u v WordAlike.num h k = null-alike u v h k
     reads-alike u v WordAlike.null h k = null-alike u v h k
     reads-alike u v (WordAlike.block p) h k = null-alike u v h k

@@ -46,7 +46,8 @@ cleared-alike code b c ps one {k} {l} kk s t h p q i =
     (id-both (record { left = b; right = c } ∷ ps) one i.block (IdAlike.core Tied.here)) (go (same_block p.block (Core b)) refl)
   where
     go : (e : Bool) → same_block p.block (Core b) ≡ e
-        → WordAlike (record { left = b; right = c } ∷ ps) (if e then cell_default (field_kind code.structs (shape_of code k) p.field) else s p) (if e then cell_default (field_kind code.structs (shape_of code l) q.field) else t q)
+        → WordAlike (record { left = b; right = c } ∷ ps) (if e then cell_default (field_kind code.structs (shape_of code k) p.field) else s p)
+        (if e then cell_default (field_kind code.structs (shape_of code l) q.field) else t q)
     go true e = rw (shape-alike code kk, i.field) (cell-if (record { left = b; right = c } ∷ ps) (field_kind code.structs (shape_of code l) q.field))
     go false e = word-wider ps (record { left = b; right = c } ∷ ps) (more-pair (record { left = b; right = c }) ps) (h p q (record { block = narrow b c ps i.block e; field = i.field }))
 
@@ -58,7 +59,8 @@ cleared-tied code ps one b c i {k} {l} kk s t h p q j =
     subst (λ z. WordAlike ps (if same_block p.block b then cell_default (field_kind code.structs (shape_of code k) p.field) else s p)
     (if z then cell_default (field_kind code.structs (shape_of code l) q.field) else t q)) (id-both ps one j.block i) (go (same_block p.block b))
   where
-    go : (e : Bool) → WordAlike ps (if e then cell_default (field_kind code.structs (shape_of code k) p.field) else s p) (if e then cell_default (field_kind code.structs (shape_of code l) q.field) else t q)
+    go : (e : Bool) → WordAlike ps (if e then cell_default (field_kind code.structs (shape_of code k) p.field) else s p)
+        (if e then cell_default (field_kind code.structs (shape_of code l) q.field) else t q)
     go true = rw (shape-alike code kk, j.field) (cell-if ps (field_kind code.structs (shape_of code l) q.field))
     go false = h p q j
 

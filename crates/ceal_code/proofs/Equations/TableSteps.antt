@@ -1,5 +1,6 @@
 -- The tables of a trace's memory, call by call.
-use Rattle.std.proofs.Common.{◌≡◌, ℕ, zero, suc, ◌+◌, ◌==◌, ◌&&◌, Bool, true, false, cond, if◌then◌else◌, Option, Some, None, List, [], ◌∷◌, ◌++◌, length, append_assoc, append-nil, slice_get, refl, sym, ap, ◌∙◌, unwrap_or, arith}
+use Rattle.std.proofs.Common.{◌≡◌, ℕ, zero, suc, ◌+◌, ◌==◌, ◌&&◌, Bool, true, false, cond, if◌then◌else◌, Option, Some, None, List, [], ◌∷◌, ◌++◌, length, append_assoc, append-nil, slice_get, refl}
+use Rattle.std.proofs.Common.{sym, ap, ◌∙◌, unwrap_or, arith}
 use Rattle.std.specs.BTreeMap.{get}
 use Rattle.std.specs.Option.{option_map}
 use Rattle.std.specs.Ordering.{is_eq}
@@ -135,12 +136,14 @@ pub contents-clear : (old next : TraceMemory) (fields : Fields) (id : BlockId) (
     → shape ≡ shape_of (code_in old) key → store_in next ≡ cleared (code_in old) (store_in old) id key
 unfolding store_in cleared
 contents-clear old next fields id shape key e i fresh update k = fun_ext (λ q.
-    ap (λ o. word_in (code_in next) (bases (code_in next) (inputs_in next)) o q) (update q.block ∙ ap (λ b. cond b (Some fields) (get ghosts.cmp old.contents q.block)) (eq-block id q.block ∙ sym (block-flip id q.block)))
+    ap (λ o. word_in (code_in next) (bases (code_in next) (inputs_in next)) o q)
+    (update q.block ∙ ap (λ b. cond b (Some fields) (get ghosts.cmp old.contents q.block)) (eq-block id q.block ∙ sym (block-flip id q.block)))
     ∙ rw (e, i) (go q (same_block q.block id)))
   where
     go : (q : Place) (b : Bool)
         → word_in (code_in old) (bases (code_in old) (inputs_in old)) (cond b (Some fields) (get ghosts.cmp old.contents q.block)) q
-        ≡ (if b then cell_default (field_kind (code_in old).structs (shape_of (code_in old) key) q.field) else word_in (code_in old) (bases (code_in old) (inputs_in old)) (get ghosts.cmp old.contents q.block) q)
+        ≡ (if b then cell_default (field_kind (code_in old).structs (shape_of (code_in old) key) q.field) else word_in (code_in old) (bases (code_in old) (inputs_in old))
+        (get ghosts.cmp old.contents q.block) q)
     go q true = fresh (code_in old) (bases (code_in old) (inputs_in old)) q ∙ rw k refl
     go q false = refl
 
@@ -151,7 +154,8 @@ pub contents-known : (old next : TraceMemory) (fields : Fields) (id : BlockId) (
     → store_in next ≡ defaulted (code_in old) (store_in old) id block
 unfolding store_in defaulted
 contents-known old next fields id block e i fresh update = fun_ext (λ q.
-    ap (λ o. word_in (code_in next) (bases (code_in next) (inputs_in next)) o q) (update q.block ∙ ap (λ b. cond b (Some fields) (get ghosts.cmp old.contents q.block)) (eq-block id q.block ∙ sym (block-flip id q.block)))
+    ap (λ o. word_in (code_in next) (bases (code_in next) (inputs_in next)) o q)
+    (update q.block ∙ ap (λ b. cond b (Some fields) (get ghosts.cmp old.contents q.block)) (eq-block id q.block ∙ sym (block-flip id q.block)))
     ∙ rw (e, i) (go q (same_block q.block id)))
   where
     go : (q : Place) (b : Bool)

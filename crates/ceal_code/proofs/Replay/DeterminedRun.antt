@@ -1,5 +1,6 @@
 -- Items that a stack yields and that are honest determine the run of a stack like it over a memory like their store.
-use Rattle.std.proofs.Common.{◌≡◌, ℕ, zero, suc, ◌+◌, ◌-◌, ◌<◌, ◌≤◌, nat_le, Bool, true, false, Option, Some, None, List, [], ◌∷◌, ◌++◌, length, append_assoc, ◌⊎◌, inl, inr, refl, sym, ap, ap₂, ◌∙◌, subst, slice_get, slice_set, arith}
+use Rattle.std.proofs.Common.{◌≡◌, ℕ, zero, suc, ◌+◌, ◌-◌, ◌<◌, ◌≤◌, nat_le, Bool, true, false, Option, Some, None, List, [], ◌∷◌, ◌++◌, length, append_assoc, ◌⊎◌, inl, inr, refl, sym, ap, ap₂, ◌∙◌}
+use Rattle.std.proofs.Common.{subst, slice_get, slice_set, arith}
 use Rattle.ceal_base.specs.Access.{content_of}
 use Rattle.ceal_base.specs.Block.{Block, Blocks, block_at, written_at}
 use Rattle.ceal_base.specs.Finished.{with_block}
@@ -20,7 +21,8 @@ use Rattle.ceal_code.proofs.Alike.AlikeActs.{QuietToo, MakesToo, WritesToo, Read
 use Rattle.ceal_code.proofs.Alike.AlikeSteps.{key-wider, variables-wider, stack-wider, set-alike, words_after_read-alike, pointer-alike, made-alike, next-alike}
 use Rattle.ceal_code.proofs.Alike.AlikeStores.{cleared-alike, stored-alike, plain-with}
 use Rattle.ceal_code.proofs.Words.Closed.{OfStack, OfKey, OfAct, next-of, set-of, words_after_read-of}
-use Rattle.ceal_code.proofs.Replay.MemoryChanges.{contents, CellThere, content-read, altered, written-here, written-other, written-count, written-contents, grown-here, grown-other, grown-count, grown-contents}
+use Rattle.ceal_code.proofs.Replay.MemoryChanges.{contents, CellThere, content-read, altered, written-here, written-other, written-count, written-contents, grown-here, grown-other, grown-count}
+use Rattle.ceal_code.proofs.Replay.MemoryChanges.{grown-contents}
 use Rattle.ceal_code.proofs.Replay.StackOver.{next-on}
 use Rattle.ceal_code.proofs.Alike.BlockPairs.{within-trans, one-within, more-pair, tied-with, tied-case}
 use Rattle.ceal_code.proofs.Words.ValidPicks.{Starts, picks-valid}
@@ -76,7 +78,8 @@ fields-word (FieldsAlike.int_cell k) (suc n) h = fields-word k n h
 fields-word (FieldsAlike.pointer_cell {w = w} k) zero h = (w, refl)
 fields-word (FieldsAlike.pointer_cell k) (suc n) h = fields-word k n h
 
-fields-cell : {ps : Pairs} {kinds : List FieldKind} {vs ws : List Word} → FieldsAlike ps kinds vs ws → (n : ℕ) (w : Word) → is_cell (slice_get kinds n) ≡ true → FieldsAlike ps kinds vs (slice_set ws n w)
+fields-cell : {ps : Pairs} {kinds : List FieldKind} {vs ws : List Word} → FieldsAlike ps kinds vs ws → (n : ℕ) (w : Word) → is_cell (slice_get kinds n) ≡ true
+    → FieldsAlike ps kinds vs (slice_set ws n w)
 fields-cell FieldsAlike.none n w h = FieldsAlike.none
 fields-cell (FieldsAlike.plain l k) zero w h = absurd (grind (arith, h))
 fields-cell (FieldsAlike.plain l k) (suc n) w h = FieldsAlike.plain l (fields-cell k n w h)
@@ -162,7 +165,8 @@ module _ (code : Code) where
     acts : (ps : Pairs) (s : Store) (m : Blocks) → Stands ps s m → {st st' : Stack} → StackAlike ps st st' → (a : Act) → next code x st ≡ a → ActAlike ps a (next code (block_at m) st')
     acts ps s m h {st} {st'} k a e = subst (λ a. ActAlike ps a (next code (block_at m) st')) e (next-alike ps (one-within ps big h.within one) code x (block_at m) h.plain k)
 
-    places : valid code ≡ true → (ps : Pairs) (s : Store) (m : Blocks) → Stands ps s m → (st : Stack) → OfStack (Placed code.structs m) st → (a : Act) → next code (block_at m) st ≡ a → OfAct (Placed code.structs m) a
+    places : valid code ≡ true → (ps : Pairs) (s : Store) (m : Blocks) → Stands ps s m → (st : Stack) → OfStack (Placed code.structs m) st → (a : Act) → next code (block_at m) st ≡ a
+        → OfAct (Placed code.structs m) a
     places ok ps s m h st k a e = subst (OfAct (Placed code.structs m)) e
         (next-of (Starts code.structs) (Placed code.structs m) code (block_at m) (placed-closed code.structs m h.well (rows-valid code ok)) (picks-valid code ok) st k)
 
@@ -208,7 +212,8 @@ module _ (code : Code) where
     makes-runs : (m : Blocks) (st below' : Stack) (key : Key) (v u i b : ℕ) (env : Variables) (key0 : Key) (memory : Blocks) (l : Trace) → next code (block_at m) st ≡ Makes key v u i env below'
         → ((below : Stack) (n f steps k : ℕ) → n ≡ steps_of l + f → k ≡ steps + steps_of l
         → run code n steps (with_block m (made code (block_at m) key)) (on (Run u i (set env v (pointer key (Core (length m.made)))) below') below) ≡ run code f k memory below)
-        → (below : Stack) (n f steps k : ℕ) → n ≡ steps_of (Stepped (Allocated (Core b) key0 l)) + f → k ≡ steps + steps_of (Stepped (Allocated (Core b) key0 l)) → run code n steps m (on st below) ≡ run code f k memory below
+        → (below : Stack) (n f steps k : ℕ) → n ≡ steps_of (Stepped (Allocated (Core b) key0 l)) + f → k ≡ steps + steps_of (Stepped (Allocated (Core b) key0 l)) → run code n steps m (on st below)
+        ≡ run code f k memory below
     makes-runs m st below' key v u i b env key0 memory l e h below zero f steps k hn hk = absurd (omega (arith, hn))
     makes-runs m st below' key v u i b env key0 memory l e h below (suc n) f steps k hn hk =
         one-step n steps m st below (Makes key v u i env below') e ∙ h below n f (steps + 1) k (omega (arith, hn)) (omega (arith, hk))
@@ -226,7 +231,8 @@ module _ (code : Code) where
     inward-with n k b bs after e t h c d Tied.here = t
     inward-with n k b bs after e t h c d (Tied.there s) = within-trans (numbered (n + 1) bs) (numbered k bs) after (numbered-at (n + 1) k bs (sym e)) h c d s
 
-    runs-makes : (ps : Pairs) (m : Blocks) (st below' : Stack) (key : Key) (v u i b : ℕ) (env : Variables) (key0 : Key) (l : Trace) (s' : Store) → WellPlaced code.structs m → next code (block_at m) st ≡ Makes key v u i env below'
+    runs-makes : (ps : Pairs) (m : Blocks) (st below' : Stack) (key : Key) (v u i b : ℕ) (env : Variables) (key0 : Key) (l : Trace) (s' : Store) → WellPlaced code.structs m → next code (block_at m) st
+        ≡ Makes key v u i env below'
         → Runs (record { left = b; right = length m.made } ∷ ps) (with_block m (made code (block_at m) key)) (Run u i (set env v (pointer key (Core (length m.made)))) below') l s'
         → Runs ps m st (Stepped (Allocated (Core b) key0 l)) s'
     runs-makes ps m st below' key v u i b env key0 l s' well e r = record {
@@ -254,7 +260,8 @@ module _ (code : Code) where
     writes-short m st after p q v w l e h below zero steps hn = no-step steps m st below (Writes q w after) e
     writes-short m st after p q v w l e h below (suc n) steps hn = one-step n steps m st below (Writes q w after) e ∙ h below n (steps + 1) (omega (arith, hn))
 
-    runs-writes : (ps : Pairs) (m : Blocks) (st after : Stack) (p q : Place) (v w : Word) (l : Trace) (s' : Store) → WellPlaced code.structs m → CellThere code.structs m q → next code (block_at m) st ≡ Writes q w after
+    runs-writes : (ps : Pairs) (m : Blocks) (st after : Stack) (p q : Place) (v w : Word) (l : Trace) (s' : Store) → WellPlaced code.structs m → CellThere code.structs m q → next code (block_at m) st
+        ≡ Writes q w after
         → Runs ps (written_at m q.block q.field w) after l s' → Runs ps m st (Stepped (Wrote p v l)) s'
     runs-writes ps m st after p q v w l s' well cell e r = record {
       after = r.after;
@@ -272,9 +279,11 @@ module _ (code : Code) where
     -- what the run reads
     reads-runs : (m m1 : Blocks) (st below' : Stack) (p q : Place) (v w : Word) (u : UnitId) (y : ℕ) (args args' : List Word) (memory : Blocks) (i l : Trace)
         → next code (block_at m) st ≡ Reads q u y args' below' → content_of m (At q) (variable_default code u.0 y) ≡ w
-        → ((below : Stack) (n f steps k : ℕ) → n ≡ steps_of i + f → k ≡ steps + steps_of i → run code n steps m (on (entered code u.0 (words_after_read code u.0 y args' w) Empty) below) ≡ run code f k m1 below)
+        → ((below : Stack) (n f steps k : ℕ) → n ≡ steps_of i + f → k ≡ steps + steps_of i → run code n steps m (on (entered code u.0 (words_after_read code u.0 y args' w) Empty) below)
+        ≡ run code f k m1 below)
         → ((below : Stack) (n f steps k : ℕ) → n ≡ steps_of l + f → k ≡ steps + steps_of l → run code n steps m1 (on below' below) ≡ run code f k memory below)
-        → (below : Stack) (n f steps k : ℕ) → n ≡ steps_of (Stepped (WasRead p v u y args i l)) + f → k ≡ steps + steps_of (Stepped (WasRead p v u y args i l)) → run code n steps m (on st below) ≡ run code f k memory below
+        → (below : Stack) (n f steps k : ℕ) → n ≡ steps_of (Stepped (WasRead p v u y args i l)) + f → k ≡ steps + steps_of (Stepped (WasRead p v u y args i l)) → run code n steps m (on st below)
+        ≡ run code f k memory below
     reads-runs m m1 st below' p q v w u y args args' memory i l e c h g below zero f steps k hn hk = absurd (omega (arith, hn))
     reads-runs m m1 st below' p q v w u y args args' memory i l e c h g below (suc n) f steps k hn hk =
         one-step n steps m st below (Reads q u y args' below') e
@@ -284,7 +293,8 @@ module _ (code : Code) where
 
     reads-short : (m m1 : Blocks) (st below' : Stack) (p q : Place) (v w : Word) (u : UnitId) (y : ℕ) (args args' : List Word) (i l : Trace)
         → next code (block_at m) st ≡ Reads q u y args' below' → content_of m (At q) (variable_default code u.0 y) ≡ w
-        → ((below : Stack) (n f steps k : ℕ) → n ≡ steps_of i + f → k ≡ steps + steps_of i → run code n steps m (on (entered code u.0 (words_after_read code u.0 y args' w) Empty) below) ≡ run code f k m1 below)
+        → ((below : Stack) (n f steps k : ℕ) → n ≡ steps_of i + f → k ≡ steps + steps_of i → run code n steps m (on (entered code u.0 (words_after_read code u.0 y args' w) Empty) below)
+        ≡ run code f k m1 below)
         → ((below : Stack) (n steps : ℕ) → n < steps_of i → run code n steps m (on (entered code u.0 (words_after_read code u.0 y args' w) Empty) below) ≡ None)
         → ((below : Stack) (n steps : ℕ) → n < steps_of l → run code n steps m1 (on below' below) ≡ None)
         → (below : Stack) (n steps : ℕ) → n < steps_of (Stepped (WasRead p v u y args i l)) → run code n steps m (on st below) ≡ None
@@ -343,14 +353,16 @@ module _ (code : Code) where
     plain-grown ps s m key h b c (IdAlike.input {i = i}) = h.plain (Input i) (Input i) IdAlike.input
     plain-grown ps s m key h b c (IdAlike.core {b = d} {c = e} t) = rw (grown-other m (made code (block_at m) key) e (h.bound d e t)) (h.plain (Core d) (Core e) (IdAlike.core t))
 
-    bound-with : (m : Blocks) (block : Block) (ps : Pairs) (b : ℕ) → ((d c : ℕ) → Tied d c ps → c < length m.made) → (d c : ℕ) → Tied d c (record { left = b; right = length m.made } ∷ ps) → c < length (with_block m block).made
+    bound-with : (m : Blocks) (block : Block) (ps : Pairs) (b : ℕ) → ((d c : ℕ) → Tied d c ps → c < length m.made) → (d c : ℕ) → Tied d c (record { left = b; right = length m.made } ∷ ps)
+        → c < length (with_block m block).made
     bound-with m block ps b h d c t = go (tied-case d c (record { left = b; right = length m.made }) ps t)
       where
         go : ((b ≡ d) × (length m.made ≡ c)) ⊎ Tied d c ps → c < length (with_block m block).made
         go (inl e) = omega (arith, e.1, grown-count m block)
         go (inr t) = omega (arith, h d c t, grown-count m block)
 
-    stands-new : valid code ≡ true → (ps : Pairs) (s : Store) (m : Blocks) (b : ℕ) (key key' : Key) → Stands ps s m → KeyAlike ps key key' → OfKey (Placed code.structs m) key' → x (Core b) ≡ Some (made code x key) → Tied b (length m.made) big
+    stands-new : valid code ≡ true → (ps : Pairs) (s : Store) (m : Blocks) (b : ℕ) (key key' : Key) → Stands ps s m → KeyAlike ps key key' → OfKey (Placed code.structs m) key' → x (Core b)
+        ≡ Some (made code x key) → Tied b (length m.made) big
         → Stands (record { left = b; right = length m.made } ∷ ps) (cleared code s (Core b) key) (with_block m (made code (block_at m) key'))
     stands-new ok ps s m b key key' h kk c e t =
         let within = tied-with b (length m.made) ps big h.within t in
@@ -365,7 +377,8 @@ module _ (code : Code) where
           bound = bound-with m (made code (block_at m) key') ps b h.bound;
         }
 
-    rest-within : (n k : ℕ) (is ls : List BlockId) (rest : List ℕ) → k ≡ n + length (core_numbers is) → Within (numbered n (core_numbers (is ++ ls) ++ rest)) big → Within (numbered k (core_numbers ls ++ rest)) big
+    rest-within : (n k : ℕ) (is ls : List BlockId) (rest : List ℕ) → k ≡ n + length (core_numbers is) → Within (numbered n (core_numbers (is ++ ls) ++ rest)) big
+        → Within (numbered k (core_numbers ls ++ rest)) big
     rest-within n k is ls rest e z =
         within-trans (numbered k (core_numbers ls ++ rest)) (numbered n (core_numbers is ++ (core_numbers ls ++ rest))) big
         (numbered-rest n k (core_numbers is) (core_numbers ls ++ rest) e) (rw (cores-append is ls, append_assoc (core_numbers is) (core_numbers ls) rest) at z)
@@ -373,19 +386,24 @@ module _ (code : Code) where
     first-within : (n : ℕ) (is ls : List BlockId) (rest : List ℕ) → Within (numbered n (core_numbers (is ++ ls) ++ rest)) big → Within (numbered n (core_numbers is ++ (core_numbers ls ++ rest))) big
     first-within n is ls rest z = rw (cores-append is ls, append_assoc (core_numbers is) (core_numbers ls) rest) at z
 
-    pub determined : valid code ≡ true → {st : Stack} {l : Trace} → Yields code x st l → (ps : Pairs) (s : Store) (m : Blocks) → Stands ps s m → {st' : Stack} → StackAlike ps st st' → OfStack (Placed code.structs m) st'
+    pub determined : valid code ≡ true → {st : Stack} {l : Trace} → Yields code x st l → (ps : Pairs) (s : Store) (m : Blocks) → Stands ps s m → {st' : Stack} → StackAlike ps st st'
+        → OfStack (Placed code.structs m) st'
         → {s' : Store} → Honest code s l s' → (rest : List ℕ) → Within (numbered (length m.made) (core_numbers (blocks_of l) ++ rest)) big → Runs ps m st' l s'
     determined ok (Yields.over e) ps s m h {st'} k c Honest.end rest z = runs-over ps s m st' h (over-too ps (next code (block_at m) st') (acts ps s m h k Over e))
     determined ok (Yields.quiet {after = after} {rest = l} e r) ps s m h {st'} k c {s'} (Honest.step w) rest z =
         go (quiet-too ps after (next code (block_at m) st') (acts ps s m h k (Quiet after) e)) (λ after' alike placed. determined ok r ps s m h alike placed w rest z)
       where
-        go : QuietToo ps after (next code (block_at m) st') → ((after' : Stack) → StackAlike ps after after' → OfStack (Placed code.structs m) after' → Runs ps m after' l s') → Runs ps m st' (Stepped l) s'
+        go : QuietToo ps after (next code (block_at m) st') → ((after' : Stack) → StackAlike ps after after' → OfStack (Placed code.structs m) after' → Runs ps m after' l s')
+            → Runs ps m st' (Stepped l) s'
         go q f = runs-quiet ps m st' q.after' l s' q.is (f q.after' q.alike (places ok ps s m h st' c (Quiet q.after') q.is))
     determined ok (Yields.makes {key = key} {v = v} {u = u} {i = i} {env = env} {below = below} {b = b} {rest = l} e g r) ps s m h {st'} k c {s'} (Honest.step (Honest.alloc w)) rest z =
         go (makes-too ps key v u i env below (next code (block_at m) st') (acts ps s m h k (Makes key v u i env below) e))
-        (λ key' st'' stands alike placed. determined ok r (record { left = b; right = length m.made } ∷ ps) (cleared code s (Core b) key) (with_block m (made code (block_at m) key')) stands alike placed w rest
-        (within-trans (numbered (length (with_block m (made code (block_at m) key')).made) (core_numbers (blocks_of l) ++ rest)) (numbered (length m.made) (b ∷ (core_numbers (blocks_of l) ++ rest))) big
-        (numbered-rest (length m.made) (length (with_block m (made code (block_at m) key')).made) (b ∷ []) (core_numbers (blocks_of l) ++ rest) (omega (arith, grown-count m (made code (block_at m) key')))) z))
+        (λ key' st'' stands alike placed. determined ok r (record { left = b; right = length m.made } ∷ ps) (cleared code s (Core b) key)
+        (with_block m (made code (block_at m) key')) stands alike placed w rest
+        (within-trans (numbered (length (with_block m (made code (block_at m) key')).made) (core_numbers (blocks_of l) ++ rest))
+        (numbered (length m.made) (b ∷ (core_numbers (blocks_of l) ++ rest))) big
+        (numbered-rest (length m.made) (length (with_block m (made code (block_at m) key')).made) (b ∷ []) (core_numbers (blocks_of l) ++ rest)
+        (omega (arith, grown-count m (made code (block_at m) key')))) z))
       where
         go : MakesToo ps key v u i env below (next code (block_at m) st')
             → ((key' : Key) (st'' : Stack) → Stands (record { left = b; right = length m.made } ∷ ps) (cleared code s (Core b) key) (with_block m (made code (block_at m) key'))
@@ -414,7 +432,8 @@ module _ (code : Code) where
         (rw count z))
       where
         go : WritesToo ps p value after (next code (block_at m) st')
-            → ((p' : Place) (value' : Word) (after' : Stack) → length (written_at m p'.block p'.field value').made ≡ length m.made → Stands ps (stored s p value) (written_at m p'.block p'.field value')
+            → ((p' : Place) (value' : Word) (after' : Stack) → length (written_at m p'.block p'.field value').made ≡ length m.made
+            → Stands ps (stored s p value) (written_at m p'.block p'.field value')
             → StackAlike ps after after' → OfStack (Placed code.structs (written_at m p'.block p'.field value')) after' → Runs ps (written_at m p'.block p'.field value') after' l s')
             → Runs ps m st' (Stepped (Wrote p value l)) s'
         go q f =
@@ -423,14 +442,16 @@ module _ (code : Code) where
             runs-writes ps m st' q.after' p q.p' value q.value' l s' h.well cell q.is
             (f q.p' q.value' q.after' (written-count m q.p'.block q.p'.field q.value' cell.block cell.there) (stands-write ps s m p q.p' value q.value' h q.places q.words cell a.1) q.alike
             (stack-keeps code.structs m (written_at m q.p'.block q.p'.field q.value') (written-keeps code.structs m h.well q.p'.block q.p'.field q.value' cell.block cell.there) q.after' a.2))
-    determined ok (Yields.reads {below = below} {p = p} {u = u} {v = y} {args = args} {value = value} {inside = i} {rest = l} e r1 r2) ps s m h {st'} k c {s'} (Honest.step (Honest.read {t = t} f w1 w2)) rest z =
+    determined ok (Yields.reads {below = below} {p = p} {u = u} {v = y} {args = args} {value = value} {inside = i} {rest = l} e r1 r2) ps s m h {st'} k c {s'}
+        (Honest.step (Honest.read {t = t} f w1 w2)) rest z =
         go (reads-too ps p u y args below (next code (block_at m) st') (acts ps s m h k (Reads p u y args below) e))
         (λ st'' alike placed. determined ok r1 ps s m h alike placed w1 (core_numbers (blocks_of l) ++ rest) (first-within (length m.made) (blocks_of i) (blocks_of l) rest z))
         (λ qs m1 st'' count stands alike placed. determined ok r2 qs t m1 stands alike placed w2 rest (rest-within (length m.made) (length m1.made) (blocks_of i) (blocks_of l) rest count z))
       where
         go : ReadsToo ps p u y args below (next code (block_at m) st')
             → ((st'' : Stack) → StackAlike ps (entered code u.0 (words_after_read code u.0 y args value) Empty) st'' → OfStack (Placed code.structs m) st'' → Runs ps m st'' i t)
-            → ((qs : Pairs) (m1 : Blocks) (st'' : Stack) → length m1.made ≡ length m.made + length (core_numbers (blocks_of i)) → Stands qs t m1 → StackAlike qs below st'' → OfStack (Placed code.structs m1) st'' → Runs qs m1 st'' l s')
+            → ((qs : Pairs) (m1 : Blocks) (st'' : Stack) → length m1.made ≡ length m.made + length (core_numbers (blocks_of i)) → Stands qs t m1 → StackAlike qs below st''
+            → OfStack (Placed code.structs m1) st'' → Runs qs m1 st'' l s')
             → Runs ps m st' (Stepped (WasRead p value u y args i l)) s'
         go q g1 g2 =
             let a = places ok ps s m h st' c (Reads q.p' u y q.args' q.below') q.is in

@@ -1,6 +1,7 @@
 -- The memory of the run that honest items determine is the store and the plain words of the items, up to the numbers of
 -- core blocks.
-use Rattle.std.proofs.Common.{◌≡◌, ℕ, zero, suc, ◌+◌, ◌<◌, ◌≤◌, ◌==◌, nat_eq, Bool, true, false, Option, Some, None, List, [], ◌∷◌, length, map, ◌⊎◌, inl, inr, refl, sym, ap, ap₂, ◌∙◌, subst, slice_get, slice_index, arith}
+use Rattle.std.proofs.Common.{◌≡◌, ℕ, zero, suc, ◌+◌, ◌<◌, ◌≤◌, ◌==◌, nat_eq, Bool, true, false, Option, Some, None, List, [], ◌∷◌, length, map, ◌⊎◌, inl, inr, refl, sym, ap, ap₂, ◌∙◌, subst}
+use Rattle.std.proofs.Common.{slice_get, slice_index, arith}
 use Rattle.std.specs.List.{IsDistinct, AllByRecursion}
 use Rattle.std.specs.Option.{option_map}
 use Rattle.ceal_base.specs.Block.{Block, Blocks, block_at}
@@ -136,7 +137,8 @@ module _ (bs : List ℕ) (distinct : Distinct bs) where
   words-named s b n (FieldsAlike.pointer_cell {s = y} {kinds = kinds} {w = w} {ws = ws} k) h =
       ap₂ ◌∷◌ (word-named (first s b n (CellPtr y) kinds w ws refl h)) (words-named s b (n + 1) k (later s b n (CellPtr y) kinds w ws h))
 
-  module _ (code : Code) (x : Plain) (s : Store) (m : Blocks) (ps : Pairs) (within : Within ps (numbered 0 bs)) (plain : PlainAlike code.structs ps x (block_at m)) (store : StoreAlike ps s (contents code m)) where
+  module _ (code : Code) (x : Plain) (s : Store) (m : Blocks) (ps : Pairs) (within : Within ps (numbered 0 bs)) (plain : PlainAlike code.structs ps x (block_at m))
+      (store : StoreAlike ps s (contents code m)) where
     content-named : (c : BlockId) (w : Block) → block_at m c ≡ Some w → (j : ℕ) (z : Word) → is_cell (field_kind code.structs w.shape j) ≡ true → slice_get w.words j ≡ Some z
         → contents code m (record { block = c; field = j }) ≡ z
     unfolding contents
@@ -151,7 +153,8 @@ module _ (bs : List ℕ) (distinct : Distinct bs) where
         cell : (j : ℕ) (z : Word) → is_cell (field_kind code.structs w.shape j) ≡ true → slice_get w.words j ≡ Some z → WordAlike (numbered 0 bs) (s (record { block = b; field = 0 + j })) z
         cell j z k g =
             let n : 0 + j ≡ j = omega arith in
-            rw (n, ← content-named c w e j z k g) (word-wider ps (numbered 0 bs) within (store (record { block = b; field = j }) (record { block = c; field = j }) (record { block = i; field = refl })))
+            rw (n, ← content-named c w e j z k g)
+            (word-wider ps (numbered 0 bs) within (store (record { block = b; field = j }) (record { block = c; field = j }) (record { block = i; field = refl })))
 
     -- a block of the memory
     pub block-named : (b c : BlockId) → IdAlike ps b c → option_map (renamed_block bs) (block_after code x s b) ≡ block_at m c

@@ -1,5 +1,6 @@
 -- What a write and a new block change in a memory, and what they leave.
-use Rattle.std.proofs.Common.{◌≡◌, ℕ, pos, zero, suc, ◌+◌, ◌<◌, ◌==◌, ◌&&◌, Bool, true, false, Option, Some, None, List, [], ◌∷◌, ◌++◌, length, if◌then◌else◌, refl, ap, ◌∙◌, slice_get, slice_set, unwrap_or, map, arith}
+use Rattle.std.proofs.Common.{◌≡◌, ℕ, pos, zero, suc, ◌+◌, ◌<◌, ◌==◌, ◌&&◌, Bool, true, false, Option, Some, None, List, [], ◌∷◌, ◌++◌, length, if◌then◌else◌, refl, ap, ◌∙◌, slice_get, slice_set}
+use Rattle.std.proofs.Common.{unwrap_or, map, arith}
 use Rattle.std.specs.Prelude.{⊤}
 use Rattle.ceal_base.specs.Access.{content_of, holds}
 use Rattle.ceal_base.specs.Block.{Block, Blocks, block_at, with_word, written_at}
@@ -190,7 +191,8 @@ module _ (structs : List StructInfo) (x : Plain) (env : Variables) (s : ℕ) whe
         defaults-if (holds (expr_value structs x env test)) (kinds_of_shape structs (Struct s)) (set_by_row structs x env s ws first) (set_by_row structs x env s ws second)
         (row-defaults ws first h) (row-defaults ws second h)
 
-    row-defaults : (ws : List Word) {n : _} (row : Row_of-InitStmt n) → AtDefaults (kinds_of_shape structs (Struct s)) ws → AtDefaults (kinds_of_shape structs (Struct s)) (set_by_row structs x env s ws row)
+    row-defaults : (ws : List Word) {n : _} (row : Row_of-InitStmt n) → AtDefaults (kinds_of_shape structs (Struct s)) ws
+        → AtDefaults (kinds_of_shape structs (Struct s)) (set_by_row structs x env s ws row)
     row-defaults ws end_of-InitStmt h = h
     row-defaults ws (more_of-InitStmt stmt rest) h = row-defaults (set_by structs x env s ws stmt) rest (set_by-defaults ws stmt h)
 

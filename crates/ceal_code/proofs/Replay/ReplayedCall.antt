@@ -1,5 +1,6 @@
 -- A trace that replays a call and is honest determines the run of the call from scratch.
-use Rattle.std.proofs.Common.{◌≡◌, ℕ, pos, zero, suc, ◌+◌, ◌-◌, ◌<◌, ◌≤◌, Bool, true, false, if◌then◌else◌, Option, Some, None, List, [], ◌∷◌, ◌++◌, length, map, append-nil, refl, sym, ap, ◌∙◌, slice_get, slice_index, unwrap_or, arith}
+use Rattle.std.proofs.Common.{◌≡◌, ℕ, pos, zero, suc, ◌+◌, ◌-◌, ◌<◌, ◌≤◌, Bool, true, false, if◌then◌else◌, Option, Some, None, List, [], ◌∷◌, ◌++◌, length, map, append-nil, refl, sym, ap, ◌∙◌}
+use Rattle.std.proofs.Common.{slice_get, slice_index, unwrap_or, arith}
 use Rattle.std.specs.Option.{option_map}
 use Rattle.ceal_base.specs.Block.{Block, Blocks, block_at}
 use Rattle.ceal_base.specs.Fitting.{inputs_fit}
@@ -24,7 +25,8 @@ use Rattle.ceal_code.specs.Determined.{Determined}
 use Rattle.ceal_code.specs.Fitting.{Fits}
 use Rattle.ceal_code.specs.Fresh.{run, fresh}
 use Rattle.ceal_code.specs.Program.{Code}
-use Rattle.ceal_code.specs.Replay.{Yields, Store, KnownWords, core_numbers, learnt, plain_words, plain_block, input_plain, plain_after, plain_of, content_in, input_block, bases, Replays, IsHonest, with_contents, filled, block_after, inputs_after}
+use Rattle.ceal_code.specs.Replay.{Yields, Store, KnownWords, core_numbers, learnt, plain_words, plain_block, input_plain, plain_after, plain_of, content_in, input_block, bases, Replays, IsHonest}
+use Rattle.ceal_code.specs.Replay.{with_contents, filled, block_after, inputs_after}
 use Rattle.ceal_code.specs.Init.{made}
 use Rattle.ceal_code.specs.Step.{Stack, Empty, chosen, started, unit_at, entry_of, stack_after_quiet, next}
 use Rattle.ceal_code.specs.Value.{Plain, field_kind, is_cell, field_default}
@@ -73,7 +75,8 @@ module _ (code : Code) (inputs : List Block) where
       go None e = MaybeAlike.none
       go (Some block) e = MaybeAlike.some (record { shape = refl; fields = input-self code.structs inputs fit ps i block e })
 
-  content-self : (ps : Pairs) (fit : inputs_fit code.structs inputs ≡ true) (i f : ℕ) (o : Option Block) → slice_get inputs i ≡ o → WordAlike ps (content_in code.structs o f) (content_in code.structs o f)
+  content-self : (ps : Pairs) (fit : inputs_fit code.structs inputs ≡ true) (i f : ℕ) (o : Option Block) → slice_get inputs i ≡ o
+      → WordAlike ps (content_in code.structs o f) (content_in code.structs o f)
   content-self ps fit i f None e = WordAlike.num
   content-self ps fit i f (Some block) e = go (is_cell (field_kind code.structs block.shape f))
     where
@@ -83,7 +86,8 @@ module _ (code : Code) (inputs : List Block) where
 
       go : (t : Bool) → WordAlike ps (if t then unwrap_or (slice_get block.words f) (field_default (field_kind code.structs block.shape f)) else Num (pos 0))
           (if t then unwrap_or (slice_get block.words f) (field_default (field_kind code.structs block.shape f)) else Num (pos 0))
-      go true = get-of (λ w. WordAlike ps w w) (λ n. WordAlike.num) WordAlike.null block.words f (field_default (field_kind code.structs block.shape f)) (known block.words (input-known code.structs inputs fit i block e))
+      go true = get-of (λ w. WordAlike ps w w) (λ n. WordAlike.num) WordAlike.null block.words f (field_default (field_kind code.structs block.shape f))
+          (known block.words (input-known code.structs inputs fit i block e))
           (field_default-self ps (field_kind code.structs block.shape f))
       go false = WordAlike.num
 
@@ -147,7 +151,8 @@ module _ (code : Code) (inputs : List Block) (f : ℕ) (args : List Word) (fits 
   unfolding plain_of
   input-is i = input-after code r.yields (input_plain code inputs) i
 
-  begin : Stands code (plain_of code inputs l) (numbered 0 (core_numbers (blocks_of l))) (numbered-one (core_numbers (blocks_of l)) r.distinct) [] (bases code inputs) (record { inputs = inputs; made = [] })
+  begin : Stands code (plain_of code inputs l) (numbered 0 (core_numbers (blocks_of l))) (numbered-one (core_numbers (blocks_of l)) r.distinct) [] (bases code inputs)
+      (record { inputs = inputs; made = [] })
   begin = record {
     plain = plain;
     store = begin-store code inputs [] fits.blocks;
@@ -161,9 +166,11 @@ module _ (code : Code) (inputs : List Block) (f : ℕ) (args : List Word) (fits 
       plain b c (IdAlike.core t) = elim t [ ]
 
   -- the run that stands for the trace
-  the-run : Runs code (plain_of code inputs l) (numbered 0 (core_numbers (blocks_of l))) (numbered-one (core_numbers (blocks_of l)) r.distinct) [] (record { inputs = inputs; made = [] }) (started code f args) l h.after
+  the-run : Runs code (plain_of code inputs l) (numbered 0 (core_numbers (blocks_of l))) (numbered-one (core_numbers (blocks_of l)) r.distinct) [] (record { inputs = inputs; made = [] })
+      (started code f args) l h.after
   the-run =
-      determined code (plain_of code inputs l) (numbered 0 (core_numbers (blocks_of l))) (numbered-one (core_numbers (blocks_of l)) r.distinct) fits.is_valid r.yields [] (bases code inputs) (record { inputs = inputs; made = [] }) begin
+      determined code (plain_of code inputs l) (numbered 0 (core_numbers (blocks_of l))) (numbered-one (core_numbers (blocks_of l)) r.distinct) fits.is_valid r.yields [] (bases code inputs)
+      (record { inputs = inputs; made = [] }) begin
       (started-alike code (length inputs) [] f args (args-known code inputs f args fits))
       (entered-of (Placed code.structs (record { inputs = inputs; made = [] })) (λ n. tt) tt code (entry_of code f) (chosen (unit_at code (entry_of code f)).params args) Empty
       (chosen-of (Placed code.structs (record { inputs = inputs; made = [] })) (λ n. tt) tt (unit_at code (entry_of code f)).params args (args-placed code inputs f args fits)) tt)
@@ -184,7 +191,8 @@ module _ (code : Code) (inputs : List Block) (f : ℕ) (args : List Word) (fits 
       ∙ (ap (option_map (renamed_block (core_numbers (blocks_of l)))) (get-after code h.after 0 inputs i ∙ input-filled i (slice_get inputs i) refl) ∙ named (Input i) (Input i) IdAlike.input)
 
   core-named : (i : ℕ) → i < length (core_numbers (blocks_of l))
-      → option_map (renamed_block (core_numbers (blocks_of l))) (block_after code (plain_of code inputs l) h.after (Core (slice_index (core_numbers (blocks_of l)) i))) ≡ slice_get the-run.memory.made i
+      → option_map (renamed_block (core_numbers (blocks_of l))) (block_after code (plain_of code inputs l) h.after (Core (slice_index (core_numbers (blocks_of l)) i)))
+      ≡ slice_get the-run.memory.made i
   core-named i k =
       let n : 0 + i ≡ i = omega arith in
       named (Core (slice_index (core_numbers (blocks_of l)) i)) (Core i)

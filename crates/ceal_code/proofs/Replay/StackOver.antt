@@ -73,11 +73,13 @@ module _ (code : Code) (x : Plain) (below : Stack) (later : Act) where
     at-on u i env (Call f args w others) e = run-on u i env st (Call f args w others) e tt
 
 module _ (code : Code) (x : Plain) (below : Stack) where
-  stack_after_quiet-on : (st : Stack) → acted code x (stack_after_quiet code x (on st below)) ≡ act_on (acted code x (stack_after_quiet code x st)) below (acted code x (stack_after_quiet code x below))
+  stack_after_quiet-on : (st : Stack) → acted code x (stack_after_quiet code x (on st below))
+      ≡ act_on (acted code x (stack_after_quiet code x st)) below (acted code x (stack_after_quiet code x below))
   unfolding stack_after_quiet
   stack_after_quiet-on Empty = refl
   stack_after_quiet-on (Run u i env st) =
-      at-on code x below (acted code x (stack_after_quiet code x below)) st (stack_after_quiet code x (on st below)) (stack_after_quiet code x st) (stack_after_quiet-on st) u i env (command_at code u i) refl
+      at-on code x below (acted code x (stack_after_quiet code x below)) st (stack_after_quiet code x (on st below)) (stack_after_quiet code x st) (stack_after_quiet-on st) u i env
+      (command_at code u i) refl
 
   pub next-on : (st : Stack) → next code x (on st below) ≡ act_on (next code x st) below (next code x below)
   unfolding next

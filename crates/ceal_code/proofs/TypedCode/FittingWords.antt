@@ -165,7 +165,8 @@ module _ (structs : List StructInfo) (inputs : List Block) where
     pub input-known : (i : ℕ) (block : Block) → slice_get inputs i ≡ Some block → KnownWords (length inputs) [] block.words
     input-known i block e = known-each block.words (fields-fine (kinds_of_shape structs block.shape) block.words (input-fits fit i block e))
 
-    pub input-self : (ps : Pairs) (i : ℕ) (block : Block) → slice_get inputs i ≡ Some block → FieldsAlike ps (kinds_of_shape structs block.shape) (plain_words (kinds_of_shape structs block.shape) block.words) block.words
+    pub input-self : (ps : Pairs) (i : ℕ) (block : Block) → slice_get inputs i ≡ Some block
+        → FieldsAlike ps (kinds_of_shape structs block.shape) (plain_words (kinds_of_shape structs block.shape) block.words) block.words
     input-self ps i block e = fields-self ps (kinds_of_shape structs block.shape) block.words (input-fits fit i block e)
 
     pub plain-self : (ps : Pairs) (i : ℕ) (block : Block) → slice_get inputs i ≡ Some block

@@ -20,7 +20,8 @@ use Rattle.ceal_code.proofs.TypedCode.TypedStack.{ParamsTyped, StackTyped, Takes
 use Rattle.ceal_code.specs.Program.{Unit as CodeUnit, Code}
 use Rattle.ceal_code.specs.Running.{Modifiable, ExprThere, ExprsThere, UnitThere}
 use Rattle.ceal_code.specs.Step.{Stack, unit_at, entry_of, kinds_of, entered, first_word, later_words, woven, words_after_read}
-use Rattle.ceal_code.specs.Valid.{Typing, fits, fits_maybe, type_of, all_fit, params_fit, others, unit_fits, read_fits, entry_fits, call_fits, place_fits, write_fits, path_ok, paths_ok, is_core, is_prefix, kinds_ok, below as all_below, entry_ok, function_ok, valid}
+use Rattle.ceal_code.specs.Valid.{Typing, fits, fits_maybe, type_of, all_fit, params_fit, others, unit_fits, read_fits, entry_fits, call_fits, place_fits, write_fits, path_ok, paths_ok, is_core}
+use Rattle.ceal_code.specs.Valid.{is_prefix, kinds_ok, below as all_below, entry_ok, function_ok, valid}
 use Rattle.ceal_code.specs.Value.{Variables, expr_value, values}
 use Rattle.ceal_code.specs.declared.command.Cmd.{Cmd}
 use Rattle.ceal_code.specs.declared.command.Cmd.TheVariants.{Move, Tick, Alloc, Modref, Write, If, Done, Tail, Read, Call}
@@ -92,7 +93,8 @@ module _ (code : Code) (m : Blocks) where
   int-takes p value (Some (CellPtr s)) e h k = absurd (grind (arith, h))
   int-takes p value (Some CellInt) e h k = record { kind = CellInt; there = e; cell = refl; fits' = k }
 
-  pointer-takes : (s : ℕ) (p : Place) (value : Word) (o : Option FieldKind) → kind_at code.structs m p ≡ o → is_pointer_cell s o ≡ true → fits_kind code.structs m (Ptr s) value ≡ true → Takes code m p value
+  pointer-takes : (s : ℕ) (p : Place) (value : Word) (o : Option FieldKind) → kind_at code.structs m p ≡ o → is_pointer_cell s o ≡ true → fits_kind code.structs m (Ptr s) value ≡ true
+      → Takes code m p value
   pointer-takes s p value None e h k = absurd (grind (arith, h))
   pointer-takes s p value (Some (PlainField kind)) e h k = absurd (grind (arith, h))
   pointer-takes s p value (Some CellInt) e h k = absurd (grind (arith, h))
@@ -107,13 +109,15 @@ module _ (code : Code) (m : Blocks) where
   takes-typed p value (Some (Of ModInt)) t h k l = int-takes p value (kind_at code.structs m p) refl k (fits-word code.structs m Int t value h l)
   takes-typed p value (Some (Of (ModPtr s))) t h k l = pointer-takes s p value (kind_at code.structs m p) refl k (fits-word code.structs m (Ptr s) t value h l)
 
-  int-gives : (F : Word → Type 0) (p : Place) (o : Option FieldKind) → kind_at code.structs m p ≡ o → is_int_cell o ≡ true → ((w : Word) → fits_kind code.structs m Int w ≡ true → F w) → Gives code m p F
+  int-gives : (F : Word → Type 0) (p : Place) (o : Option FieldKind) → kind_at code.structs m p ≡ o → is_int_cell o ≡ true → ((w : Word) → fits_kind code.structs m Int w ≡ true → F w)
+      → Gives code m p F
   int-gives F p None e h g = absurd (grind (arith, h))
   int-gives F p (Some (PlainField kind)) e h g = absurd (grind (arith, h))
   int-gives F p (Some (CellPtr s)) e h g = absurd (grind (arith, h))
   int-gives F p (Some CellInt) e h g = record { kind = CellInt; there = e; cell = refl; goes = g }
 
-  pointer-gives : (s : ℕ) (F : Word → Type 0) (p : Place) (o : Option FieldKind) → kind_at code.structs m p ≡ o → is_pointer_cell s o ≡ true → ((w : Word) → fits_kind code.structs m (Ptr s) w ≡ true → F w) → Gives code m p F
+  pointer-gives : (s : ℕ) (F : Word → Type 0) (p : Place) (o : Option FieldKind) → kind_at code.structs m p ≡ o → is_pointer_cell s o ≡ true
+      → ((w : Word) → fits_kind code.structs m (Ptr s) w ≡ true → F w) → Gives code m p F
   pointer-gives s F p None e h g = absurd (grind (arith, h))
   pointer-gives s F p (Some (PlainField kind)) e h g = absurd (grind (arith, h))
   pointer-gives s F p (Some CellInt) e h g = absurd (grind (arith, h))
@@ -126,18 +130,22 @@ module _ (code : Code) (m : Blocks) where
   gives-typed F p (Some ModInt) t h k g = absurd (grind (arith, h))
   gives-typed F p (Some (ModPtr s)) t h k g = absurd (grind (arith, h))
   gives-typed F p (Some Int) t h k g =
-      int-gives F p (kind_at code.structs m p) refl (fits-word code.structs m ModInt t (At p) h k) (λ w l. g w (λ kind i. subst (λ kind. fits_kind code.structs m kind w ≡ true) (some-same Int kind i) l))
+      int-gives F p (kind_at code.structs m p) refl (fits-word code.structs m ModInt t (At p) h k)
+      (λ w l. g w (λ kind i. subst (λ kind. fits_kind code.structs m kind w ≡ true) (some-same Int kind i) l))
   gives-typed F p (Some (Ptr s)) t h k g =
-      pointer-gives s F p (kind_at code.structs m p) refl (fits-word code.structs m (ModPtr s) t (At p) h k) (λ w l. g w (λ kind i. subst (λ kind. fits_kind code.structs m kind w ≡ true) (some-same (Ptr s) kind i) l))
+      pointer-gives s F p (kind_at code.structs m p) refl (fits-word code.structs m (ModPtr s) t (At p) h k)
+      (λ w l. g w (λ kind i. subst (λ kind. fits_kind code.structs m kind w ≡ true) (some-same (Ptr s) kind i) l))
 
-  woven-typed : (kinds : List Kind) (v : ℕ) (w : Word) → ((kind : Kind) → slice_get kinds v ≡ Some kind → fits_kind code.structs m kind w ≡ true) → (ps : List VarId) (ws : List Word) → ParamsTyped code m kinds (others v ps) ws
+  woven-typed : (kinds : List Kind) (v : ℕ) (w : Word) → ((kind : Kind) → slice_get kinds v ≡ Some kind → fits_kind code.structs m kind w ≡ true) → (ps : List VarId) (ws : List Word)
+      → ParamsTyped code m kinds (others v ps) ws
       → ParamsTyped code m kinds ps (woven ps v w ws)
   unfolding others woven
   woven-typed kinds v w k [] ws h = tt
   woven-typed kinds v w k (p ∷ ps) ws h = go (woven-typed kinds v w k ps) ws (p.0 == v) refl h
     where
       go : ((ws : List Word) → ParamsTyped code m kinds (others v ps) ws → ParamsTyped code m kinds ps (woven ps v w ws)) → (ws : List Word) (t : Bool) → (p.0 == v) ≡ t
-          → ParamsTyped code m kinds (if t then others v ps else p ∷ others v ps) ws → ParamsTyped code m kinds (p ∷ ps) (if t then w ∷ woven ps v w ws else first_word ws ∷ woven ps v w (later_words ws))
+          → ParamsTyped code m kinds (if t then others v ps else p ∷ others v ps) ws
+          → ParamsTyped code m kinds (p ∷ ps) (if t then w ∷ woven ps v w ws else first_word ws ∷ woven ps v w (later_words ws))
       go again ws true e h = let j : p.0 ≡ v = nat-same p.0 v e in (λ kind i. k kind (rw j at i), again ws h)
       go again [] false e h = absurd h
       go again (z ∷ ws) false e h = (h.0, again ws h.1)
@@ -153,7 +161,8 @@ module _ (code : Code) (ok : valid code ≡ true) (m : Blocks) (typed : MemoryTy
     there-if None e h = absurd (grind (arith, h))
     there-if (Some kind) e h = asked-there code.structs m (rows-valid code ok) typed (kinds_of code f) known env envs kind e h
 
-    params-typed : (theirs : List Kind) (ps : List VarId) (es : List CodeExpr) → params_fit code.structs (kinds_of code f) known theirs ps es ≡ true → ParamsTyped code m theirs ps (values code.structs (block_at m) env es)
+    params-typed : (theirs : List Kind) (ps : List VarId) (es : List CodeExpr) → params_fit code.structs (kinds_of code f) known theirs ps es ≡ true
+        → ParamsTyped code m theirs ps (values code.structs (block_at m) env es)
     unfolding params_fit values
     params-typed theirs [] [] h = tt
     params-typed theirs [] (e ∷ es) h = absurd (grind (arith, h))
@@ -162,7 +171,8 @@ module _ (code : Code) (ok : valid code ≡ true) (m : Blocks) (typed : MemoryTy
         let k = both (fits_maybe (slice_get theirs p.0) (type_of code.structs (kinds_of code f) known e)) (params_fit code.structs (kinds_of code f) known theirs ps es) h in
         (λ kind i. asked theirs p.0 e kind k.0 i, params-typed theirs ps es k.1)
 
-    params-there : (theirs : List Kind) (ps : List VarId) (es : List CodeExpr) → params_fit code.structs (kinds_of code f) known theirs ps es ≡ true → ExprsThere code.structs m (kinds_of code f) env es
+    params-there : (theirs : List Kind) (ps : List VarId) (es : List CodeExpr) → params_fit code.structs (kinds_of code f) known theirs ps es ≡ true
+        → ExprsThere code.structs m (kinds_of code f) env es
     unfolding params_fit
     params-there theirs [] [] h = tt
     params-there theirs [] (e ∷ es) h = absurd (grind (arith, h))
@@ -186,7 +196,8 @@ module _ (code : Code) (ok : valid code ≡ true) (m : Blocks) (typed : MemoryTy
     params-count theirs [] (e ∷ es) h = absurd (grind (arith, h))
     params-count theirs (p ∷ ps) [] h = absurd (grind (arith, h))
     params-count theirs (p ∷ ps) (e ∷ es) h =
-        let k = both (fits_maybe (slice_get theirs p.0) (type_of code.structs (kinds_of code f) known e)) (params_fit code.structs (kinds_of code f) known theirs ps es) h in ap suc (params-count theirs ps es k.1)
+        let k = both (fits_maybe (slice_get theirs p.0) (type_of code.structs (kinds_of code f) known e)) (params_fit code.structs (kinds_of code f) known theirs ps es) h in ap suc
+        (params-count theirs ps es k.1)
 
     -- a unit of a function, on arguments
     pub record GoesTo (g w : ℕ) (args : List CodeExpr) : Type 0 where
@@ -194,13 +205,15 @@ module _ (code : Code) (ok : valid code ≡ true) (m : Blocks) (typed : MemoryTy
       pub args' : ExprsThere code.structs m (kinds_of code f) env args
       pub enters : (st : Stack) → StackTyped code m st → StackTyped code m (entered code w (values code.structs (block_at m) env args) st)
 
-    goes-to : (g w : ℕ) (args : List CodeExpr) (unit : CodeUnit) → slice_get code.units w ≡ Some unit → unit.function ≡ g → params_fit code.structs (kinds_of code f) known (kinds_of code g) unit.params args ≡ true → GoesTo g w args
+    goes-to : (g w : ℕ) (args : List CodeExpr) (unit : CodeUnit) → slice_get code.units w ≡ Some unit → unit.function ≡ g
+        → params_fit code.structs (kinds_of code f) known (kinds_of code g) unit.params args ≡ true → GoesTo g w args
     goes-to g w args unit e i h =
         let ws = params-typed (kinds_of code g) unit.params args h in
         record {
           unit = record { there = get-within code.units w unit e; function = rw e i; words = rw e (params-count (kinds_of code g) unit.params args h) };
           args' = params-there (kinds_of code g) unit.params args h;
-          enters = λ st k. enter code ok m w unit (values code.structs (block_at m) env args) st e (subst (λ g. ParamsTyped code m (kinds_of code g) unit.params (values code.structs (block_at m) env args)) (sym i) ws) k;
+          enters = λ st k. enter code ok m w unit (values code.structs (block_at m) env args) st e
+              (subst (λ g. ParamsTyped code m (kinds_of code g) unit.params (values code.structs (block_at m) env args)) (sym i) ws) k;
         }
 
     pub unit-entered : (w : ℕ) (args : List CodeExpr) (o : Option CodeUnit) → slice_get code.units w ≡ o → unit_fits code f known o args ≡ true → GoesTo f w args
@@ -245,7 +258,8 @@ module _ (code : Code) (ok : valid code ≡ true) (m : Blocks) (typed : MemoryTy
     entry-entered g w n args (Some unit) e k h =
         let p = both (unit.function == g) (all_below n unit.params) k in goes-to g w args unit e (nat-same unit.function g p.0) h
 
-    entry-right : (g : ℕ) (name : List ℕ) (entry : UnitId) (params : List Kind) (kinds : List Kind) → function_ok code g (CoreFunction name entry params) kinds ≡ true → entry_ok g (length params) (slice_get code.units entry.0) ≡ true
+    entry-right : (g : ℕ) (name : List ℕ) (entry : UnitId) (params : List Kind) (kinds : List Kind) → function_ok code g (CoreFunction name entry params) kinds ≡ true
+        → entry_ok g (length params) (slice_get code.units entry.0) ≡ true
     entry-right g name entry params kinds h = (both (is_prefix params kinds && kinds_ok code.structs kinds) (entry_ok g (length params) (slice_get code.units entry.0)) h).1
 
     pub callee : (g : ℕ) (args : List CodeExpr) (o : Option FunctionCode) → slice_get code.functions g ≡ o → call_fits code f known g o args ≡ true → Callee g args

@@ -1,5 +1,6 @@
 -- What valid code says of its functions and units, and a new block of valid code fits.
-use Rattle.std.proofs.Common.{◌≡◌, ℕ, zero, suc, ◌+◌, ◌<◌, ◌&&◌, nat_lt, Bool, true, false, if◌then◌else◌, Option, Some, None, List, [], ◌∷◌, length, replicate, refl, sym, ap, subst, slice_get, slice_set, unwrap_or, map, arith}
+use Rattle.std.proofs.Common.{◌≡◌, ℕ, zero, suc, ◌+◌, ◌<◌, ◌&&◌, nat_lt, Bool, true, false, if◌then◌else◌, Option, Some, None, List, [], ◌∷◌, length, replicate, refl, sym, ap, subst, slice_get}
+use Rattle.std.proofs.Common.{slice_set, unwrap_or, map, arith}
 use Rattle.std.specs.Prelude.{⊤}
 use Rattle.ceal_base.specs.Access.{holds}
 use Rattle.ceal_base.specs.Block.{Blocks, block_at}
@@ -40,7 +41,8 @@ pub record FunctionAt (code : Code) (kinds : List (List Kind)) (f g : ℕ) (func
   pub there : slice_get kinds g ≡ Some kinds'
   pub ok : function_ok code f function kinds' ≡ true
 
-functions-in : (code : Code) (f k : ℕ) (functions : List FunctionCode) (kinds : List (List Kind)) → functions_ok code f functions kinds ≡ true → (g : ℕ) (function : FunctionCode) → slice_get functions g ≡ Some function → k ≡ f + g
+functions-in : (code : Code) (f k : ℕ) (functions : List FunctionCode) (kinds : List (List Kind)) → functions_ok code f functions kinds ≡ true → (g : ℕ) (function : FunctionCode)
+    → slice_get functions g ≡ Some function → k ≡ f + g
     → FunctionAt code kinds k g function
 unfolding functions_ok
 functions-in code f k [] [] h g function e i = none-some function e
@@ -83,7 +85,8 @@ module _ (code : Code) (ok : valid code ≡ true) where
 
 module _ (structs : List StructInfo) (m : Blocks) where
   -- a field gets a word that fits it
-  pub fields-set : (kinds : List FieldKind) (ws : List Word) (n : ℕ) (kind : FieldKind) (w : Word) → fields_fit structs m kinds ws ≡ true → slice_get kinds n ≡ Some kind → fits_field structs m kind w ≡ true
+  pub fields-set : (kinds : List FieldKind) (ws : List Word) (n : ℕ) (kind : FieldKind) (w : Word) → fields_fit structs m kinds ws ≡ true → slice_get kinds n ≡ Some kind → fits_field structs m kind w
+      ≡ true
       → fields_fit structs m kinds (slice_set ws n w) ≡ true
   fields-set [] [] n kind w h e k = h
   fields-set [] (v ∷ ws) n kind w h e k = absurd (grind (arith, h))
@@ -103,7 +106,8 @@ module _ (structs : List StructInfo) (m : Blocks) where
   defaults-fit (CellPtr s ∷ kinds) = defaults-fit kinds
 
   -- one word for each parameter, which fits it
-  pub word-at : (kinds : List Kind) (ws : List Word) → words_fit structs m kinds ws ≡ true → (v : ℕ) (kind : Kind) → slice_get kinds v ≡ Some kind → fits_kind structs m kind (unwrap_or (slice_get ws v) Null) ≡ true
+  pub word-at : (kinds : List Kind) (ws : List Word) → words_fit structs m kinds ws ≡ true → (v : ℕ) (kind : Kind) → slice_get kinds v ≡ Some kind
+      → fits_kind structs m kind (unwrap_or (slice_get ws v) Null) ≡ true
   word-at [] ws h v kind e = none-some kind e
   word-at (k ∷ kinds) [] h v kind e = absurd (grind (arith, h))
   word-at (k ∷ kinds) (w ∷ ws) h zero kind e =
@@ -121,7 +125,8 @@ module _ (structs : List StructInfo) (m : Blocks) where
   arguments-typed params known args h v kind e k = word-at params args h v kind e
 
   module _ (rows : RowsHold structs) (typed : MemoryTyped structs m) where
-    pub all-values : (kinds : List Kind) (known : List Bool) (env : Variables) → EnvTyped structs m kinds known env → (params : List Kind) (es : List CodeExpr) → all_fit structs kinds known params es ≡ true
+    pub all-values : (kinds : List Kind) (known : List Bool) (env : Variables) → EnvTyped structs m kinds known env → (params : List Kind) (es : List CodeExpr) → all_fit structs kinds known params es
+        ≡ true
         → words_fit structs m params (values structs (block_at m) env es) ≡ true
     unfolding all_fit values
     all-values kinds known env envs [] [] h = h
@@ -129,11 +134,13 @@ module _ (structs : List StructInfo) (m : Blocks) where
     all-values kinds known env envs (k ∷ params) [] h = absurd (grind (arith, h))
     all-values kinds known env envs (k ∷ params) (e ∷ es) h =
         let p = both (fits k (type_of structs kinds known e)) (all_fit structs kinds known params es) h in
-        both-true (fits_kind structs m k (expr_value structs (block_at m) env e)) (words_fit structs m params (values structs (block_at m) env es)) (value-fits structs m rows typed kinds known env envs k e p.0)
+        both-true (fits_kind structs m k (expr_value structs (block_at m) env e)) (words_fit structs m params (values structs (block_at m) env es))
+        (value-fits structs m rows typed kinds known env envs k e p.0)
         (all-values kinds known env envs params es p.1)
 
     module _ (params : List Kind) (known : List Bool) (env : Variables) (envs : EnvTyped structs m params known env) (s : ℕ) where
-      set-typed : (field : ℕ) (e : CodeExpr) (k : Option FieldKind) → field_kind structs (Struct s) field ≡ k → set_ok k (type_of structs params known e) ≡ true → (ws : List Word) → fields_fit structs m (kinds_of_shape structs (Struct s)) ws ≡ true
+      set-typed : (field : ℕ) (e : CodeExpr) (k : Option FieldKind) → field_kind structs (Struct s) field ≡ k → set_ok k (type_of structs params known e) ≡ true → (ws : List Word)
+          → fields_fit structs m (kinds_of_shape structs (Struct s)) ws ≡ true
           → fields_fit structs m (kinds_of_shape structs (Struct s)) (set_plain k ws field (expr_value structs (block_at m) env e)) ≡ true
       set-typed field e None i h ws g = absurd (grind (arith, h))
       set-typed field e (Some CellInt) i h ws g = absurd (grind (arith, h))
@@ -141,7 +148,8 @@ module _ (structs : List StructInfo) (m : Blocks) where
       set-typed field e (Some (PlainField kind)) i h ws g =
           fields-set (kinds_of_shape structs (Struct s)) ws field (PlainField kind) (expr_value structs (block_at m) env e) g i (value-fits structs m rows typed params known env envs kind e h)
 
-      fits-if : (b : Bool) (kinds : List FieldKind) (vs ws : List Word) → fields_fit structs m kinds vs ≡ true → fields_fit structs m kinds ws ≡ true → fields_fit structs m kinds (if b then vs else ws) ≡ true
+      fits-if : (b : Bool) (kinds : List FieldKind) (vs ws : List Word) → fields_fit structs m kinds vs ≡ true → fields_fit structs m kinds ws ≡ true
+          → fields_fit structs m kinds (if b then vs else ws) ≡ true
       fits-if true kinds vs ws h k = h
       fits-if false kinds vs ws h k = k
 
@@ -154,7 +162,8 @@ module _ (structs : List StructInfo) (m : Blocks) where
         set_by-fits (IfStmt' test _ first _ second) ws h g =
             let p = both (fits Int (type_of structs params known test)) (row_ok structs params known s first && row_ok structs params known s second) h in
             let q = both (row_ok structs params known s first) (row_ok structs params known s second) p.1 in
-            fits-if (holds (expr_value structs (block_at m) env test)) (kinds_of_shape structs (Struct s)) (set_by_row structs (block_at m) env s ws first) (set_by_row structs (block_at m) env s ws second)
+            fits-if (holds (expr_value structs (block_at m) env test)) (kinds_of_shape structs (Struct s)) (set_by_row structs (block_at m) env s ws first)
+            (set_by_row structs (block_at m) env s ws second)
             (row-fits first ws q.0 g) (row-fits second ws q.1 g)
 
         row-fits : {n : _} (row : Row_of-InitStmt n) (ws : List Word) → row_ok structs params known s row ≡ true → fields_fit structs m (kinds_of_shape structs (Struct s)) ws ≡ true
@@ -219,7 +228,8 @@ module _ (code : Code) (ok : valid code ≡ true) (m : Blocks) (typed : MemoryTy
       (grind (arith, q.0), q.1)
 
   -- an initialiser on words that fit its parameters: all that it names is there
-  pub initialiser-there : (f : ℕ) (args : List Word) (function : Option FunctionCode) → slice_get code.functions f ≡ function → InitTyped code m args function → Initialiser code.structs m function args
+  pub initialiser-there : (f : ℕ) (args : List Word) (function : Option FunctionCode) → slice_get code.functions f ≡ function → InitTyped code m args function
+      → Initialiser code.structs m function args
   initialiser-there f args None e h = h
   initialiser-there f args (Some (CoreFunction name entry params)) e h = h
   initialiser-there f args (Some (InitFunction name s params body)) e h =

@@ -15,7 +15,8 @@ use Rattle.ceal_code.proofs.Replay.MemoryChanges.{get-within}
 use Rattle.ceal_code.proofs.Words.RowKinds.{kind-same}
 use Rattle.ceal_code.proofs.Words.SameIsEqual.{both}
 use Rattle.ceal_code.proofs.TypedCode.TypedExpressions.{HasType, EnvTyped, MemoryTyped, write-types, place-typed, default-fits, value-type, expr-there, asked-there}
-use Rattle.ceal_code.proofs.TypedCode.TypedActs.{StepCommand, maybe-within, path-within, write-place, read-place, takes-typed, gives-typed, asked, there-if, all-there, GoesTo, unit-entered, Reader, reader-entered, Callee, callee}
+use Rattle.ceal_code.proofs.TypedCode.TypedActs.{StepCommand, maybe-within, path-within, write-place, read-place, takes-typed, gives-typed, asked, there-if, all-there, GoesTo, unit-entered, Reader}
+use Rattle.ceal_code.proofs.TypedCode.TypedActs.{reader-entered, Callee, callee}
 use Rattle.ceal_code.proofs.TypedCode.TypedBlocks.{rows-valid, all-values, initialiser-there}
 use Rattle.ceal_code.proofs.TypedCode.TypedStack.{no-tail, pointer_kind, set-typed, FrameTyped, StackTyped, AtCommand, at-command, stack-kept, ActTyped}
 use Rattle.ceal_code.specs.Program.{Unit as CodeUnit, Code}
@@ -42,7 +43,8 @@ module _ (code : Code) (ok : valid code ≡ true) (m : Blocks) (typed : MemoryTy
   module _ (u i : ℕ) (env : Variables) where
     -- the unit continues at an index, with another word of one variable
     set-frame : (v : VarId) (w : Word) (unit : CodeUnit) (known : List Bool) (fuel j : ℕ) → slice_get code.units u ≡ Some unit → EnvTyped code.structs m (kinds_of code unit.function) known env
-        → paths_ok code unit.function unit.body fuel j (slice_set known v.0 true) true ≡ true → ((kind : Kind) → slice_get (kinds_of code unit.function) v.0 ≡ Some kind → fits_kind code.structs m kind w ≡ true)
+        → paths_ok code unit.function unit.body fuel j (slice_set known v.0 true) true ≡ true
+        → ((kind : Kind) → slice_get (kinds_of code unit.function) v.0 ≡ Some kind → fits_kind code.structs m kind w ≡ true)
         → FrameTyped code m u j (set env v.0 w)
     set-frame v w unit known fuel j e envs path k = record {
       unit = unit;
@@ -59,8 +61,10 @@ module _ (code : Code) (ok : valid code ≡ true) (m : Blocks) (typed : MemoryTy
     on-frame c at j path = record { unit = at.unit; there = at.there; known = at.known; stepped = true; fuel = at.fuel; path = path; envs = at.envs }
 
   -- the unit continues with a new block
-  goes-on : (u i : ℕ) (env : Variables) (v : VarId) (shape : Shape) (below : Stack) (unit : CodeUnit) (known : List Bool) (fuel : ℕ) → slice_get code.units u ≡ Some unit → EnvTyped code.structs m (kinds_of code unit.function) known env
-      → paths_ok code unit.function unit.body fuel (i + 1) (slice_set known v.0 true) true ≡ true → fits_maybe (slice_get (kinds_of code unit.function) v.0) (Some (Of (pointer_kind shape))) ≡ true → StackTyped code m below
+  goes-on : (u i : ℕ) (env : Variables) (v : VarId) (shape : Shape) (below : Stack) (unit : CodeUnit) (known : List Bool) (fuel : ℕ) → slice_get code.units u ≡ Some unit
+      → EnvTyped code.structs m (kinds_of code unit.function) known env
+      → paths_ok code unit.function unit.body fuel (i + 1) (slice_set known v.0 true) true ≡ true → fits_maybe (slice_get (kinds_of code unit.function) v.0) (Some (Of (pointer_kind shape))) ≡ true
+      → StackTyped code m below
       → (m' : Blocks) (w : Word) → ShapesKept m m' → fits_kind code.structs m' (pointer_kind shape) w ≡ true → StackTyped code m' (Run u (i + 1) (set env v.0 w) below)
   goes-on u i env v shape below unit known fuel e envs path asks h m' w kept k = (frame, stack-kept code m m' kept below h)
     where
@@ -88,8 +92,11 @@ module _ (code : Code) (ok : valid code ≡ true) (m : Blocks) (typed : MemoryTy
     alloc-typed v g args at (Some (CoreFunction name entry params)) e h = absurd (grind (arith, h))
     alloc-typed v g args at (Some (InitFunction name s params body)) e h =
         let k = both (fits_maybe (slice_get (kinds_of code at.unit.function) v.0) (Some (Of (Ptr s)))) (all_fit code.structs (kinds_of code at.unit.function) at.known params args) h in
-        let ws = all-values code.structs m (rows-valid code ok) typed (kinds_of code at.unit.function) at.known env at.envs params args k.1 in
-        (rw e ws, λ m' w kept j. let j' : fits_kind code.structs m' (Ptr s) w ≡ true = rw e at j in goes-on u i env v (Struct s) below at.unit at.known at.fuel at.there at.envs at.onward' k.0 under m' w kept j')
+        let ws = all-values code.structs m (rows-valid code ok) typed (kinds_of code at.unit.function) at.known env at.envs params args k.1 in (
+          rw e ws,
+          λ m' w kept j. let j' : fits_kind code.structs m' (Ptr s) w
+              ≡ true = rw e at j in goes-on u i env v (Struct s) below at.unit at.known at.fuel at.there at.envs at.onward' k.0 under m' w kept j',
+        )
 
     modref-typed : (v : VarId) (shape : Shape) → AtCommand code m u i env (Modref v shape) → ActTyped code m (act code (block_at m) (Modref v shape) u i env below)
     modref-typed v OneInt at = (tt, goes-on u i env v OneInt below at.unit at.known at.fuel at.there at.envs at.onward' at.ok under)
@@ -102,7 +109,8 @@ module _ (code : Code) (ok : valid code ≡ true) (m : Blocks) (typed : MemoryTy
     write-typed p e at (Num n) h = (on-frame u i env (Write p e) at (i + 1) at.onward', under)
     write-typed p e at (BlockWord b) h = (on-frame u i env (Write p e) at (i + 1) at.onward', under)
     write-typed p e at (At q) h = (
-      takes-typed code m q (expr_value code.structs (block_at m) env e) (type_of code.structs (kinds_of code at.unit.function) at.known p) (type_of code.structs (kinds_of code at.unit.function) at.known e) at.ok h
+      takes-typed code m q (expr_value code.structs (block_at m) env e) (type_of code.structs (kinds_of code at.unit.function) at.known p)
+          (type_of code.structs (kinds_of code at.unit.function) at.known e) at.ok h
           (value-type code.structs m (rows-valid code ok) typed (kinds_of code at.unit.function) at.known env at.envs e),
       (on-frame u i env (Write p e) at (i + 1) at.onward', under),
     )
@@ -122,10 +130,12 @@ module _ (code : Code) (ok : valid code ≡ true) (m : Blocks) (typed : MemoryTy
         → (place_fits (slice_get (kinds_of code at.unit.function) v.0) (type_of code.structs (kinds_of code at.unit.function) at.known p) ≡ true)
         × Reader code ok m typed at.unit.function at.known env at.envs w.0 v.0 args
     reader-at v p w args at =
-        let k = both (place_fits (slice_get (kinds_of code at.unit.function) v.0) (type_of code.structs (kinds_of code at.unit.function) at.known p)) (read_fits code at.unit.function at.known v.0 (slice_get code.units w.0) args) at.ok in
+        let k = both (place_fits (slice_get (kinds_of code at.unit.function) v.0) (type_of code.structs (kinds_of code at.unit.function) at.known p))
+        (read_fits code at.unit.function at.known v.0 (slice_get code.units w.0) args) at.ok in
         (k.0, reader-entered code ok m typed at.unit.function at.known env at.envs w.0 v.0 args (slice_get code.units w.0) refl k.1)
 
-    read-typed : (v : VarId) (p : CodeExpr) (w : UnitId) (args : List CodeExpr) (at : AtCommand code m u i env (Read v p w args)) (z : Word) → HasType code.structs m (type_of code.structs (kinds_of code at.unit.function) at.known p) z
+    read-typed : (v : VarId) (p : CodeExpr) (w : UnitId) (args : List CodeExpr) (at : AtCommand code m u i env (Read v p w args)) (z : Word)
+        → HasType code.structs m (type_of code.structs (kinds_of code at.unit.function) at.known p) z
         → ActTyped code m (reads_at code (place_of z) w v.0 (values code.structs (block_at m) env args) below)
     read-typed v p w args at z h = go z h (reader-at v p w args at)
       where
@@ -141,7 +151,8 @@ module _ (code : Code) (ok : valid code ≡ true) (m : Blocks) (typed : MemoryTy
         go (Num n) h k = missed k.1
         go (BlockWord b) h k = missed k.1
         go (At q) h k =
-            gives-typed code m (λ word. StackTyped code m (entered code w.0 (words_after_read code w.0 v.0 (values code.structs (block_at m) env args) word) below)) q (slice_get (kinds_of code at.unit.function) v.0)
+            gives-typed code m (λ word. StackTyped code m (entered code w.0 (words_after_read code w.0 v.0 (values code.structs (block_at m) env args) word) below)) q
+            (slice_get (kinds_of code at.unit.function) v.0)
             (type_of code.structs (kinds_of code at.unit.function) at.known p) k.0 h (λ word fit. k.1.enters word fit below under)
 
     callee-at : (g : ℕ) (args : List CodeExpr) (w : UnitId) (rest : List CodeExpr) (at : AtCommand code m u i env (Call g args w rest))
@@ -212,7 +223,8 @@ module _ (code : Code) (ok : valid code ≡ true) (m : Blocks) (typed : MemoryTy
         rw at.there (
           expr-there code.structs m (rows-valid code ok) typed (kinds_of code at.unit.function) at.known env at.envs p k.0,
           expr-there code.structs m (rows-valid code ok) typed (kinds_of code at.unit.function) at.known env at.envs e k.1,
-          write-place code m (type_of code.structs (kinds_of code at.unit.function) at.known p) (type_of code.structs (kinds_of code at.unit.function) at.known e) (expr_value code.structs (block_at m) env p) at.ok
+          write-place code m (type_of code.structs (kinds_of code at.unit.function) at.known p) (type_of code.structs (kinds_of code at.unit.function) at.known e)
+              (expr_value code.structs (block_at m) env p) at.ok
               (value-type code.structs m (rows-valid code ok) typed (kinds_of code at.unit.function) at.known env at.envs p),
         )
     command-there (If test first second) at =

@@ -1,5 +1,6 @@
 -- A well typed expression gives a word that fits its type, and all that it names is there.
-use Rattle.std.proofs.Common.{◌≡◌, ℕ, zero, suc, pos, negsuc, ◌+◌, ◌^◌, nat_lt, ◌<◌, ◌&&◌, Bool, true, false, if◌then◌else◌, Option, Some, None, List, [], ◌∷◌, length, is_some, inl, inr, refl, ap, ◌∙◌, subst, slice_get, unwrap_or, arith}
+use Rattle.std.proofs.Common.{◌≡◌, ℕ, zero, suc, pos, negsuc, ◌+◌, ◌^◌, nat_lt, ◌<◌, ◌&&◌, Bool, true, false, if◌then◌else◌, Option, Some, None, List, [], ◌∷◌, length, is_some, inl, inr, refl, ap}
+use Rattle.std.proofs.Common.{◌∙◌, subst, slice_get, unwrap_or, arith}
 use Rattle.std.specs.Prelude.{⊤}
 use Rattle.ceal_base.specs.Access.{of_struct, is_struct}
 use Rattle.ceal_base.specs.Block.{Block, Blocks, block_at}
@@ -23,7 +24,8 @@ use Rattle.ceal_base.specs.declared.word.Word.TheVariants.{Num, Null, Block as B
 use Rattle.ceal_code.proofs.Words.RowKinds.{RowsHold, kind-same}
 use Rattle.ceal_code.proofs.Words.SameIsEqual.{both, nat-refl, struct-shape}
 use Rattle.ceal_code.specs.Running.{Points, WordThere, ExprThere, OperandThere}
-use Rattle.ceal_code.specs.Valid.{Typing, is_place, fits, fits_maybe, one_type, place_fits, write_fits, int_if, element_type, binary_type, is_row_of, starts_row, operand_suits, variable_type, points_to, plain_type, cell_type, type_of, operand_type}
+use Rattle.ceal_code.specs.Valid.{Typing, is_place, fits, fits_maybe, one_type, place_fits, write_fits, int_if, element_type, binary_type, is_row_of, starts_row, operand_suits, variable_type}
+use Rattle.ceal_code.specs.Valid.{points_to, plain_type, cell_type, type_of, operand_type}
 use Rattle.ceal_code.specs.Value.{Variables, field_kind, is_cell, field_default, plain_word, field_in, field_value, address_value, expr_value, operand_value}
 use Rattle.ceal_code.specs.declared.typing.ExprType.{ExprType}
 use Rattle.ceal_code.specs.declared.typing.ExprType.TheVariants.{Of, AnyPointer, AnyPlace}
@@ -204,7 +206,8 @@ module _ (structs : List StructInfo) (m : Blocks) where
         subst (λ shape. HasType structs m (plain_type (slice_get (kinds_of_shape structs shape) f)) (plain_word (slice_get (kinds_of_shape structs shape) f) block.words f))
         (struct-shape s block.shape e) (field-fits (kinds_of_shape structs block.shape) block.words f h)
 
-    in-block : (s f : ℕ) (b : BlockId) (o : Option Block) → block_at m b ≡ o → HasType structs m (plain_type (field_kind structs (Struct s) f)) (field_in (field_kind structs (Struct s) f) (of_struct s o) f)
+    in-block : (s f : ℕ) (b : BlockId) (o : Option Block) → block_at m b ≡ o
+        → HasType structs m (plain_type (field_kind structs (Struct s) f)) (field_in (field_kind structs (Struct s) f) (of_struct s o) f)
     in-block s f b None e = default-type (field_kind structs (Struct s) f)
     in-block s f b (Some block) e = in-struct s f block (typed b block e) (is_struct s block.shape) refl
 
@@ -218,7 +221,8 @@ module _ (structs : List StructInfo) (m : Blocks) where
     kind-there s f b None e h = absurd (grind (arith, h))
     kind-there s f b (Some block) e h = go (is_struct s block.shape) refl h
       where
-        go : (t : Bool) → is_struct s block.shape ≡ t → is_some (if t then Some block else None) ≡ true → slice_get (kinds_of_shape structs block.shape) f ≡ slice_get (kinds_of_shape structs (Struct s)) f
+        go : (t : Bool) → is_struct s block.shape ≡ t → is_some (if t then Some block else None) ≡ true → slice_get (kinds_of_shape structs block.shape) f
+            ≡ slice_get (kinds_of_shape structs (Struct s)) f
         go true k h = ap (λ shape. slice_get (kinds_of_shape structs shape) f) (struct-shape s block.shape k)
         go false k h = absurd (grind (arith, h))
 
@@ -359,15 +363,19 @@ module _ (structs : List StructInfo) (m : Blocks) where
         value-type (NumExpr n) = refl
         value-type NullExpr = refl
         value-type (Var v) = variable-if v.0 (slice_get kinds v.0) refl
-        value-type (Unary' op _ a) = int-type (fits Int (operand_type structs kinds known a)) (unary_value op (operand_value structs (block_at m) env a)) (unary-int op (operand_value structs (block_at m) env a))
+        value-type (Unary' op _ a) = int-type (fits Int (operand_type structs kinds known a)) (unary_value op (operand_value structs (block_at m) env a))
+            (unary-int op (operand_value structs (block_at m) env a))
         value-type (Binary' op _ a _ b) =
-            points-if (operand_suits structs op a) (binary_type op (operand_type structs kinds known a) (operand_type structs kinds known b)) (binary_value op (operand_value structs (block_at m) env a) (operand_value structs (block_at m) env b))
+            points-if (operand_suits structs op a) (binary_type op (operand_type structs kinds known a) (operand_type structs kinds known b))
+            (binary_value op (operand_value structs (block_at m) env a) (operand_value structs (block_at m) env b))
             (λ k. binary-type op a (operand_type structs kinds known b) (operand_value structs (block_at m) env b) k)
         value-type (Field' _ a s f) =
-            points-if (points_to s (operand_type structs kinds known a)) (plain_type (field_kind structs (Struct s) f)) (field_value structs (block_at m) (operand_value structs (block_at m) env a) s f)
+            points-if (points_to s (operand_type structs kinds known a)) (plain_type (field_kind structs (Struct s) f))
+            (field_value structs (block_at m) (operand_value structs (block_at m) env a) s f)
             (λ k. field-type (operand_value structs (block_at m) env a) s f)
         value-type (Address' _ a s f) =
-            points-if (points_to s (operand_type structs kinds known a)) (cell_type (field_kind structs (Struct s) f)) (address_value structs (block_at m) (operand_value structs (block_at m) env a) s f)
+            points-if (points_to s (operand_type structs kinds known a)) (cell_type (field_kind structs (Struct s) f))
+            (address_value structs (block_at m) (operand_value structs (block_at m) env a) s f)
             (λ k. address-type (operand_value structs (block_at m) env a) s f)
 
         pub operand-type : {n : _} (row : Row_of-CodeExpr n) → HasType structs m (operand_type structs kinds known row) (operand_value structs (block_at m) env row)

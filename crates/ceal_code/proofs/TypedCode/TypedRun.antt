@@ -1,5 +1,6 @@
 -- Valid code is never stuck: each state of a run is typed, and a typed state continues or is the end.
-use Rattle.std.proofs.Common.{◌≡◌, ℕ, zero, suc, ◌+◌, ◌<◌, ◌==◌, ◌&&◌, nat_lt, Bool, true, false, Option, Some, None, List, [], ◌∷◌, ◌++◌, length, refl, sym, ap, ◌∙◌, subst, slice_get, slice_set, arith}
+use Rattle.std.proofs.Common.{◌≡◌, ℕ, zero, suc, ◌+◌, ◌<◌, ◌==◌, ◌&&◌, nat_lt, Bool, true, false, Option, Some, None, List, [], ◌∷◌, ◌++◌, length, refl, sym, ap, ◌∙◌, subst, slice_get, slice_set}
+use Rattle.std.proofs.Common.{arith}
 use Rattle.std.specs.List.{list_all}
 use Rattle.std.specs.Prelude.{⊤}
 use Rattle.ceal_base.specs.Access.{word_in, content_of}
@@ -37,7 +38,8 @@ use Rattle.ceal_code.specs.Init.{made, pointer}
 use Rattle.ceal_code.specs.Program.{Unit as CodeUnit, Code}
 use Rattle.ceal_code.specs.Replay.{shape_of}
 use Rattle.ceal_code.specs.Running.{Steps, Reaches, GoesOn, NotStuck}
-use Rattle.ceal_code.specs.Step.{Stack, Empty, Run, Act, Over, Quiet, Makes, Writes, Reads, unit_at, command_at, entry_of, kinds_of, variable_default, entered, chosen, started, words_after_read, place_of, writes_at, reads_at, act, landed, stack_after_quiet_at, stack_after_quiet, acted, next}
+use Rattle.ceal_code.specs.Step.{Stack, Empty, Run, Act, Over, Quiet, Makes, Writes, Reads, unit_at, command_at, entry_of, kinds_of, variable_default, entered, chosen, started, words_after_read}
+use Rattle.ceal_code.specs.Step.{place_of, writes_at, reads_at, act, landed, stack_after_quiet_at, stack_after_quiet, acted, next}
 use Rattle.ceal_code.specs.Valid.{is_prefix, kinds_ok, below as all_below, entry_ok, valid}
 use Rattle.ceal_code.specs.Value.{Plain, Variables, set, expr_value, values}
 use Rattle.ceal_code.specs.declared.command.Cmd.{Cmd}
@@ -138,7 +140,8 @@ inputs-typed structs inputs h (Input i) block e = input-fits structs inputs h i 
 inputs-typed structs inputs h (Core i) block e = none-some block e
 
 module _ (structs : List StructInfo) (m : Blocks) where
-  field-word : (kinds : List FieldKind) (ws : List Word) (n : ℕ) (kind : FieldKind) → fields_fit structs m kinds ws ≡ true → slice_get kinds n ≡ Some kind → (w : Word) × (slice_get ws n ≡ Some w) × (fits_field structs m kind w ≡ true)
+  field-word : (kinds : List FieldKind) (ws : List Word) (n : ℕ) (kind : FieldKind) → fields_fit structs m kinds ws ≡ true → slice_get kinds n ≡ Some kind → (w : Word) × (slice_get ws n ≡ Some w)
+      × (fits_field structs m kind w ≡ true)
   field-word [] ws n kind h e = none-some kind e
   field-word (k ∷ kinds) [] n kind h e = absurd (grind (arith, h))
   field-word (k ∷ kinds) (w ∷ ws) zero kind h e =
@@ -158,7 +161,8 @@ module _ (code : Code) (m : Blocks) (typed : MemoryTyped code.structs m) where
   written-typed : (p : Place) (w : Word) → Takes code m p w → MemoryTyped code.structs (written_at m p.block p.field w)
   written-typed p w t = go (block_at m p.block) refl t.there
     where
-      each : (block : Block) → block_at m p.block ≡ Some block → slice_get (kinds_of_shape code.structs block.shape) p.field ≡ Some t.kind → (b : BlockId) (other : Block) → block_at (written_at m p.block p.field w) b ≡ Some other
+      each : (block : Block) → block_at m p.block ≡ Some block → slice_get (kinds_of_shape code.structs block.shape) p.field ≡ Some t.kind → (b : BlockId) (other : Block)
+          → block_at (written_at m p.block p.field w) b ≡ Some other
           → (s : Bool) → same_block b p.block ≡ s → fields_fit code.structs (written_at m p.block p.field w) (kinds_of_shape code.structs other.shape) other.words ≡ true
       each block e k b other i true s =
           let j : block_at (written_at m p.block p.field w) p.block ≡ Some other = rw (block-same b p.block s) at i in
@@ -248,7 +252,8 @@ module _ (code : Code) (ok : valid code ≡ true) where
     goes : (st s : Stack) → stack_after_quiet code (block_at m) st ≡ s → StackTyped code m s → Ready code s → GoesOn code m st s
     goes st Empty e h r = tt
     goes st (Run u i env below) e h r =
-        step-there code m st (act code (block_at m) (command_at code u i) u i env below) (next-acted code (block_at m) st (Run u i env below) e) (act-step code (block_at m) u i env below (command_at code u i) r)
+        step-there code m st (act code (block_at m) (command_at code u i) u i env below) (next-acted code (block_at m) st (Run u i env below) e)
+        (act-step code (block_at m) u i env below (command_at code u i) r)
 
     -- a typed state is not stuck
     not-stuck : (st : Stack) → StackTyped code m st → NotStuck code m st
@@ -288,7 +293,8 @@ module _ (code : Code) (ok : valid code ≡ true) where
   step-typed m st m' st' h (Steps.writes {after = after} {p = p} {value = value} e) = after-writes m p value after h.0 (subst (ActTyped code m) e (next-typed m h.0 st h.1))
   step-typed m st m' st' h (Steps.reads {below = below} {p = p} {u = u} {v = v} {args = args} e) = (
     h.0,
-    content-taken code m h.0 p (variable_default code u.0 v) (λ w. StackTyped code m (entered code u.0 (words_after_read code u.0 v args w) below)) (subst (ActTyped code m) e (next-typed m h.0 st h.1)),
+    content-taken code m h.0 p (variable_default code u.0 v) (λ w. StackTyped code m (entered code u.0 (words_after_read code u.0 v args w) below))
+        (subst (ActTyped code m) e (next-typed m h.0 st h.1)),
   )
 
   reaches-typed : (m : Blocks) (st : Stack) (m' : Blocks) (st' : Stack) → StateTyped m st → Reaches code m st m' st' → StateTyped m' st'
@@ -306,7 +312,8 @@ module _ (code : Code) (ok : valid code ≡ true) where
     abbrev begun : Blocks
     begun = record { inputs = inputs; made = [] }
 
-    chosen-typed : (params kinds : List Kind) (args : List Word) → is_prefix params kinds ≡ true → words_fit code.structs begun params args ≡ true → (ps : List VarId) → all_below (length params) ps ≡ true
+    chosen-typed : (params kinds : List Kind) (args : List Word) → is_prefix params kinds ≡ true → words_fit code.structs begun params args ≡ true → (ps : List VarId) → all_below (length params) ps
+        ≡ true
         → ParamsTyped code begun kinds ps (chosen ps args)
     unfolding chosen all_below
     chosen-typed params kinds args h k [] l = tt
@@ -316,7 +323,8 @@ module _ (code : Code) (ok : valid code ≡ true) where
           chosen-typed params kinds args h k ps i.1,
         )
 
-    entry-typed : (f w : ℕ) (params kinds : List Kind) (args : List Word) → slice_get code.kinds f ≡ Some kinds → is_prefix params kinds ≡ true → words_fit code.structs begun params args ≡ true → (o : Option CodeUnit) → slice_get code.units w ≡ o
+    entry-typed : (f w : ℕ) (params kinds : List Kind) (args : List Word) → slice_get code.kinds f ≡ Some kinds → is_prefix params kinds ≡ true → words_fit code.structs begun params args ≡ true
+        → (o : Option CodeUnit) → slice_get code.units w ≡ o
         → entry_ok f (length params) o ≡ true → StackTyped code begun (entered code w (chosen (unit_at code w).params args) Empty)
     entry-typed f w params kinds args there h k None e l = absurd (grind (arith, l))
     entry-typed f w params kinds args there h k (Some unit) e l =
@@ -340,7 +348,8 @@ module _ (code : Code) (ok : valid code ≡ true) where
         (entry-typed f entry.0 params v.kinds' args v.there q.0 h (slice_get code.units entry.0) refl p.1)
 
   -- valid code is never stuck
-  pub progress : (inputs : List Block) (f : ℕ) (args : List Word) → Fits code inputs f args → (m : Blocks) (st : Stack) → Reaches code (record { inputs = inputs; made = [] }) (started code f args) m st → NotStuck code m st
+  pub progress : (inputs : List Block) (f : ℕ) (args : List Word) → Fits code inputs f args → (m : Blocks) (st : Stack)
+      → Reaches code (record { inputs = inputs; made = [] }) (started code f args) m st → NotStuck code m st
   progress inputs f args h m st r =
       let t = inputs-typed code.structs inputs h.blocks in
       let s = started-typed inputs f args (slice_get code.functions f) refl h.words in

@@ -1,6 +1,7 @@
 -- In valid code each state of a run is typed: the words of its variables fit their kinds, and what its next step gives
 -- is typed again.
-use Rattle.std.proofs.Common.{◌≡◌, ℕ, zero, suc, ◌<◌, ◌==◌, ◌&&◌, Bool, true, false, if◌then◌else◌, Option, Some, None, List, [], ◌∷◌, length, replicate, ◌⊎◌, inl, inr, refl, sym, ap, ◌∙◌, subst, slice_get, slice_set, unwrap_or, arith}
+use Rattle.std.proofs.Common.{◌≡◌, ℕ, zero, suc, ◌<◌, ◌==◌, ◌&&◌, Bool, true, false, if◌then◌else◌, Option, Some, None, List, [], ◌∷◌, length, replicate, ◌⊎◌, inl, inr, refl, sym, ap, ◌∙◌, subst}
+use Rattle.std.proofs.Common.{slice_get, slice_set, unwrap_or, arith}
 use Rattle.std.specs.Prelude.{⊤}
 use Rattle.ceal_base.specs.Block.{Blocks}
 use Rattle.ceal_base.specs.Fitting.{kind_at, fits_kind, fits_field}
@@ -73,7 +74,8 @@ module _ (code : Code) (m : Blocks) where
   ParamsTyped kinds (p ∷ ps) [] = ⊥
   ParamsTyped kinds (p ∷ ps) (w ∷ ws) = ((kind : Kind) → slice_get kinds p.0 ≡ Some kind → fits_kind code.structs m kind w ≡ true) × ParamsTyped kinds ps ws
 
-  set-fits : (kinds : List Kind) (env : Variables) (n v : ℕ) (w : Word) (kind : Kind) → slice_get kinds v ≡ Some kind → ((kind : Kind) → slice_get kinds n ≡ Some kind → fits_kind code.structs m kind w ≡ true)
+  set-fits : (kinds : List Kind) (env : Variables) (n v : ℕ) (w : Word) (kind : Kind) → slice_get kinds v ≡ Some kind
+      → ((kind : Kind) → slice_get kinds n ≡ Some kind → fits_kind code.structs m kind w ≡ true)
       → ((v ≡ n → ⊥) → fits_kind code.structs m kind (env v) ≡ true) → fits_kind code.structs m kind (set env n w v) ≡ true
   unfolding set
   set-fits kinds env n v w kind e h g = go (v == n) refl
@@ -82,7 +84,8 @@ module _ (code : Code) (m : Blocks) where
       go true i = let j : v ≡ n = nat-same v n i in h kind (rw j at e)
       go false i = g (λ j. grind (arith, i, j))
 
-  pub set-typed : (kinds : List Kind) (known : List Bool) (env : Variables) (n : ℕ) (w : Word) → EnvTyped code.structs m kinds known env → ((kind : Kind) → slice_get kinds n ≡ Some kind → fits_kind code.structs m kind w ≡ true)
+  pub set-typed : (kinds : List Kind) (known : List Bool) (env : Variables) (n : ℕ) (w : Word) → EnvTyped code.structs m kinds known env
+      → ((kind : Kind) → slice_get kinds n ≡ Some kind → fits_kind code.structs m kind w ≡ true)
       → EnvTyped code.structs m kinds (slice_set known n true) (set env n w)
   set-typed kinds known env n w envs h v kind e k = set-fits kinds env n v w kind e h (λ apart. go apart (known-set known n v k))
     where
@@ -90,7 +93,8 @@ module _ (code : Code) (m : Blocks) where
       go apart (inl i) = absurd (apart i)
       go apart (inr i) = envs v kind e i
 
-  bound-fits : (kinds : List Kind) (ps : List VarId) (ws : List Word) → ParamsTyped kinds ps ws → (v : ℕ) (kind : Kind) → slice_get kinds v ≡ Some kind → Among v ps → fits_kind code.structs m kind (bound ps ws v) ≡ true
+  bound-fits : (kinds : List Kind) (ps : List VarId) (ws : List Word) → ParamsTyped kinds ps ws → (v : ℕ) (kind : Kind) → slice_get kinds v ≡ Some kind → Among v ps
+      → fits_kind code.structs m kind (bound ps ws v) ≡ true
   unfolding bound
   bound-fits kinds [] ws h v kind e a = absurd a
   bound-fits kinds (p ∷ ps) [] h v kind e a = absurd h
@@ -209,7 +213,8 @@ module _ (code : Code) (unit : CodeUnit) (h : unit_ok code unit ≡ true) where
 
 module _ (code : Code) (ok : valid code ≡ true) (m : Blocks) where
   -- a unit at its beginning, on words that fit its parameters
-  pub enter : (u : ℕ) (unit : CodeUnit) (ws : List Word) (st : Stack) → slice_get code.units u ≡ Some unit → ParamsTyped code m (kinds_of code unit.function) unit.params ws → StackTyped code m st → StackTyped code m (entered code u ws st)
+  pub enter : (u : ℕ) (unit : CodeUnit) (ws : List Word) (st : Stack) → slice_get code.units u ≡ Some unit → ParamsTyped code m (kinds_of code unit.function) unit.params ws → StackTyped code m st
+      → StackTyped code m (entered code u ws st)
   enter u unit ws st e h k = (frame, k)
     where
       frame : FrameTyped code m u 0 (bound (unit_at code u).params ws)

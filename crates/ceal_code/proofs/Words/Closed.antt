@@ -26,7 +26,8 @@ use Rattle.ceal_base.specs.declared.word.Word.TheVariants.{Num, Null, Block as B
 use Rattle.ceal_code.proofs.Words.PickedRows.{IfPick, PicksRow, Picks, PicksOperand, PicksAll, PicksCommand, PicksCode}
 use Rattle.ceal_code.proofs.Words.SameIsEqual.{some-same, none-some}
 use Rattle.ceal_code.specs.Program.{Code}
-use Rattle.ceal_code.specs.Step.{Stack, Empty, Run, Act, Over, Quiet, Makes, Writes, Reads, unit_at, command_at, entry_of, variable_default, bound, entered, chosen, first_word, later_words, woven, words_after_read, key_of, place_of, writes_at, reads_at, act, landed, stack_after_quiet_at, stack_after_quiet, acted, next, kinds_of}
+use Rattle.ceal_code.specs.Step.{Stack, Empty, Run, Act, Over, Quiet, Makes, Writes, Reads, unit_at, command_at, entry_of, variable_default, bound, entered, chosen, first_word, later_words, woven}
+use Rattle.ceal_code.specs.Step.{words_after_read, key_of, place_of, writes_at, reads_at, act, landed, stack_after_quiet_at, stack_after_quiet, acted, next, kinds_of}
 use Rattle.ceal_code.specs.Value.{Plain, Variables, unset, set, field_kind, field_default, plain_word, field_in, field_value, address_value, expr_value, operand_value, values}
 use Rattle.ceal_code.specs.declared.command.Cmd.{Cmd}
 use Rattle.ceal_code.specs.declared.command.Cmd.TheVariants.{Move, Tick, Alloc, Modref, Write, If, Done, Tail, Read, Call}
@@ -140,7 +141,8 @@ module _ (W : Word → Type 0) (num : (n : ℤ) → W (Num n)) (null : W Null) w
   entered-of code u ws below h k = (bound-of (unit_at code u).params ws h, k)
 
   -- a unit that continues after a read
-  pub words_after_read-of : (code : Code) (u v : ℕ) (args : List Word) (w : Word) (below : Stack) → Each W args → W w → OfStack W below → OfStack W (entered code u (words_after_read code u v args w) below)
+  pub words_after_read-of : (code : Code) (u v : ℕ) (args : List Word) (w : Word) (below : Stack) → Each W args → W w → OfStack W below
+      → OfStack W (entered code u (words_after_read code u v args w) below)
   words_after_read-of code u v args w below h k l = entered-of code u (words_after_read code u v args w) below (woven-of (unit_at code u).params v w args k h) l
 
   pub plain_word-of : (k : Option FieldKind) (ws : List Word) (field : ℕ) → Each W ws → W (plain_word k ws field)

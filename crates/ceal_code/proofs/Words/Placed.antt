@@ -1,5 +1,6 @@
 -- Each place that a memory or a stack names is that of a modifiable. A run keeps it so.
-use Rattle.std.proofs.Common.{◌≡◌, ℕ, ◌+◌, ◌<◌, ◌^◌, nat_lt, pos, negsuc, ◌&&◌, Bool, true, false, Option, Some, None, List, [], ◌∷◌, length, if◌then◌else◌, refl, sym, ap, ◌∙◌, subst, slice_get, is_some, arith}
+use Rattle.std.proofs.Common.{◌≡◌, ℕ, ◌+◌, ◌<◌, ◌^◌, nat_lt, pos, negsuc, ◌&&◌, Bool, true, false, Option, Some, None, List, [], ◌∷◌, length, if◌then◌else◌, refl, sym, ap, ◌∙◌, subst, slice_get}
+use Rattle.std.proofs.Common.{is_some, arith}
 use Rattle.std.specs.Prelude.{⊤}
 use Rattle.ceal_base.specs.Access.{of_struct, is_struct, place_in}
 use Rattle.ceal_base.specs.Block.{Block, Blocks, block_at, written_at}
@@ -183,7 +184,8 @@ module _ (code : Code) (m : Blocks) (well : WellPlaced code.structs m) (key : Ke
   grown-if ok true c e h block g =
       let e' : block_at (with_block m (made code (block_at m) key)) (Core (length m.made)) ≡ Some block = rw (block-same c (Core (length m.made)) e) at g in
       let is : made code (block_at m) key ≡ block = some-same (made code (block_at m) key) block (sym (grown-here m (made code (block_at m) key)) ∙ e') in
-      subst (λ block. Each (Placed code.structs m) block.words) is (made-of (Starts code.structs) (Placed code.structs m) code (block_at m) (placed-closed code.structs m well (rows-valid code ok)) (picks-valid code ok) key h)
+      subst (λ block. Each (Placed code.structs m) block.words) is
+      (made-of (Starts code.structs) (Placed code.structs m) code (block_at m) (placed-closed code.structs m well (rows-valid code ok)) (picks-valid code ok) key h)
   grown-if ok false (Input i) e h block g = well (Input i) block g
   grown-if ok false (Core c) e h block g = well (Core c) block (sym (get-push_other m.made (made code (block_at m) key) c e) ∙ g)
 

@@ -15,7 +15,8 @@ use Rattle.ceal_code.proofs.TypedCode.TypedExpressions.{Typed, fits-typed, typed
 use Rattle.ceal_code.proofs.TypedCode.TypedBlocks.{function-valid}
 use Rattle.ceal_code.specs.Program.{Unit as CodeUnit, Code}
 use Rattle.ceal_code.specs.Step.{kinds_of}
-use Rattle.ceal_code.specs.Valid.{Typing, fits, fits_maybe, binary_type, starts_row, operand_suits, points_to, plain_type, cell_type, type_of, operand_type, all_fit, params_fit, others, unit_fits, read_fits, entry_fits, call_fits, alloc_fits, place_fits, command_ok, set_ok, stmt_ok, row_ok, stmts_ok, is_empty, kinds_ok, valid}
+use Rattle.ceal_code.specs.Valid.{Typing, fits, fits_maybe, binary_type, starts_row, operand_suits, points_to, plain_type, cell_type, type_of, operand_type, all_fit, params_fit, others, unit_fits}
+use Rattle.ceal_code.specs.Valid.{read_fits, entry_fits, call_fits, alloc_fits, place_fits, command_ok, set_ok, stmt_ok, row_ok, stmts_ok, is_empty, kinds_ok, valid}
 use Rattle.ceal_code.specs.Value.{field_kind}
 use Rattle.ceal_code.specs.declared.command.Cmd.{Cmd}
 use Rattle.ceal_code.specs.declared.command.Cmd.TheVariants.{Move, Tick, Alloc, Modref, Write, If, Done, Tail, Read, Call}

@@ -18,6 +18,7 @@ use Rattle.ceal_repair.proofs.Reuse.ReadMatch.{MatchRead}
 use Rattle.ceal_repair.proofs.Reuse.ReadReuse.{CutDone, the-match, node-there, node-then, end-then, end-same, now-retake, now-enter}
 use Rattle.ceal_repair.proofs.Reuse.ReadReuseInCode.{reads-left, cut-read, cut-done, read-first, same-place, same-value, bases-cells}
 use Rattle.ceal_repair.proofs.Runs.RepairView.{IsStepped}
+use Rattle.ceal_repair.proofs.Runs.UnitSteps.{StepMore}
 use Rattle.ceal_repair.specs.Blocks.{HasBlocks, KeepsReadable}
 use Rattle.ceal_repair.specs.Entries.{stamp_of_number, entries, CutTo, Lies}
 use Rattle.ceal_repair.specs.Kept.{Kept, IsStale, IsHonestRecord, Records, QueuedFrom, QueuedAfter, base_in, contents_at}
@@ -45,6 +46,29 @@ pub record IsCut (old new : Repair) (closure : Closure) (found : Stamp) (run : R
   pub has : (code : Code) (inputs : List Block) → HasBlocks code inputs new.running.now.heap new.running.now.tables → HasBlocks code inputs run.heap run.tables
   pub kept : Kept run.tables
   pub aside : stack_in old.stack.now ≡ below
+
+-- the step that is counted first, by what the contract of `step` says
+pub step-taken : {old new : Repair} → new ≡ record old { running = new.running } → new.running.now.heap ≡ old.running.now.heap
+    → new.running.now.spent ≡ old.running.now.spent + 1 → StepMore old.cursor.0 old.running.now.tables new.running.now.tables → IsStepped old new
+step-taken rest heap spent more = record { rest = rest; heap = heap; spent = spent; more = more }
+
+-- what stood before the read, by what the contracts of `cut_until` and `set_aside` say
+pub cut-before : {old new : Repair} {closure : Closure} {found : Stamp} {run : Running} {below : Stack} → IsStepped old new
+    → head_of (stamps_where (recalls (key_in closure)) (left_nodes old)) ≡ Some found.0
+    → CutsThere new.cursor.0 found.0 new.running.now.tables run.tables
+    → ((p : Place) → base_in run.tables.mods p ≡ base_in new.running.now.tables.mods p) → KeepsReadable new.running.now.heap run.heap
+    → ((code : Code) (inputs : List Block) → HasBlocks code inputs new.running.now.heap new.running.now.tables → HasBlocks code inputs run.heap run.tables)
+    → Kept run.tables → below ≡ stack_in new.stack.now → IsCut old new closure found run below
+cut-before h matches there bases blocks has kept aside = record {
+  stepped = h;
+  matches = matches;
+  there = there;
+  bases = bases;
+  blocks = blocks;
+  has = has;
+  kept = kept;
+  aside = sym (aside ∙ ap (λ (r : Repair). stack_in r.stack.now) h.rest);
+}
 
 -- then it had another value, has the one of its moment, and its steps are dropped
 pub record IsRenewed (found : ℕ) (before seen after : Tables) : Type 0 where

@@ -2,6 +2,7 @@ use Rattle.ceal_cli.proofs.Outputs.OutputByMode.{not_accepted}
 use Rattle.ceal_cli.proofs.Inputs.AnswerOrRefusal.{taken-accepted}
 use Rattle.ceal_cli.proofs.answer.compiled.Goals as goal
 
+-- a source text with a fault is no program, so nothing is taken
 pub returns-in_ok-refuse-in-Err-Fault-clause-taken : goal.returns-in_ok-refuse-in-Err-Fault-clause-taken
 returns-in_ok-refuse-in-Err-Fault-clause-taken g c = (
   (λ t. absurd (cc t)),

@@ -3,6 +3,7 @@ use Rattle.ceal_cli.proofs.Sessions.GrowingReplies.{writes_text}
 use Rattle.ceal_cli.proofs.Outputs.OutputByMode.{refused}
 use Rattle.ceal_cli.proofs.answer.refuse.Goals as goal
 
+-- the output is the line of the fault, or as much of it as the sink took
 pub returns : goal.returns
 returns g c = record {
   writes = writes_text _ _ _ _ _ _ c.items.result.now

@@ -10,6 +10,7 @@ is_range : (o : Option ValueRange) (v : ValueRange) → IsSomeAnd o (λ r. r ≡
 is_range (Some r) v h = ap (λ (x : ValueRange). Some x) h
 is_range None v h = absurd h
 
+-- the words are read by the rules of the table, and then by the shape of the mode
 pub returns : goal.returns
 returns c =
     let fuel_is : rule_of c.long-fuel.result ≡ fuel_option = search rules in

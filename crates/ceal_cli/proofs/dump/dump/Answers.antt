@@ -2,6 +2,7 @@ use Rattle.ceal_cli.proofs.Sessions.GrowingReplies.{writes_as}
 use Rattle.ceal_cli.proofs.Outputs.OutputByMode.{dumped, dumped-readable}
 use Rattle.ceal_cli.proofs.dump.dump.Goals as goal
 
+-- a new session carries out the script, and the run after it is dumped
 pub returns : goal.returns
 returns g c =
     record {

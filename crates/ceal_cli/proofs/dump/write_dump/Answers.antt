@@ -4,6 +4,7 @@ use Rattle.ceal_cli.specs.ServedLines.{IsDumpAfterLines}
 use Rattle.ceal_cli.specs.Lines.{script_lines}
 use Rattle.ceal_cli.proofs.dump.write_dump.Goals as goal
 
+-- the output is the dump, or as much of it as the sink took
 pub returns : goal.returns
 returns g c = record {
   writes = writes_text _ _ _ _ _ (IsDumpAfterLines (situation c.args.session.now) (script_lines c.args.script.now)) c.items.result.now

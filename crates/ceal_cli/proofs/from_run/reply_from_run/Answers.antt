@@ -2,6 +2,7 @@ use Rattle.std.proofs.Common.{rules, ap}
 use Rattle.ceal_cli.proofs.Sessions.RepliesFromFirstRun.{one_before, from_here, begun_here, none_begun, no_run, no_run_begun}
 use Rattle.ceal_cli.proofs.from_run.reply_from_run.Goals as goal
 
+-- no line is left, and none of them was a `run`
 pub returns-in_default : goal.returns-in_default
 returns-in_default g c =
     let left = rw c.in_default.ensures.0 at c.loop-line.invariant.before in
@@ -15,6 +16,7 @@ returns-in_default g c =
       };
     }
 
+-- from the first `run` on the replies are written, and before it none was
 pub returns-then-is_run_line : goal.returns-then-is_run_line
 returns-then-is_run_line g c =
     let left = rw c.in-Some.ensures at c.loop-line.invariant.before in
@@ -30,6 +32,7 @@ returns-then-is_run_line g c =
       };
     }
 
+-- this line is no `run`: it is carried out, and its reply is not written
 pub loop-line-preserved : goal.loop-line-preserved
 loop-line-preserved g c =
     let left = rw c.in-Some.ensures at c.loop-line.invariant.before in

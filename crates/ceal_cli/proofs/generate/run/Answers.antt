@@ -1,6 +1,7 @@
 use Rattle.ceal_cli.proofs.Outputs.OutputByMode.{from_run}
 use Rattle.ceal_cli.proofs.generate.run.Goals as goal
 
+-- a new session carries out the workload's script, and the replies from its first `run` on are written
 pub returns : goal.returns
 returns g c = record {
   writes = from_run c.args.input.bytes.now c.args.input.part c.requires.split c.args.program c.requires.program c.requires.compiled c.some_reply.ensures.begun c.kept_line.ensures.law

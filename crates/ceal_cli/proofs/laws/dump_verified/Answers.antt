@@ -2,6 +2,7 @@ use Rattle.ceal_cli.proofs.Outputs.DumpBesideSave.{dump-verified}
 use Rattle.ceal_cli.proofs.Outputs.FirstScript.{Known}
 use Rattle.ceal_cli.proofs.laws.dump_verified.Goals as goal
 
+-- what was dumped is read back as the record of a run, and such a record is verified
 pub returns : goal.returns
 returns c =
     let known : Known = record {

@@ -2,6 +2,7 @@ use Rattle.ceal_cli.proofs.Outputs.OneOutput.{one-output}
 use Rattle.ceal_cli.proofs.Outputs.OneRecord.{Once}
 use Rattle.ceal_cli.proofs.laws.one_output.Goals as goal
 
+-- an input has one split, one code and one list of replies, so it has one output
 pub returns : goal.returns
 returns c =
     let once : Once = record {

@@ -1,6 +1,7 @@
 use Rattle.ceal_cli.proofs.Outputs.CutScript.{Cut, resumable, resumed-output}
 use Rattle.ceal_cli.proofs.laws.resumed_output.Goals as goal
 
+-- the lines before the save and those after it are one script, and its replies are one text
 pub returns : goal.returns
 returns c =
     let cut : Cut = record {

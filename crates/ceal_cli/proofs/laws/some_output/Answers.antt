@@ -2,6 +2,7 @@ use Rattle.ceal_cli.proofs.Outputs.OutputExists.{checked, listed, refused, repli
 use Rattle.ceal_cli.proofs.Outputs.SomeResumed.{Judged, Parts, resumed, some-output, unresumed}
 use Rattle.ceal_cli.proofs.laws.some_output.Goals as goal
 
+-- each mode has an output, by the laws of what it prints
 pub returns : goal.returns
 returns c =
     let compiled = c.accepted_is_compiled.ensures.some in

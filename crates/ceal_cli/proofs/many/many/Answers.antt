@@ -5,6 +5,7 @@ use Rattle.ceal_cli.proofs.Sessions.GrowingReplies.{nothing, writes_as}
 use Rattle.ceal_cli.proofs.Outputs.OutputByMode.{many_told}
 use Rattle.ceal_cli.proofs.many.many.Goals as goal
 
+-- a maker with a new session replies to the lines
 pub returns : goal.returns
 returns g c = record {
   writes = writes_as c.reply_all.result _ _ _ _ _ _

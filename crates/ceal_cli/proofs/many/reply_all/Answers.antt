@@ -6,6 +6,7 @@ use Rattle.ceal_cli.proofs.many.reply_all.Goals as goal
 pub loop-line-init : goal.loop-line-init
 loop-line-init g c = record { so_far = none-told _ _ _ _ c.requires.none; maker = refl; later = omega arith }
 
+-- the replies to one line more are written
 pub loop-line-preserved : goal.loop-line-preserved
 loop-line-preserved g c =
     let left = rw c.in-Some.ensures at c.loop-line.invariant.so_far in
@@ -19,6 +20,7 @@ loop-line-preserved g c =
       later = omega (arith, a, b);
     }
 
+-- the sink took no more: what is written is a part of the replies
 pub returns-in_err-reply : goal.returns-in_err-reply
 returns-in_err-reply g c =
     let left = rw c.in-Some.ensures at c.loop-line.invariant.so_far in

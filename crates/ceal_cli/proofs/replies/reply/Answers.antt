@@ -2,6 +2,7 @@ use Rattle.ceal_session.specs.SessionState.{situation}
 use Rattle.ceal_cli.proofs.Sessions.GrowingReplies.{puts_reply}
 use Rattle.ceal_cli.proofs.replies.reply.Goals as goal
 
+-- the output is the reply, or as much of it as the sink took
 pub returns : goal.returns
 returns g c = record {
   writes = puts_reply _ _ _ _ _ (situation c.args.session.now) (situation c.answer.new.self) c.args.line.now c.in_ok-answer.answer

@@ -11,6 +11,7 @@ loop-line-preserved g c =
       later = omega (arith, c.loop-line.invariant.later, c.in_ok-reply.ensures.writes.later);
     }
 
+-- the sink took no more: what is written is a part of the replies
 pub returns-in_err-reply : goal.returns-in_err-reply
 returns-in_err-reply g c =
     let left = rw c.in-Some.ensures at c.loop-line.invariant.so_far in

@@ -8,6 +8,7 @@ use Rattle.ceal_cli.proofs.Outputs.ResumedOutput.{is-unreadable, is-unsound, rep
 use Rattle.ceal_cli.proofs.Inputs.AnswerOrRefusal.{not-refused}
 use Rattle.ceal_cli.proofs.resume.resume.Goals as goal
 
+-- the session was restored, and the sink took a part of its replies
 pub returns-in_err-told-in-Ok-clause-writes : goal.returns-in_err-told-in-Ok-clause-writes
 returns-in_err-told-in-Ok-clause-writes g c =
     let w = replied c.args.input.bytes.now c.args.input.part c.requires.split c.args.program c.requires.program c.requires.compiled c.script-bytes.result.now c.script-bytes.ensures
@@ -17,6 +18,7 @@ returns-in_err-told-in-Ok-clause-writes g c =
     (rw (← c.script.ensures, ← c.new.ensures) c.reply_all-told.ensures.writes) in
     record { all = search rules; part = w.part; fault = search rules; later = w.later }
 
+-- the session was restored, and its replies are written
 pub returns-in_ok-told-in-Ok-clause-writes : goal.returns-in_ok-told-in-Ok-clause-writes
 returns-in_ok-told-in-Ok-clause-writes g c =
     let w = replied c.args.input.bytes.now c.args.input.part c.requires.split c.args.program c.requires.program c.requires.compiled c.script-bytes.result.now c.script-bytes.ensures
@@ -26,6 +28,7 @@ returns-in_ok-told-in-Ok-clause-writes g c =
     (rw (← c.script.ensures, ← c.new.ensures) c.in_ok-told-in-Ok.ensures.writes) in
     record { all = w.all; part = w.part; fault = search rules; later = w.later }
 
+-- the save holds, so the lines after it are answered
 pub returns-in_ok-told-in-Ok-clause-taken : goal.returns-in_ok-told-in-Ok-clause-taken
 returns-in_ok-told-in-Ok-clause-taken g c = (
   (λ _. taken c.args.input.bytes.now c.args.input.part c.requires.split c.args.program c.requires.program c.requires.compiled c.script-bytes.result.now c.script-bytes.ensures
@@ -33,6 +36,7 @@ returns-in_ok-told-in-Ok-clause-taken g c = (
   λ _. refl,
 )
 
+-- the save is unreadable, and the sink took a part of the line that says so
 pub returns-in_err-write_all-in-Err-Unreadable-clause-writes : goal.returns-in_err-write_all-in-Err-Unreadable-clause-writes
 returns-in_err-write_all-in-Err-Unreadable-clause-writes g c =
     let why = rw c.in-Err-Unreadable.field-0-is at c.in-Err-Unreadable.ensures.unreadable in
@@ -41,6 +45,7 @@ returns-in_err-write_all-in-Err-Unreadable-clause-writes g c =
     c.write_all.ensures.all c.write_all.ensures.prefix c.write_all.ensures.fault c.write_all.ensures.later in
     record { all = search rules; part = w.part; fault = search rules; later = w.later }
 
+-- the save is unreadable, and the line says so
 pub returns-in_ok-write_all-in-Err-Unreadable-clause-writes : goal.returns-in_ok-write_all-in-Err-Unreadable-clause-writes
 returns-in_ok-write_all-in-Err-Unreadable-clause-writes g c =
     let why = rw c.in-Err-Unreadable.field-0-is at c.in-Err-Unreadable.ensures.unreadable in
@@ -50,6 +55,7 @@ returns-in_ok-write_all-in-Err-Unreadable-clause-writes g c =
     c.in_ok-write_all-in-Err-Unreadable.ensures.fault c.in_ok-write_all-in-Err-Unreadable.ensures.later in
     record { all = w.all; part = w.part; fault = search rules; later = w.later }
 
+-- the save does not hold, and the sink took a part of the line that says so
 pub returns-in_err-write_all-in-Err-Unsound-clause-writes : goal.returns-in_err-write_all-in-Err-Unsound-clause-writes
 returns-in_err-write_all-in-Err-Unsound-clause-writes g c =
     let why = rw c.in-Err-Unsound.field-0-is at c.in-Err-Unsound.ensures.unsound in
@@ -58,6 +64,7 @@ returns-in_err-write_all-in-Err-Unsound-clause-writes g c =
     c.write_all-in-Err-Unsound.ensures.all c.write_all-in-Err-Unsound.ensures.prefix c.write_all-in-Err-Unsound.ensures.fault c.write_all-in-Err-Unsound.ensures.later in
     record { all = search rules; part = w.part; fault = search rules; later = w.later }
 
+-- the save does not hold, and the line says so
 pub returns-in_ok-write_all-in-Err-Unsound-clause-writes : goal.returns-in_ok-write_all-in-Err-Unsound-clause-writes
 returns-in_ok-write_all-in-Err-Unsound-clause-writes g c =
     let why = rw c.in-Err-Unsound.field-0-is at c.in-Err-Unsound.ensures.unsound in
@@ -66,6 +73,7 @@ returns-in_ok-write_all-in-Err-Unsound-clause-writes g c =
     c.in_ok-write_all-in-Err-Unsound.ensures.all c.in_ok-write_all-in-Err-Unsound.ensures.prefix c.in_ok-write_all-in-Err-Unsound.ensures.fault c.in_ok-write_all-in-Err-Unsound.ensures.later in
     record { all = w.all; part = w.part; fault = search rules; later = w.later }
 
+-- the save does not hold, so none of the lines is answered
 pub returns-in_ok-write_all-in-Err-Unsound-clause-taken : goal.returns-in_ok-write_all-in-Err-Unsound-clause-taken
 returns-in_ok-write_all-in-Err-Unsound-clause-taken g c =
     let why = rw c.in-Err-Unsound.field-0-is at c.in-Err-Unsound.ensures.unsound in (

@@ -2,6 +2,7 @@ use Rattle.ceal_cli.proofs.Sessions.GrowingReplies.{writes_as}
 use Rattle.ceal_cli.proofs.Outputs.OutputByMode.{saved, saved-readable}
 use Rattle.ceal_cli.proofs.save.save.Goals as goal
 
+-- a new session carries out the script, and what it has then is saved
 pub returns : goal.returns
 returns g c = record {
   writes = writes_as c.write_save-told.result _ _ _ _ _ _

@@ -4,6 +4,7 @@ use Rattle.ceal_cli.specs.ServedLines.{IsSaveAfterLines}
 use Rattle.ceal_cli.specs.Lines.{script_lines}
 use Rattle.ceal_cli.proofs.save.write_save.Goals as goal
 
+-- the output is the save, or as much of it as the sink took
 pub returns : goal.returns
 returns g c = record {
   writes = writes_text _ _ _ _ _ (IsSaveAfterLines c.args.source.now (situation c.args.session.now) (script_lines c.args.script.now)) c.items.result.now

@@ -64,6 +64,7 @@ returns-in-Ok-true-clause-answered g c =
     λ _. answer_for _ _ _ _ c.in-Ok.ensures.all c.in-Ok.ensures.end c.deref.ensures.value _ _ c.args.mode c.one_side.ensures.answered
     (c.in-Ok-true.ensures.taken.0 c.in-Ok-true.field-0-test) c.in-Ok-true.ensures.writes.all
 
+-- an input that is accepted would have been taken
 pub returns-in-Ok-false-clause-told : goal.returns-in-Ok-false-clause-told
 returns-in-Ok-false-clause-told g c =
     λ _. refusal_for _ _ _ _ c.in-Ok.ensures.all c.in-Ok.ensures.end c.deref.ensures.value _ _ c.args.mode c.one_side.ensures.refused c.requires.reads

@@ -7,6 +7,7 @@ use Rattle.ceal_cli.proofs.Options.OneMode.{one_mode, one_workload, not_both, ke
 use Rattle.ceal_cli.proofs.Outputs.OutputOfBytes.{any_answer, any_output, any_prefix, loses_none, no_refusal}
 use Rattle.ceal_cli.proofs.top.ceal_main.Goals as goal
 
+-- the words ask for a workload, and what is written is the output of that
 pub returns-in-Ok-Some-Gen-clause-headline : goal.returns-in-Ok-Some-Gen-clause-headline
 returns-in-Ok-Some-Gen-clause-headline g c =
     let asked = rw (c.in-Ok-Some-Gen.field-0-is, c.in-Ok-Some-Gen.field-0-0-is) at c.in-Ok-Some-Gen.ensures in
@@ -24,6 +25,7 @@ returns-in-Ok-Some-Gen-clause-within g c =
     let asked = rw (c.in-Ok-Some-Gen.field-0-is, c.in-Ok-Some-Gen.field-0-0-is) at c.in-Ok-Some-Gen.ensures in
     λ _ reads. absurd (not_both _ (c.in-Ok-Some-Gen.kind, c.in-Ok-Some-Gen.seed, c.in-Ok-Some-Gen.size, asked) reads)
 
+-- the same, where the sink took only a part
 pub returns-in-Ok-Some-Gen-clause-prefix : goal.returns-in-Ok-Some-Gen-clause-prefix
 returns-in-Ok-Some-Gen-clause-prefix g c =
     let asked = rw (c.in-Ok-Some-Gen.field-0-is, c.in-Ok-Some-Gen.field-0-0-is) at c.in-Ok-Some-Gen.ensures in
@@ -31,12 +33,14 @@ returns-in-Ok-Some-Gen-clause-prefix g c =
     rw (one_mode _ mode (Gen c.in-Ok-Some-Gen.kind c.in-Ok-Some-Gen.seed c.in-Ok-Some-Gen.size) asks asked)
     (any_prefix _ _ _ _ _ _ c.answer_workload.ensures.prefix)
 
+-- the words ask for this workload and no other
 pub returns-in-Ok-Some-Gen-clause-generated : goal.returns-in-Ok-Some-Gen-clause-generated
 returns-in-Ok-Some-Gen-clause-generated g c =
     let asked = rw (c.in-Ok-Some-Gen.field-0-is, c.in-Ok-Some-Gen.field-0-0-is) at c.in-Ok-Some-Gen.ensures in
     λ whole kind seed size asks.
     one_workload (WritesGenerated (g.K.Sink.written c.args.sink.now) (g.K.Sink.written c.answer_workload.new.sink)) _ _ _ _ _ _ _ asked asks (c.answer_workload.ensures.output whole)
 
+-- the same, where the sink took only a part
 pub returns-in-Ok-Some-Gen-clause-generated_prefix : goal.returns-in-Ok-Some-Gen-clause-generated_prefix
 returns-in-Ok-Some-Gen-clause-generated_prefix g c =
     let asked = rw (c.in-Ok-Some-Gen.field-0-is, c.in-Ok-Some-Gen.field-0-0-is) at c.in-Ok-Some-Gen.ensures in
@@ -61,6 +65,7 @@ returns-in-Ok-Some-Gen-clause-refuses g c =
     let asked = rw (c.in-Ok-Some-Gen.field-0-is, c.in-Ok-Some-Gen.field-0-0-is) at c.in-Ok-Some-Gen.ensures in
     λ mode asks reads. absurd (not_both _ (c.in-Ok-Some-Gen.kind, c.in-Ok-Some-Gen.seed, c.in-Ok-Some-Gen.size, asked) (mode, asks, reads))
 
+-- a workload is always answered
 pub returns-in-Ok-Some-Gen-clause-answered : goal.returns-in-Ok-Some-Gen-clause-answered
 returns-in-Ok-Some-Gen-clause-answered g c =
     let asked = rw (c.in-Ok-Some-Gen.field-0-is, c.in-Ok-Some-Gen.field-0-0-is) at c.in-Ok-Some-Gen.ensures in
@@ -90,6 +95,7 @@ returns-in-Ok-None-clause-lost g c = loses_none _ _
 pub returns-in-Err-clause-lost : goal.returns-in-Err-clause-lost
 returns-in-Err-clause-lost g c = loses_none _ _
 
+-- the words ask for a mode with an input, and for no workload
 pub returns-in-Ok-Some : goal.returns-in-Ok-Some
 returns-in-Ok-Some g c =
     let asked = rw c.in-Ok-Some.field-0-is at c.in-Ok-Some.ensures in

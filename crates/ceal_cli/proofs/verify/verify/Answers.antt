@@ -2,6 +2,7 @@ use Rattle.ceal_cli.proofs.Sessions.GrowingReplies.{writes_text}
 use Rattle.ceal_cli.proofs.Outputs.OutputByMode.{checked}
 use Rattle.ceal_cli.proofs.verify.verify.Goals as goal
 
+-- the output is the verdict, or as much of it as the sink took
 pub returns : goal.returns
 returns g c = record {
   writes = writes_text _ _ _ _ _ _ c.in_ok-line.line.now

@@ -10,6 +10,7 @@ use Rattle.ceal_cli.proofs.Options.ParserTakes.{free, simple, taken}
 use Rattle.ceal_cli.proofs.Options.OneWord.{FUEL, WORDS}
 use Rattle.ceal_cli.proofs.words.asked_mode.Goals as goal
 
+-- the words match the rules of the table, and ask for the mode of their first word
 pub returns-in-Ok : goal.returns-in-Ok
 returns-in-Ok c =
     let app : app_of c.in_ok-parser.parser ≡ ceal_command = c.in_ok-parser.ensures in
@@ -21,6 +22,7 @@ returns-in-Ok c =
     ∙ ap (λ (o : Option (List Text)). unwrap_or o []) (c.get_strs.ensures ∙ raw_values-rows (found_of c.in-Ok.matches) WORDS ∙ ap (all_of WORDS) rows_are) in
     mode_of (texts c.args.words.now) _ _ c.chosen.result none plain_is value_is c.chosen.ensures
 
+-- the words match no rule, so they ask for nothing
 pub returns : goal.returns
 returns c = λ defined.
     let app : app_of c.in_ok-parser.parser ≡ ceal_command = c.in_ok-parser.ensures in

@@ -10,6 +10,7 @@ loop-i-init c = record {
   same = no-arguments _ c.clear.ensures.items ∙ sym (bound-end c.args.params.now c.args.words.now c.smaller-i.result c.smaller-i.ensures);
 }
 
+-- one parameter more has the word of its argument
 pub loop-i-preserved : goal.loop-i-preserved
 loop-i-preserved c = record {
   within = omega (arith, c.loop-i.invariant.within);

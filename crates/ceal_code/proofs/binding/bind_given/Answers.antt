@@ -4,6 +4,7 @@ use Rattle.ceal_code.proofs.Equations.StackSteps.{no-arguments}
 use Rattle.ceal_code.proofs.Equations.GivenSteps.{others-all, others-next, given-none, given-next, given-all}
 use Rattle.ceal_code.proofs.binding.bind_given.Goals as goal
 
+-- the words are cleared, so before the first parameter each variable is null but the one that is given
 pub loop-i-init : goal.loop-i-init
 loop-i-init c = record {
   within = omega arith;
@@ -13,12 +14,15 @@ loop-i-init c = record {
 
 pub overflow_sub-at : goal.overflow_sub-at
 overflow_sub-at c =
-    let n = others-next c.args.v c.args.params.now c.loop-i.i (c.loop-i.i - 1) c.param_at-p.result c.other-one.result (omega (arith, c.loop-i-test.true)) c.param_at-p.ensures c.other-one.ensures.value in
+    let n = others-next c.args.v c.args.params.now c.loop-i.i (c.loop-i.i - 1) c.param_at-p.result c.other-one.result
+    (omega (arith, c.loop-i-test.true)) c.param_at-p.ensures c.other-one.ensures.value in
     omega (arith, n, c.loop-i.invariant.count)
 
+-- one parameter more has its word: the one that is given, or the next of the others
 pub loop-i-preserved : goal.loop-i-preserved
 loop-i-preserved c =
-    let n = others-next c.args.v c.args.params.now c.loop-i.i (c.loop-i.i - 1) c.param_at-p.result c.other-one.result (omega (arith, c.loop-i-test.true)) c.param_at-p.ensures c.other-one.ensures.value in
+    let n = others-next c.args.v c.args.params.now c.loop-i.i (c.loop-i.i - 1) c.param_at-p.result c.other-one.result
+    (omega (arith, c.loop-i-test.true)) c.param_at-p.ensures c.other-one.ensures.value in
     record {
       within = omega (arith, c.loop-i.invariant.within);
       count = omega (arith, n, c.loop-i.invariant.count);

@@ -4,6 +4,7 @@ use Rattle.ceal_code.proofs.Equations.StackSteps.{no-arguments}
 use Rattle.ceal_code.proofs.Equations.GivenSteps.{values-end, values-next}
 use Rattle.ceal_code.proofs.binding.bind_values.Goals as goal
 
+-- the words are cleared, so before the first parameter no variable has a word
 pub loop-i-init : goal.loop-i-init
 loop-i-init g c = record {
   within = omega (arith, c.smaller-i.ensures);
@@ -13,6 +14,7 @@ loop-i-init g c = record {
       c.args.params.now c.args.es.now c.smaller-i.result c.smaller-i.ensures);
 }
 
+-- one parameter more has the value of its argument
 pub loop-i-preserved : goal.loop-i-preserved
 loop-i-preserved g c = record {
   within = omega (arith, c.loop-i.invariant.within);

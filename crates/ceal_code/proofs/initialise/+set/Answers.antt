@@ -3,6 +3,7 @@ use Rattle.ceal_code.specs.Init.{arguments}
 use Rattle.ceal_code.proofs.Equations.InitSteps.{block-take}
 use Rattle.ceal_code.proofs.initialise.+set.Goals as goal
 
+-- one statement more has set its field
 pub set_fields-loop-stmt-preserved : goal.set_fields-loop-stmt-preserved
 set_fields-loop-stmt-preserved g t c =
     let within : c.loop-stmt.stmt-index < length c.args.stmts.now = omega arith in

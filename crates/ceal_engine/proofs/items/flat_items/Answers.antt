@@ -21,6 +21,7 @@ next-next-requires c =
     rw c.order.ensures
     (walk-there c.args.trace.now.nodes c.loop-node.items.items c.in-Some.stamp (subst (λ n. Walking c.args.trace.now.nodes c.loop-node.items.items n) c.in-Some.is c.loop-node.invariant))
 
+-- one node more, with the steps after it
 pub loop-node-preserved : goal.loop-node-preserved
 loop-node-preserved c =
     walk-more c.args.trace.now.nodes c.root.ensures.whole.order.distinct c.loop-node.items.items c.in-Some.stamp

@@ -5,6 +5,7 @@ use Rattle.ceal_grammar.specs.Judged.{tree_or_fault}
 use Rattle.ceal_parse.proofs.Outcomes.{found_from, all_from, fault_from, only_from}
 use Rattle.ceal_parse.proofs.parse.parse_owned.Goals as goal
 
+-- what was read is the verdict on the tokens, which is the tree of the grammar or the first fault
 pub returns : goal.returns
 returns c =
     let tokens = c.args.tokens in

@@ -9,6 +9,7 @@ returns-in-Err c = record {
       c.in-Err.ensures.value;
 }
 
+-- the state after one token more is that of the machine, and keeps the limits
 pub loop-token-preserved : goal.loop-token-preserved
 loop-token-preserved c =
     let next = c.advance.new.self.state in

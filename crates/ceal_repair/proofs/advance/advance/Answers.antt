@@ -23,6 +23,7 @@ turns-requires-clause-comes c =
 pub turns-requires-clause-idle : goal.turns-requires-clause-idle
 turns-requires-clause-idle c = idle-first c.at_root-repair.result.stack.now.waits.aside c.at_root-repair.result.frames.now.items c.at_root-repair.ensures.frames
 
+-- the turns continue a repair of the call that has begun, and what they end with is a slice of it
 pub returns-clause-sliced : goal.returns-clause-sliced
 returns-clause-sliced c = λ f args r part.
     let e = c.at_root-repair.ensures in
@@ -37,6 +38,7 @@ returns-clause-sliced c = λ f args r part.
     let few : c.in_ok-progress.progress ≢ Spent → c.running-1.given.0.spent ≤ c.args.fuel = λ n. subst (λ (z : Running). z.spent ≤ c.args.fuel) same (t.within n (omega (arith, part.few, e.spent))) in
     is-sliced code inputs f args c.args.fuel r c.args.running.now part c.in_ok-progress.progress c.args.running.now c.running-1.given.0 c.args.reads c.requires.some few ended
 
+-- the same from a finished run, whose repair begins here
 pub returns-clause-repaired : goal.returns-clause-repaired
 returns-clause-repaired c = λ f args l kept none.
     let e = c.at_root-repair.ensures in
@@ -50,6 +52,7 @@ returns-clause-repaired c = λ f args l kept none.
     (rw (e.code, e.inputs) at (t.ended f args o c.args.running.now come)) in
     is-repaired code inputs f args c.args.reads c.args.fuel l c.args.running.now kept c.args.running.now c.running-1.given.0 c.in_ok-progress.progress ended
 
+-- the nodes at the beginning agree with the walk, and the turns only add to them
 pub returns-clause-front : goal.returns-clause-front
 returns-clause-front c = λ n.
     let q = c.requires.part in
@@ -72,6 +75,7 @@ returns-clause-pays c =
     pays-as c.at_root-repair.result.running.now c.args.running.now c.turns.new.self.running.now c.running-1.given.0 e.view e.spent (ap (λ (z : Running). z.tables) same)
     (ap (λ (z : Running). z.spent) same) t.pays
 
+-- where there was memory for all, the turns have no error
 pub returns-in_err-progress-clause-sure : goal.returns-in_err-progress-clause-sure
 returns-in_err-progress-clause-sure c = λ f args r part honest.
     let e = c.at_root-repair.ensures in

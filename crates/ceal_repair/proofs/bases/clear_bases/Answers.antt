@@ -4,6 +4,7 @@ use Rattle.ceal_repair.proofs.Runs.BlockBases.{setting-plain, setting-more}
 use Rattle.ceal_repair.proofs.bases.clear_bases.Goals as goal
 use Rattle.ceal_repair.proofs.bases.clear_bases.Goals.{then-is_modifiable+in_ok-edit-in-Some, else-is_modifiable}
 
+-- one field more holds 0 before any write, or it is no modifiable
 pub loop-field-preserved : goal.loop-field-preserved
 loop-field-preserved c = elim c.if-is_modifiable.branch [
   | then-is_modifiable+in_ok-edit-in-Some w ↦

@@ -3,6 +3,7 @@ use Rattle.ceal_repair.proofs.Runs.BlockBases.{field-word, set-word, setting-pla
 use Rattle.ceal_repair.proofs.bases.set_bases.Goals as goal
 use Rattle.ceal_repair.proofs.bases.set_bases.Goals.{then-is_modifiable+in_ok-edit-in-Some, else-is_modifiable}
 
+-- one field more has its word for a base, or it is no modifiable and has none
 pub loop-field-preserved : goal.loop-field-preserved
 loop-field-preserved c = elim c.if-is_modifiable.branch [
   | then-is_modifiable+in_ok-edit-in-Some w ↦

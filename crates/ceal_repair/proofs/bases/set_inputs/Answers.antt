@@ -4,6 +4,7 @@ use Rattle.ceal_base.specs.Block.{Block}
 use Rattle.ceal_repair.proofs.Runs.BlockBases.{inputs-more}
 use Rattle.ceal_repair.proofs.bases.set_inputs.Goals as goal
 
+-- the fields of one input more have their bases, and those before it keep theirs
 pub loop-n-preserved : goal.loop-n-preserved
 loop-n-preserved c =
     let e = c.in_ok-set_bases.ensures in

@@ -16,6 +16,7 @@ loop-act-init c = record {
   pays = stays c.args.repair.now.running.now c.args.repair.now.running.now (omega arith) refl refl;
 }
 
+-- one act more is done, and it is paid
 pub loop-act-preserved : goal.loop-act-preserved
 loop-act-preserved c =
     let told : c.in_ok-act.field-0 ≡ true = grind (arith, c.if-not-branch.false) in

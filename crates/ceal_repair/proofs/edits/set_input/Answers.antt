@@ -3,6 +3,7 @@ use Rattle.ceal_repair.proofs.Runs.InputPlaces.{placing-plain, placing-more, pla
 use Rattle.ceal_repair.proofs.edits.set_input.Goals as goal
 use Rattle.ceal_repair.proofs.edits.set_input.Goals.{then-is_modifiable, else-is_modifiable}
 
+-- one field more has its word for a base, or it is no modifiable and has none
 pub loop-field-preserved : goal.loop-field-preserved
 loop-field-preserved c = elim c.if-is_modifiable.branch [
   | then-is_modifiable w ↦

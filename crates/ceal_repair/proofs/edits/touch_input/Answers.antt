@@ -3,6 +3,7 @@ use Rattle.ceal_repair.proofs.Runs.InputPlaces.{touching-plain, touching-more, l
 use Rattle.ceal_repair.proofs.edits.touch_input.Goals as goal
 use Rattle.ceal_repair.proofs.edits.touch_input.Goals.{then-is_modifiable+in_ok-touch-in-Some, else-is_modifiable}
 
+-- one field more is touched, or it is no modifiable
 pub loop-field-preserved : goal.loop-field-preserved
 loop-field-preserved c = elim c.if-is_modifiable.branch [
   | then-is_modifiable+in_ok-touch-in-Some w ↦

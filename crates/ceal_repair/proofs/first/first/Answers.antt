@@ -6,6 +6,7 @@ use Rattle.ceal_repair.proofs.first.first.Goals as goal
 use Rattle.ceal_repair.specs.Moment.{first_start}
 use Rattle.ceal_repair.specs.declared.running.Running.{Running}
 
+-- nothing has run yet, so what is to come is the run of the call from its beginning
 pub complete-requires : goal.complete-requires
 complete-requires c =
     let r = c.at_root-repair.ensures in
@@ -15,6 +16,7 @@ complete-requires c =
     e.kept e.heap e.bases e.spent c.at_root-repair.result r.code r.inputs r.view r.heap r.spent r.frames r.limit (r.stack ∙ c.in_ok-room.ensures.started) r.cursor in
     record { runs = (first_start c.args.code.now c.args.inputs.now c.args.function c.args.args.now, runs) }
 
+-- the run ended within the fuel, so its trace is the first one of the call
 pub returns-in-Ok-true : goal.returns-in-Ok-true
 returns-in-Ok-true c =
     let r = c.at_root-repair.ensures in
@@ -36,6 +38,7 @@ returns-in-Ok-true c =
           (ap (λ (run : Running). run.tables) back) (ap (λ (run : Running). run.spent) back) c.in-Ok-true.ensures.pays);
     }
 
+-- the run has more steps than the fuel, so the call has no first trace within it
 pub returns-in-Ok-false : goal.returns-in-Ok-false
 returns-in-Ok-false c =
     let r = c.at_root-repair.ensures in

@@ -8,6 +8,7 @@ use Rattle.ceal_session.proofs.Engine.EngineKeepsPast.{brought-anew, brought-on,
 use Rattle.ceal_session.specs.Outcomes.{Outcome, EngineAfterCall}
 use Rattle.ceal_session.proofs.advance.advanced.Goals as goal
 
+-- from a finished run the outcome is that of the engine's call
 pub returns-in-Finished : goal.returns-in-Finished
 returns-in-Finished c = record {
   brings = λ call again.
@@ -19,6 +20,7 @@ returns-in-Finished c = record {
       o.result o.ensures.phase o.ensures.present o.ensures.comes (some-reads o.result c.args.reads o.ensures.more) o.ensures.keeps.out_of_fuel o.ensures.keeps.dropped;
 }
 
+-- the same, where a repair begins
 pub returns-in-Pending : goal.returns-in-Pending
 returns-in-Pending c = record {
   brings = λ call again.
@@ -30,6 +32,7 @@ returns-in-Pending c = record {
       o.result o.ensures.phase o.ensures.present o.ensures.comes (some-reads o.result c.args.reads o.ensures.more) o.ensures.keeps.out_of_fuel o.ensures.keeps.dropped;
 }
 
+-- the same, where a repair continues
 pub returns-in-Partial : goal.returns-in-Partial
 returns-in-Partial c = record {
   brings = λ call again.
@@ -41,6 +44,7 @@ returns-in-Partial c = record {
       o.result o.ensures.phase o.ensures.present o.ensures.comes (some-reads o.result c.args.reads o.ensures.more) o.ensures.keeps.out_of_fuel o.ensures.keeps.dropped;
 }
 
+-- there is no run, so the call runs from nothing
 pub returns-in-Dropped : goal.returns-in-Dropped
 returns-in-Dropped c = record {
   brings = λ call again.

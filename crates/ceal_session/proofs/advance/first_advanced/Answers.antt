@@ -6,6 +6,7 @@ use Rattle.ceal_session.proofs.Engine.EngineKeepsPast.{brought-anew}
 use Rattle.ceal_session.specs.Outcomes.{Outcome, EngineAfterCall}
 use Rattle.ceal_session.proofs.advance.first_advanced.Goals as goal
 
+-- the first run of a call has no repair before it
 pub returns : goal.returns
 returns c = record {
   brings =

@@ -10,6 +10,7 @@ use Rattle.ceal_session.proofs.bound.cost_since.Goals as goal
 pub returns-in-None : goal.returns-in-None
 returns-in-None c = rw c.in-None.ensures.value refl
 
+-- the call fits the old inputs, on which it ran
 pub first_items-requires : goal.first_items-requires
 first_items-requires c =
     let e = c.args.engine.now in
@@ -17,6 +18,7 @@ first_items-requires c =
     let runs = subst (λ o. IfSome o (λ call. IsRunOn e old call × IsRunOn e e.inputs call)) c.in-Some.ensures.value c.requires.measured.1 in
     record { fits = rw (c.undo.ensures, c.in_ok-before.ensures.value) runs.0.fits }
 
+-- the call fits the new inputs, too
 pub first_items-requires-in-Some : goal.first_items-requires-in-Some
 first_items-requires-in-Some c =
     let e = c.args.engine.now in
@@ -30,6 +32,7 @@ cost-requires-clause-old c = few-items c.args.engine.now.fuel c.phase-phase.ensu
 pub cost-requires-clause-new : goal.cost-requires-clause-new
 cost-requires-clause-new c = few-items c.args.engine.now.fuel c.phase-phase.ensures.whole.fuel.1 _ c.in_ok-new-in-Some.new c.in_ok-new-in-Some.ensures.first
 
+-- the bound is the cost of the two runs from scratch, aligned
 pub returns : goal.returns
 returns c =
     let e = c.args.engine.now in

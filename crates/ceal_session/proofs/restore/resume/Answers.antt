@@ -6,6 +6,7 @@ use Rattle.ceal_session.specs.SessionSave.{IsResumed}
 use Rattle.ceal_snap.specs.SaveText.{Save}
 use Rattle.ceal_session.proofs.restore.resume.Goals as goal
 
+-- the engine was restored to a finished run of the saved call
 pub finished-requires : goal.finished-requires
 finished-requires c =
     let e = c.in_ok-engine in
@@ -16,6 +17,7 @@ finished-requires c =
           (restored-holds c.args.program s c.requires.compiled c.requires.holds e.engine c.phase-phase.ensures.whole e.ensures.code e.ensures.fuel e.ensures.inputs e.ensures.call e.ensures.phase));
     }
 
+-- the session is the saved one: its names, inputs, run and last work
 pub returns : goal.returns
 returns c =
     let e = c.in_ok-engine in

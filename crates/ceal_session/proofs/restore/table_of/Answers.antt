@@ -7,6 +7,7 @@ returns-then-has c =
     let l = c.loop-name in
     found-twice l.table c.in-Some.name.now l.names.now c.in-Some.more.now c.args.names.now c.in-Some.ensures.cases.0 l.invariant.whole (sym c.has.ensures.there ∙ c.if-has.true)
 
+-- one name more, which was not there
 pub loop-name-preserved : goal.loop-name-preserved
 loop-name-preserved c =
     let l = c.loop-name in

@@ -6,6 +6,7 @@ use Rattle.ceal_session.specs.State.{numbers_in}
 use Rattle.ceal_theory.specs.Pasts.{goes}
 use Rattle.ceal_session.proofs.session.answer_line.Goals as goal
 
+-- a blank line or a comment has no reply, and any other has that of its command
 pub returns-clause-reply : goal.returns-clause-reply
 returns-clause-reply c =
     let mid = c.reply_of.new.state in

@@ -8,6 +8,7 @@ use Rattle.ceal_session.specs.Runs.{present_run}
 use Rattle.ceal_session.specs.State.{numbers_in}
 use Rattle.ceal_session.proofs.texts.answer.Goals as goal
 
+-- the text is the number in decimal digits, and a line feed
 pub returns-in-Work-clause-told : goal.returns-in-Work-clause-told
 returns-in-Work-clause-told c =
     rw c.in-Work.is

@@ -8,6 +8,7 @@ use Rattle.ceal_session.specs.Runs.{present_run}
 use Rattle.ceal_session.specs.State.{numbers_in}
 use Rattle.ceal_session.proofs.texts.bound_line.Goals as goal
 
+-- the text is the number in decimal digits, and a line feed
 pub returns-clause-told : goal.returns-clause-told
 returns-clause-told c =
     if-ok c.number_line.result

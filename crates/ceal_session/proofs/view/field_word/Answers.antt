@@ -32,6 +32,7 @@ value-requires-clause-finished c =
     let e = c.args.engine.now in
     seen-finished e c.args.block (word-seen e c.phase-phase.ensures.whole c.progress_law.ensures.law c.args.block c.args.field c.requires)
 
+-- the field is a modifiable of a block of the memory
 pub value-requires-clause-there : goal.value-requires-clause-there
 value-requires-clause-there c =
     let e = c.args.engine.now in
@@ -42,6 +43,7 @@ value-requires-clause-there c =
     kind-there e c.phase-phase.ensures.whole c.progress_law.ensures.law c.args.block c.args.field c.requires
     (whole-engine e c.phase-phase.ensures.whole fin c.fitting_is_whole.ensures.law) p
 
+-- the field is plain, so its word is the one that its block was made with
 pub returns-then-is_plain : goal.returns-then-is_plain
 returns-then-is_plain c =
     let e = c.args.engine.now in

@@ -10,6 +10,7 @@ pub loop-entry-init : goal.loop-entry-init
 loop-entry-init c =
     rw (c.reverse.ensures.items, c.empty-functions.ensures.value) (ap (λ es. in_turn (with_body c.args.program.now) es []) (reverse-reverse c.args.entries.now.items))
 
+-- the first body with a fault has the first fault of the list
 pub returns-in_err-take_body : goal.returns-in_err-take_body
 returns-in_err-take_body c =
     let popped : c.loop-entry.entries.items ≡ c.pop.new.self.items ++ c.in-Some.entry ∷ [] = c.pop.ensures.items ∙ (rw c.in-Some.is refl) in
@@ -17,6 +18,7 @@ returns-in_err-take_body c =
     rw (p.1, p.2) (taken-failed (with_body c.args.program.now) c.loop-entry.entries.items c.pop.new.self.items c.in-Some.entry _ _ _
     popped c.loop-entry.invariant c.in_err-take_body.ensures)
 
+-- one function more has a body without a fault
 pub loop-entry-preserved : goal.loop-entry-preserved
 loop-entry-preserved c =
     let popped : c.loop-entry.entries.items ≡ c.pop.new.self.items ++ c.in-Some.entry ∷ [] = c.pop.ensures.items ∙ (rw c.in-Some.is refl) in

@@ -14,18 +14,21 @@ returns-in_ok-a-in-Field-form t c =
     (rw c.get-in-Address.ensures.value at c.in-Field-form.is) in
     grind arith
 
+-- the row of the element has a fault, which is the first one
 pub returns-in_err-a-in-Field-form-2 : goal.returns-in_err-a-in-Field-form-2
 returns-in_err-a-in-Field-form-2 t c =
     let e = type-element c.args.site.now.program.now c.args.site.now.own c.args.site.now.variables.now c.args.e.now.span c.in-Pick.operand c.in-Pick.index c.in-Field-form-2.a c.in-Field-form-2.name
     (rw c.get-in-Pick.ensures.value at c.in-Field-form-2.is) in
     grind arith
 
+-- the row has no fault, and the index has one
 pub returns-in_err-index-in-Field-form-2 : goal.returns-in_err-index-in-Field-form-2
 returns-in_err-index-in-Field-form-2 t c =
     let e = type-element c.args.site.now.program.now c.args.site.now.own c.args.site.now.variables.now c.args.e.now.span c.in-Pick.operand c.in-Pick.index c.in-Field-form-2.a c.in-Field-form-2.name
     (rw c.get-in-Pick.ensures.value at c.in-Field-form-2.is) in
     grind arith
 
+-- neither has a fault, so it depends on their kinds
 pub returns-in_ok-index-in-Field-form-2 : goal.returns-in_ok-index-in-Field-form-2
 returns-in_ok-index-in-Field-form-2 t c =
     let e = type-element c.args.site.now.program.now c.args.site.now.own c.args.site.now.variables.now c.args.e.now.span c.in-Pick.operand c.in-Pick.index c.in-Field-form-2.a c.in-Field-form-2.name

@@ -6,6 +6,7 @@ use Rattle.ceal_types.proofs.heads.add_row.Goals as goal
 pub loop-index-init : goal.loop-index-init
 loop-index-init c = elements-none c.args.name.now c.args.kind c.args.row c.args.fields.now
 
+-- one element could not be added, and those before it could
 pub returns-in_err-add_element : goal.returns-in_err-add_element
 returns-in_err-add_element c =
     let within : c.loop-index.index + 1 ≤ c.args.row = omega (arith, c.loop-index-test.true) in

@@ -4,6 +4,7 @@ use Rattle.ceal_types.specs.Heads.{with_field}
 use Rattle.ceal_types.proofs.Walks.WalkFromItem.{turn-passed, turn-failed, turn-over}
 use Rattle.ceal_types.proofs.heads.fields_of.Goals as goal
 
+-- this member has the first fault of the struct
 pub returns-in_err-add_field : goal.returns-in_err-add_field
 returns-in_err-add_field c =
     let within : c.loop-field.field-index < length c.args.fields.now = omega arith in

@@ -4,6 +4,7 @@ use Rattle.ceal_types.specs.Heads.{with_entry, heads}
 use Rattle.ceal_types.proofs.Walks.WalkFromItem.{turn-passed, turn-failed, turn-over}
 use Rattle.ceal_types.proofs.heads.heads.Goals as goal
 
+-- this head has the first fault of all heads
 pub returns-in_err-add_entry : goal.returns-in_err-add_entry
 unfolding heads
 returns-in_err-add_entry c =

@@ -4,6 +4,7 @@ use Rattle.ceal_types.specs.Heads.{with_parameter}
 use Rattle.ceal_types.proofs.Walks.WalkFromItem.{turn-passed, turn-failed, turn-over}
 use Rattle.ceal_types.proofs.heads.parameters_of.Goals as goal
 
+-- this parameter has the first fault of the list
 pub returns-in_err-add_parameter : goal.returns-in_err-add_parameter
 returns-in_err-add_parameter c =
     let within : c.loop-parameter.parameter-index < length c.args.parameters.now = omega arith in

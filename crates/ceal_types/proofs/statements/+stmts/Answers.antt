@@ -4,6 +4,7 @@ use Rattle.ceal_types.specs.Statements.{with_stmt, with_step, block, block_end}
 use Rattle.ceal_types.proofs.Walks.WalkFromItem.{turn-passed, turn-failed, turn-over, fails-mapped}
 use Rattle.ceal_types.proofs.statements.+stmts.Goals as goal
 
+-- this statement has the first fault of the block
 pub type_block-returns-in_err-s : goal.type_block-returns-in_err-s
 type_block-returns-in_err-s t c =
     let stmts = c.args.stmts.now in
@@ -14,6 +15,7 @@ type_block-returns-in_err-s t c =
     let all = turn-failed step stmts _ c.s-item.result _ _ _ c.s-item.is within c.loop-s.invariant.same failed in
     record { value = rw (p.1, p.2) (fails-mapped (block_end (length c.args.variables.now.scope)) _ _ all) }
 
+-- one statement more has no fault, and the scope has what it declares
 pub type_block-loop-s-preserved : goal.type_block-loop-s-preserved
 type_block-loop-s-preserved t c =
     let stmts = c.args.stmts.now in
@@ -26,6 +28,7 @@ type_block-loop-s-preserved t c =
       same = turn-passed step stmts _ c.s-item.result _ _ _ c.s-item.is within c.loop-s.invariant.same one;
     }
 
+-- no statement has a fault, and what the block declared goes out of scope
 pub type_block-returns : goal.type_block-returns
 type_block-returns t c =
     let step = with_stmt c.args.body.now.program.now c.args.body.now.own in

@@ -5,6 +5,7 @@ use Rattle.ceal_types.specs.Walk.{at_end}
 use Rattle.ceal_types.proofs.Walks.WalkFromItem.{turn-passed, turn-failed, turn-over, fails-mapped}
 use Rattle.ceal_types.proofs.values.type_exprs.Goals as goal
 
+-- this expression has the first fault of the list
 pub returns-in_err-e : goal.returns-in_err-e
 returns-in_err-e c =
     let es = c.args.es.now in
@@ -14,6 +15,7 @@ returns-in_err-e c =
     let failed = fails-mapped (at_end c.loop-e.typed) _ _ c.in_err-e.ensures.value in
     record { value = rw (p.1, p.2) (turn-failed step es _ c.e-item.result _ _ _ c.e-item.is within c.loop-e.invariant failed) }
 
+-- one expression more has no fault, and its kind is put at the end
 pub loop-e-preserved : goal.loop-e-preserved
 loop-e-preserved c =
     let es = c.args.es.now in

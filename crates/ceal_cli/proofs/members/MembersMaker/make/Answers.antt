@@ -6,6 +6,7 @@ use Rattle.ceal_cli.proofs.Sessions.SessionInSituation.{in-again}
 use Rattle.ceal_cli.specs.Members.{first_situation}
 use Rattle.ceal_cli.proofs.members.MembersMaker.make.Goals as goal
 
+-- a member begins with the state that a session of its own has
 pub returns : goal.returns
 returns c =
     let i = c.self.inside in

@@ -5,6 +5,7 @@ use Rattle.ceal_code.specs.Init.{arguments}
 use Rattle.ceal_code.proofs.Equations.ValueSteps.{arithmetic-word, arithmetic-number, binary-number}
 use Rattle.ceal_code.proofs.evaluate.Scope.+value.Goals as goal
 
+-- both operands are taken as numbers, and the arithmetic in 64 bits is that of the definition
 pub whole-returns-then-is_arithmetic : goal.whole-returns-then-is_arithmetic
 whole-returns-then-is_arithmetic g t c =
     let m : SFits w64 c.number-x.result = search rules in
@@ -15,6 +16,7 @@ whole-returns-then-is_arithmetic g t c =
     (rw c.get-then-is_arithmetic-2.ensures.value at c.number-y.ensures.number)
     (rw (to_z-of_z w64 c.number-x.result m, to_z-of_z w64 c.number-y.result n) at (to_z-of_z w64 c.arithmetic.result k ∙ c.arithmetic.ensures))
 
+-- the same of an operator whose result is asked as a number
 pub whole_number-returns-then-is_arithmetic : goal.whole_number-returns-then-is_arithmetic
 whole_number-returns-then-is_arithmetic g t c =
     let m : SFits w64 c.number-x.result = search rules in
@@ -25,6 +27,7 @@ whole_number-returns-then-is_arithmetic g t c =
     (rw c.get-then-is_arithmetic.ensures.value at c.number-y.ensures.number)
     (rw (to_z-of_z w64 c.number-x.result m, to_z-of_z w64 c.number-y.result n) at (to_z-of_z w64 c.arithmetic.result k ∙ c.arithmetic.ensures))
 
+-- any other operator answers a word, of which the number is taken
 pub whole_number-returns-in-Binary : goal.whole_number-returns-in-Binary
 whole_number-returns-in-Binary g t c =
     let k : SFits w64 c.number.result = search rules in

@@ -3,6 +3,7 @@ use Rattle.ceal_code.specs.Init.{arguments}
 use Rattle.ceal_code.proofs.Equations.ValueSteps.{values-take}
 use Rattle.ceal_code.proofs.evaluate.Scope.evaluate.Goals as goal
 
+-- the value of one expression more is pushed
 pub loop-e-preserved : goal.loop-e-preserved
 loop-e-preserved g c =
     let within : c.loop-e.e-index < length c.args.es.now = omega arith in

@@ -33,6 +33,7 @@ returns-in-empty g c = record {
       ∙ none c.args.self.now.structs.now (g.P.PlainWords.plain c.args.self.now.plain.now) (arguments c.args.self.now.env.now) c.args.es.now (omega (arith, c.in-empty.len_below));
 }
 
+-- there is one expression, and the list has its value
 pub returns-in-len1 : goal.returns-in-len1
 returns-in-len1 g c = record {
   value = rw (
@@ -42,6 +43,7 @@ returns-in-len1 g c = record {
   ) c.from_slice.ensures.equal;
 }
 
+-- there are two expressions, and the list has their values in order
 pub returns-in-len2 : goal.returns-in-len2
 returns-in-len2 g c = record {
   value = rw (

@@ -5,6 +5,7 @@ use Rattle.ceal_code.specs.Stacks.{waits_in, stack_in}
 use Rattle.ceal_code.specs.Step.{stack_after_quiet}
 use Rattle.ceal_code.proofs.stack.Stack.settle.Goals as goal
 
+-- the unit has a command that takes a step, or one that waits for what is below
 pub returns-in-Some-clause-settled : goal.returns-in-Some-clause-settled
 returns-in-Some-clause-settled g c =
     sym c.loop-self.invariant.same
@@ -15,6 +16,7 @@ returns-in-Some-clause-settled g c =
 pub returns-in-Some-clause-aside : goal.returns-in-Some-clause-aside
 returns-in-Some-clause-aside g c = ap (λ (w : Piles). w.aside) c.in_ok-c.ensures.waits ∙ (c.in_ok-begin.ensures.aside ∙ c.loop-self.invariant.aside)
 
+-- the unit is over, so the one below runs, and that takes no step
 pub loop-self-preserved : goal.loop-self-preserved
 loop-self-preserved g c = record {
   same = ap (stack_after_quiet c.args.code.now (g.P.PlainWords.plain c.args.plain.now)) c.leave.ensures.left

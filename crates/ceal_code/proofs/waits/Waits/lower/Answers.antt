@@ -4,6 +4,7 @@ use Rattle.ceal_code.specs.Piles.{Pile, Piles}
 use Rattle.ceal_code.specs.Stacks.{above_floor, waiting, waits_in}
 use Rattle.ceal_code.proofs.waits.Waits.lower.Goals as goal
 
+-- those that waited are cleared, and what is set aside from the floor on waits in their place
 pub returns-clause-waits : goal.returns-clause-waits
 unfolding above_floor waits_in
 returns-clause-waits c =

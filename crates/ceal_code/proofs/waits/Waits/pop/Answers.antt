@@ -6,6 +6,7 @@ use Rattle.ceal_code.specs.Stacks.{waiting, waits_in}
 use Rattle.ceal_code.specs.Step.{Empty}
 use Rattle.ceal_code.proofs.waits.Waits.pop.Goals as goal
 
+-- no unit is above the floor, so none waits
 pub returns-then-len-self-clause-began : goal.returns-then-len-self-clause-began
 unfolding waits_in
 returns-then-len-self-clause-began c =
@@ -15,6 +16,7 @@ returns-then-len-self-clause-began c =
     ∙ waiting-none _ _ (drop_all p.floor.units p.units.items (omega (arith, c.len.ensures, c.if-len-self.true))) in
     (none, none)
 
+-- the last unit that waits is taken, with the words from where its own begin
 pub returns-clause-began : goal.returns-clause-began
 unfolding waits_in
 returns-clause-began c =

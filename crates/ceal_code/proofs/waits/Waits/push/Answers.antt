@@ -8,6 +8,7 @@ use Rattle.ceal_code.specs.Step.{Run}
 use Rattle.ceal_code.specs.declared.waits.Waiting.{Waiting}
 use Rattle.ceal_code.proofs.waits.Waits.push.Goals as goal
 
+-- the unit and its words are put on those that wait
 pub returns-clause-pushed : goal.returns-clause-pushed
 unfolding waits_in
 returns-clause-pushed c =

@@ -7,6 +7,7 @@ use Rattle.ceal_code.specs.Stacks.{above_floor, waiting, waits_in}
 use Rattle.ceal_code.specs.declared.waits.Waiting.{Waiting}
 use Rattle.ceal_code.proofs.waits.Waits.raise.Goals as goal
 
+-- what waited is what is set aside above the floor that is answered
 pub returns-clause-above : goal.returns-clause-above
 unfolding above_floor waits_in
 returns-clause-above c =

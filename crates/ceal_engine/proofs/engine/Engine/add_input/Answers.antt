@@ -37,6 +37,7 @@ add-requires-clause-unread c =
     rw c.items.ensures.value
     (run-unread v.code v.fuel v.inputs v.call.call c.touch.new.self (sound-left v.code v.fuel v.inputs v.call v.run c.touch.new.self c.touch.ensures.same c.self.invariant).keeps)
 
+-- the run has the places of the new input too, with what they start as
 pub invariant_of-self-2 : goal.invariant_of-self-2
 invariant_of-self-2 c =
     let v = c.self.inside in
@@ -62,6 +63,7 @@ returns-in_err-push-clause-looks c =
     let v = c.self.inside in
     nothing-same c.args.self.now _ (rw c.in_err-push.ensures.err (state-left v.code v.fuel v.inputs v.call.call v.run c.touch.new.self c.touch.ensures.same ∙ c.self.view_is))
 
+-- no read was looked at
 pub returns-clause-looks : goal.returns-clause-looks
 returns-clause-looks c =
     let v = c.self.inside in
@@ -73,6 +75,7 @@ returns-clause-looks c =
     (state-left v.code v.fuel v.inputs v.call.call v.run c.touch.new.self c.touch.ensures.same ∙ c.self.view_is)
     (looks-input v.code v.fuel v.inputs v.call.call v.code.structs (length v.inputs) c.args.shape c.args.words.now (v.inputs ++ b ∷ []) c.touch.new.self c.add.new.self set))
 
+-- the repair that continues has one input more, which its items do not name
 pub returns-clause-carries : goal.returns-clause-carries
 returns-clause-carries c = λ next r carries.
     let v = c.self.inside in

@@ -31,6 +31,7 @@ advance-requires-clause-part c =
     let v = c.self.inside in
     open-part v.code v.fuel v.inputs v.run v.call.call c.self.invariant.keeps c.open.new.run (ap opened c.in-Kept.is ∙ ap Some (sym c.open.ensures))
 
+-- the repair continues: what the slice left is kept as a partial run
 pub invariant_of-self : goal.invariant_of-self
 invariant_of-self c =
     let v = c.self.inside in
@@ -39,6 +40,7 @@ invariant_of-self c =
     (keeps-more v.code v.fuel v.inputs v.run v.call.call c.self.invariant.keeps c.open.new.run
     (ap opened c.in-Kept.is ∙ ap Some (sym c.open.ensures)) c.args.reads run c.in-Ok-More.field-0 c.in-Ok-More.ensures.sliced c.in-Ok-More.field-0-is))
 
+-- no read is stale, so the run is finished
 pub invariant_of-self-in-Ok-Done : goal.invariant_of-self-in-Ok-Done
 invariant_of-self-in-Ok-Done c =
     let v = c.self.inside in
@@ -62,6 +64,7 @@ invariant_of-self-in-Err c =
     let v = c.self.inside in
     rw c.give_up-in-Err.ensures (sound-dropped v.code v.fuel v.inputs v.call v.run (subst (λ e. has_run e.phase ≡ true) (sym c.self.view_is) c.requires.run) c.self.invariant)
 
+-- the slice re-executed its reads, and its repair is the one before carried
 pub returns-in-Ok-More-clause-comes : goal.returns-in-Ok-More-clause-comes
 returns-in-Ok-More-clause-comes c = λ next r carries.
     let v = c.self.inside in
@@ -71,6 +74,7 @@ returns-in-Ok-More-clause-comes c = λ next r carries.
     (subst (λ e. (CarriesRepair e next r → SliceContinues e (under_way v.code v.fuel v.inputs v.call.call run) c.args.reads next r)) c.self.view_is
     (goes-on v.code v.fuel v.inputs v.run v.call.call c.self.invariant.keeps c.open.new.run is c.args.reads run c.in-Ok-More.field-0 sliced c.in-Ok-More.field-0-is next r) carries)
 
+-- a read is stale still
 pub returns-in-Ok-More-clause-more : goal.returns-in-Ok-More-clause-more
 returns-in-Ok-More-clause-more c = λ e.
     let v = c.self.inside in
@@ -79,6 +83,7 @@ returns-in-Ok-More-clause-more c = λ e.
     let sliced = c.in-Ok-More.ensures.sliced in
     some-reads v.code v.fuel v.inputs v.run v.call.call c.self.invariant.keeps c.open.new.run is c.args.reads run c.in-Ok-More.field-0 sliced c.in-Ok-More.field-0-is
 
+-- blocks that were revoked are freed only when the repair is done
 pub returns-in-Ok-More-clause-revoked_stay : goal.returns-in-Ok-More-clause-revoked_stay
 returns-in-Ok-More-clause-revoked_stay c = λ e.
     let v = c.self.inside in
@@ -88,6 +93,7 @@ returns-in-Ok-More-clause-revoked_stay c = λ e.
     (subst (λ e. KeepsWords e.heap (Some run.heap)) c.self.view_is
     (keeps-words v.code v.fuel v.inputs v.run v.call.call c.self.invariant.keeps c.open.new.run is c.args.reads run c.in-Ok-More.field-0 sliced c.in-Ok-More.field-0-is))
 
+-- the slice was the last one: what was left of the repair is done
 pub returns-in-Ok-Done-clause-comes : goal.returns-in-Ok-Done-clause-comes
 returns-in-Ok-Done-clause-comes c = λ next r carries.
     let v = c.self.inside in
@@ -97,6 +103,7 @@ returns-in-Ok-Done-clause-comes c = λ next r carries.
     (subst (λ e. (CarriesRepair e next r → SliceEnds e (finished v.code v.fuel v.inputs v.call.call run) c.args.reads next r)) c.self.view_is
     (ends v.code v.fuel v.inputs v.run v.call.call c.self.invariant.keeps c.open.new.run is c.args.reads run c.in-Ok-Done.field-0 sliced c.in-Ok-Done.field-0-is next r) carries)
 
+-- where nothing is stale the run is present
 pub returns-in-Ok-Done-clause-present : goal.returns-in-Ok-Done-clause-present
 returns-in-Ok-Done-clause-present c = λ e.
     let v = c.self.inside in
@@ -107,6 +114,7 @@ returns-in-Ok-Done-clause-present c = λ e.
     (sound-with v.code v.fuel v.inputs v.call v.run (its.Kept run stage.Finished) c.self.invariant
     (keeps-done v.code v.fuel v.inputs v.run v.call.call c.self.invariant.keeps c.open.new.run is c.args.reads run c.in-Ok-Done.field-0 sliced c.in-Ok-Done.field-0-is)) refl)
 
+-- the slice would take more steps than the fuel, and so would the run from scratch
 pub returns-in-Ok-OutOfFuel-clause-comes : goal.returns-in-Ok-OutOfFuel-clause-comes
 returns-in-Ok-OutOfFuel-clause-comes c = λ next r carries.
     let v = c.self.inside in
@@ -116,6 +124,7 @@ returns-in-Ok-OutOfFuel-clause-comes c = λ next r carries.
     subst (λ e. (CarriesRepair e next r → IsOut e c.args.reads r)) c.self.view_is
     (is-out v.code v.fuel v.inputs v.run v.call.call c.self.invariant.keeps c.open.new.run is c.args.reads run c.in-Ok-OutOfFuel.field-0 sliced c.in-Ok-OutOfFuel.field-0-is next r) carries
 
+-- the nodes at the beginning agree with the walk, and later slices only add to them
 pub returns-in-Ok-More-clause-front : goal.returns-in-Ok-More-clause-front
 returns-in-Ok-More-clause-front c = λ n.
     let v = c.self.inside in
@@ -124,6 +133,7 @@ returns-in-Ok-More-clause-front c = λ n.
     (subst (λ e. KeepsFront e (under_way v.code v.fuel v.inputs v.call.call run)) c.self.view_is
     (front-kept v.code v.fuel v.inputs v.call.call v.run c.open.new.run run stage.Partial is (c.in-Ok-More.ensures.front (λ s. absurd (let clash = sym c.in-Ok-More.field-0-is ∙ s in cc)))))
 
+-- the nodes at the beginning agree with the walk, as all do at the end
 pub returns-in-Ok-Done-clause-front : goal.returns-in-Ok-Done-clause-front
 returns-in-Ok-Done-clause-front c = λ n.
     let v = c.self.inside in
@@ -145,6 +155,7 @@ returns-in_ok-run_again-in-Ok-Spent-clause-comes c = λ next r carries.
       first = c.in_ok-run_again-in-Ok-Spent.ensures.anew.first;
     }
 
+-- the fuel was spent, and the run from nothing ended with an error
 pub returns-in_err-run_again-in-Ok-Spent-clause-comes : goal.returns-in_err-run_again-in-Ok-Spent-clause-comes
 returns-in_err-run_again-in-Ok-Spent-clause-comes c = λ next r carries.
     let v = c.self.inside in
@@ -156,6 +167,7 @@ returns-in_err-run_again-in-Ok-Spent-clause-comes c = λ next r carries.
     (anew-comes c.args.self.now c.run_again.new.self c.args.reads next r (subst (λ e. (CarriesRepair e next r → sliced_repair e.code own e.inputs c.args.reads e.fuel r ≡ None)) c.self.view_is
     (no-slice v.code v.fuel v.inputs v.run v.call.call c.self.invariant.keeps c.open.new.run is c.args.reads run c.in-Ok-Spent.field-0 sliced c.in-Ok-Spent.field-0-is next r) carries) error.0)
 
+-- the repair has more steps than the fuel, so it is run from nothing
 pub run_again-requires-clause-out : goal.run_again-requires-clause-out
 run_again-requires-clause-out c = λ other.
     let v = c.self.inside in
@@ -177,6 +189,7 @@ pub returns-in_ok-run_again-in-Ok-Spent-clause-repaired : goal.returns-in_ok-run
 returns-in_ok-run_again-in-Ok-Spent-clause-repaired c = λ w l e.
     absurd (not-both (phase_of c.self.inside.run) (sym c.phase-before.ensures ∙ c.in_ok-run_again-in-Ok-Spent.ensures.began) (subst (λ s. IsWhole s.phase) (sym c.self.view_is) w))
 
+-- the trace is the repair of the old one on the inputs
 pub returns-in-Ok-Done-clause-repaired : goal.returns-in-Ok-Done-clause-repaired
 returns-in-Ok-Done-clause-repaired c = λ w l e.
     let v = c.self.inside in
@@ -187,6 +200,7 @@ returns-in-Ok-Done-clause-repaired c = λ w l e.
     (subst (λ s. IsWhole s.phase) (sym c.self.view_is) w) v.call.call c.self.invariant.keeps c.open.new.run is run c.in-Ok-Done.field-0 c.in-Ok-Done.ensures.repaired c.in-Ok-Done.field-0-is l
     (ap trace c.self.view_is ∙ e)))
 
+-- each read that was looked at is paid by what was edited or re-executed
 pub returns-in-Ok-Done-clause-looks : goal.returns-in-Ok-Done-clause-looks
 returns-in-Ok-Done-clause-looks c = λ n.
     let v = c.self.inside in
@@ -194,6 +208,7 @@ returns-in-Ok-Done-clause-looks c = λ n.
     (subst (λ s. LooksOfRepair s (finished v.code v.fuel v.inputs v.call.call c.advance.new.running)) c.self.view_is
     (looks-repair v.code v.fuel v.inputs v.call.call v.run c.open.new.run c.advance.new.running is c.in-Ok-Done.ensures.pays stage.Finished))
 
+-- the same, where the repair continues
 pub returns-in-Ok-More-clause-looks : goal.returns-in-Ok-More-clause-looks
 returns-in-Ok-More-clause-looks c = λ n.
     let v = c.self.inside in
@@ -204,6 +219,7 @@ returns-in-Ok-More-clause-looks c = λ n.
 pub returns-in-Ok-More-clause-repaired : goal.returns-in-Ok-More-clause-repaired
 returns-in-Ok-More-clause-repaired c = λ w l e. tt
 
+-- code, fuel, inputs and call stay, and the run is dropped
 pub returns-in-Ok-OutOfFuel-clause-keeps : goal.returns-in-Ok-OutOfFuel-clause-keeps
 returns-in-Ok-OutOfFuel-clause-keeps c =
     let v = c.self.inside in
@@ -244,6 +260,7 @@ returns-in-Err-clause-keeps c =
           refl;
     }))
 
+-- the same, where memory ran out in the run from nothing
 pub returns-in_err-run_again-in-Ok-Spent-clause-keeps : goal.returns-in_err-run_again-in-Ok-Spent-clause-keeps
 returns-in_err-run_again-in-Ok-Spent-clause-keeps c =
     let v = c.self.inside in

@@ -2,6 +2,7 @@ use Rattle.std.proofs.Common.{◌≡◌, Some, ◌∙◌, sym, subst}
 use Rattle.ceal_engine.proofs.Keeping.{the-call}
 use Rattle.ceal_engine.proofs.engine.Engine.call.Goals as goal
 
+-- the call is the one that was set
 pub returns-in-Some : goal.returns-in-Some
 returns-in-Some c =
     record {

@@ -20,6 +20,7 @@ edit-requires c = let v = c.self.inside in record { kept = run-kept v.code v.fue
 pub invariant_of-self : goal.invariant_of-self
 invariant_of-self c = let v = c.self.inside in sound-left v.code v.fuel v.inputs v.call v.run c.edit.new.self c.in_err-edit.ensures.err c.self.invariant
 
+-- the run has the new base, and the reads that may be stale are queued
 pub invariant_of-self-2 : goal.invariant_of-self-2
 invariant_of-self-2 c =
     let v = c.self.inside in
@@ -37,6 +38,7 @@ returns-in_err-edit-clause-looks c =
     let v = c.self.inside in
     looks-same c.args.self.now _ (state-left v.code v.fuel v.inputs v.call.call v.run c.edit.new.self c.in_err-edit.ensures.err ∙ c.self.view_is)
 
+-- no read was looked at, and at most the reads of one place can differ now
 pub returns-clause-looks : goal.returns-clause-looks
 returns-clause-looks c =
     let v = c.self.inside in
@@ -44,6 +46,7 @@ returns-clause-looks c =
     (subst (λ e. LooksOfEdit e (state_of v.code v.fuel (with_base v.inputs c.args.place c.args.value) v.call.call c.edit.new.self)) c.self.view_is
     (looks-edit v.code v.fuel v.inputs v.call.call c.args.place c.args.value (with_base v.inputs c.args.place c.args.value) v.run c.edit.new.self c.in_ok-edit.ensures.ok))
 
+-- the repair that continues is one on the edited inputs
 pub returns-clause-carries : goal.returns-clause-carries
 returns-clause-carries c = λ next r carries.
     let v = c.self.inside in

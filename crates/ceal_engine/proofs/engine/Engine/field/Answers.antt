@@ -7,6 +7,7 @@ use Rattle.ceal_engine.specs.Engine.{block_in, is_plain}
 use Rattle.ceal_engine.specs.Keeping.{running_in}
 use Rattle.ceal_engine.proofs.engine.Engine.field.Goals as goal
 
+-- a plain field never changes after its block was made, so its word is that of the run
 pub returns : goal.returns
 returns c = record {
   value =

@@ -3,6 +3,7 @@ use Rattle.ceal_engine.proofs.Keeping.{the-call, first-done}
 use Rattle.ceal_engine.specs.Runs.{IsFirstOf}
 use Rattle.ceal_engine.proofs.engine.Engine.first.Goals as goal
 
+-- the first run of the call, from nothing
 pub returns-in-Done-clause-ok : goal.returns-in-Done-clause-ok
 returns-in-Done-clause-ok c =
     subst (λ e. IsFirstOf e.code e.fuel e.inputs e.call c.in-Done.run') c.self.view_is

@@ -16,6 +16,7 @@ returns-in-Finished-clause-present c =
     let v = c.self.inside in
     rw c.tell.ensures (present-told c.args.self.now 0 (subst IsPresent c.self.view_is (sound-present v.code v.fuel v.inputs v.call v.run c.self.invariant (sym c.phase.ensures ∙ c.in-Finished.is))))
 
+-- nothing was edited, so the trace is its own repair
 pub returns-in-Finished-clause-repaired : goal.returns-in-Finished-clause-repaired
 returns-in-Finished-clause-repaired c = λ w l e.
     let v = c.self.inside in
@@ -41,12 +42,14 @@ returns-in_err-advance-in-Partial-clause-partial c = λ e next r carries.
     let error = err_from_is_err_and c.from_residual-in_err-advance-in-Partial.result c.from_residual-in_err-advance-in-Partial.ensures.1 in
     rw (error.1, error.2) (c.in_err-advance-in-Partial.ensures.comes next r carries)
 
+-- the run was there, so the first part of the cost holds
 pub returns-in_ok-advance-in-Pending-clause-looks_always : goal.returns-in_ok-advance-in-Pending-clause-looks_always
 returns-in_ok-advance-in-Pending-clause-looks_always c =
     let a = c.in_ok-advance-in-Pending.ensures in
     looks-either c.args.self.now c.advance.new.self c.in_ok-advance-in-Pending.field-0
     (subst (λ e. has_run e.phase ≡ true) c.self.view_is (ap has_run (sym c.phase.ensures ∙ c.in-Pending.is))) a.looks a.looks_anew a.first
 
+-- the same, where a repair was in progress
 pub returns-in_ok-advance-in-Partial-clause-looks_always : goal.returns-in_ok-advance-in-Partial-clause-looks_always
 returns-in_ok-advance-in-Partial-clause-looks_always c =
     let a = c.in_ok-advance-in-Partial.ensures in
@@ -87,6 +90,7 @@ returns-in_err-advance-in-Pending-clause-keeps c =
     let error = err_from_is_err_and c.from_residual.result c.from_residual.ensures.1 in
     rw (error.1, error.2) (on-error c.args.self.now c.advance.new.self _ c.in_err-advance-in-Pending.ensures.keeps)
 
+-- the error is that of the advance, which keeps code, fuel, inputs and call
 pub returns-in_err-advance-in-Partial-clause-keeps : goal.returns-in_err-advance-in-Partial-clause-keeps
 returns-in_err-advance-in-Partial-clause-keeps c =
     let error = err_from_is_err_and c.from_residual-in_err-advance-in-Partial.result c.from_residual-in_err-advance-in-Partial.ensures.1 in

@@ -3,6 +3,7 @@ use Rattle.ceal_code.specs.Fitting.{Fits}
 use Rattle.ceal_engine.proofs.Inputs.{argument-number}
 use Rattle.ceal_engine.proofs.engine.Engine.run.Goals as goal
 
+-- the arguments are as many as the function has parameters, and for those the call has room
 pub set-requires-clause-room : goal.set-requires-clause-room
 set-requires-clause-room c =
     subst (λ n. n ≤ c.self.inside.call.room)

@@ -10,6 +10,7 @@ use Rattle.ceal_engine.specs.declared.run.Run.TheVariants as its
 use Rattle.ceal_engine.specs.declared.run.Stage.TheVariants as stage
 use Rattle.ceal_engine.proofs.engine.Engine.run_anew.Goals as goal
 
+-- the run is finished, and its cost is that of a run from scratch
 pub returns-clause-anew : goal.returns-clause-anew
 returns-clause-anew c =
     let v = c.self.inside in

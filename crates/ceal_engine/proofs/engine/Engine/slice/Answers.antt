@@ -32,12 +32,14 @@ returns-in_err-came-clause-slice c = λ next r carries.
 pub returns-clause-front : goal.returns-clause-front
 returns-clause-front c = front-or-again c.args.self.now c.advance.new.self (Some c.args.reads) c.in_ok-came.came c.in_ok-came.ensures.front c.in_ok-came.ensures.anew c.in_ok-came.ensures.comes
 
+-- there was no run, so nothing was in front
 pub returns-then-eq-clause-front : goal.returns-then-eq-clause-front
 returns-then-eq-clause-front c =
     let v = c.self.inside in
     let told : IsTrue c.eq.result ↔ (c.phase.result ≡ Dropped) = search rules in
     inl (subst (λ e. KeepsFront e c.run_anew.new.self) c.self.view_is (front-of-none v.code v.fuel v.inputs v.call.call v.run (sym c.phase.ensures ∙ told.0 c.if-eq.true) c.run_anew.new.self))
 
+-- there was a run, so the cost is that of an advance
 pub returns-clause-looks_always : goal.returns-clause-looks_always
 returns-clause-looks_always c =
     let a = c.in_ok-came.ensures in

@@ -3,6 +3,7 @@ use Rattle.ceal_engine.proofs.ReadRun.{few-steps}
 use Rattle.ceal_engine.specs.declared.phase.Phase.TheVariants.{Finished}
 use Rattle.ceal_engine.proofs.engine.Engine.steps.Goals as goal
 
+-- a finished run has at most as many steps as the fuel, so they fit 64 bits
 pub overflow_cast-result : goal.overflow_cast-result
 overflow_cast-result c =
     let v = c.self.inside in

@@ -7,6 +7,7 @@ use Rattle.ceal_engine.specs.Runs.{told_of}
 use Rattle.ceal_engine.specs.declared.phase.Phase.TheVariants.{Finished}
 use Rattle.ceal_engine.proofs.engine.Engine.tell.Goals as goal
 
+-- only the work that is told changes
 pub invariant_of-self : goal.invariant_of-self
 invariant_of-self c =
     let v = c.self.inside in
@@ -14,6 +15,7 @@ invariant_of-self c =
     (sound-with v.code v.fuel v.inputs v.call v.run (told_of c.args.work v.run) c.self.invariant
     (keeps-told v.code v.fuel v.inputs c.args.work v.run v.call.call (rw (subst (λ e. e.phase ≡ Finished) (sym c.self.view_is) c.requires) refl) c.self.invariant.keeps))
 
+-- the same run, with its work told
 pub returns : goal.returns
 returns c =
     let v = c.self.inside in

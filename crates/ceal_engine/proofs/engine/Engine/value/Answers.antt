@@ -10,6 +10,7 @@ use Rattle.ceal_engine.specs.Reading.{content_at}
 use Rattle.ceal_engine.specs.declared.phase.Phase.TheVariants.{Finished}
 use Rattle.ceal_engine.proofs.engine.Engine.value.Goals as goal
 
+-- the content is the last write of the place, or its base
 pub returns : goal.returns
 returns c =
     let v = c.self.inside in

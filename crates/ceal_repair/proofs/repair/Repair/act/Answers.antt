@@ -24,6 +24,7 @@ quiet-requires c = record {
   );
 }
 
+-- the next step allocates, with this key
 pub make-requires : goal.make-requires
 make-requires c = record {
   acts = (
@@ -44,6 +45,7 @@ write-requires c = record {
   );
 }
 
+-- the next step reads, and its unit waits with this closure
 pub read-requires : goal.read-requires
 read-requires c = record {
   acts = (

@@ -33,6 +33,7 @@ begin_read-requires-clause-late c =
     let h : IsStepped c.args.self.now c.step.new.self = record { rest = e.rest; heap = e.heap; spent = e.spent; more = record { nodes = e.nodes; mods = e.mods; queue = e.queue; kept = e.kept } } in
     stepped-late c.requires.acts.0 c.requires.acts.1.stack c.args.self.now c.step.new.self c.requires.acts.1.now h
 
+-- a new read begins: its unit runs with the content of the place, and the units below wait
 pub returns-clause-runs : goal.returns-clause-runs
 returns-clause-runs c = λ start a.
     let old : Repair = c.args.self.now in
@@ -69,6 +70,7 @@ returns-clause-runs c = λ start a.
     (begun-frames (aside_in new.stack.now) (aside_in c.set_aside.new.self) (aside_in c.resume.new.self) c.in_ok-below.below read new.frames.now.items c.push.new.self.items
     c.in_ok-resume.ensures.aside c.in_ok-below.ensures.under c.in_ok-push.ensures.items))
 
+-- a step was counted and a node put in, and no more was looked at than that pays
 pub returns-clause-pays : goal.returns-clause-pays
 returns-clause-pays c =
     let a : Running = c.args.self.now.running.now in

@@ -31,6 +31,7 @@ set_steps-requires-clause-here c =
     c.turn_known_law.ensures.law c.requires.found.3 in
     has-held c.args.read.0 _ old.running.now.tables.trace.nodes held
 
+-- the cursor is on the stale read, and its unit runs with its value up to its end
 pub returns-clause-begins : goal.returns-clause-begins
 returns-clause-begins c = λ f args o found.
     let old : Repair = c.args.self.now in

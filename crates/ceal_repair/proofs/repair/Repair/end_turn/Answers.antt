@@ -19,6 +19,7 @@ unreachable-requires c =
     let both : Some (stamp_of_number q.5.spot.end) ≡ None = sym (limit-ended (code_of old) (inputs_of old) q.0 q.1 q.2 q.3 q.4 q.5 q.6.stack (view old) now none) ∙ c.in-None.is in
     cc
 
+-- what is left over inside the read is between the cursor and its end
 pub cut_until-requires-clause-lies : goal.cut_until-requires-clause-lies
 cut_until-requires-clause-lies c =
     let old : Repair = c.args.self.now in
@@ -34,6 +35,7 @@ cut_until-requires-clause-lies c =
       inr (first-ended (code_of old) (inputs_of old) q.0 q.1 q.2 q.3 q.4 q.5 q.6.stack (view old) now none ∙ ap (λ (s : Stamp). Some s.0) same),
     )
 
+-- what was left over is revoked, and the cursor is on the end of the read
 pub returns-clause-ends : goal.returns-clause-ends
 returns-clause-ends c = λ f args o before start b z.
     let old : Repair = c.args.self.now in

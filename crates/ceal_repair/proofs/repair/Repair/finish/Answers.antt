@@ -15,6 +15,7 @@ use Rattle.ceal_repair.specs.declared.running.Running.{Running}
 use Rattle.ceal_repair.proofs.TableCalls.FewLooks.{owed-same}
 use Rattle.ceal_repair.proofs.repair.Repair.finish.Goals as goal
 
+-- the read that ends is a node, since what was put in after it is inside it
 pub finish_read-requires-clause-read : goal.finish_read-requires-clause-read
 finish_read-requires-clause-read c =
     let r : Repair = c.args.self.now in
@@ -30,6 +31,7 @@ finish_read-requires-clause-here c =
     let v : View = record (view_under c.args.below r) { frames = Begun (units_on c.args.below r) c.args.read ∷ (view_under c.args.below r).frames } in
     cursor-here c.requires.ends.0 v e.now.reads (entries e.now.left ++ e.now.tail) e.now.placed
 
+-- the cursor is not before the read, since all that was put in is after it
 pub finish_read-requires-clause-order : goal.finish_read-requires-clause-order
 finish_read-requires-clause-order c =
     let r : Repair = c.args.self.now in
@@ -38,6 +40,7 @@ finish_read-requires-clause-order c =
     open-before c.requires.ends.0 v e.now.reads (entries e.now.left ++ e.now.tail) e.now.placed c.args.read.0
     (among (code_of r) (inputs_of r) c.requires.ends.0 e.stack (view_under c.args.below r) (units_on c.args.below r) c.args.read e.now)
 
+-- the new read has its end, and the units below run on after it
 pub returns-clause-runs : goal.returns-clause-runs
 returns-clause-runs c = λ start a.
     let r : Repair = c.args.self.now in

@@ -30,6 +30,7 @@ pass-requires c =
     let start = c.requires.ends.0 in
     record { passes = (start, goes-on c.args.self.now start c.args.until c.in-Some.end c.requires.ends.1 c.in-Some.is c.cut_until.new.self f.all f.bases f.blocks f.has f.spent f.kept) }
 
+-- what is left over is revoked, and the nodes after the end of the read are passed, unless memory ran out
 pub returns-clause-runs : goal.returns-clause-runs
 returns-clause-runs c =
     let f = c.in_ok-cut_until.ensures in

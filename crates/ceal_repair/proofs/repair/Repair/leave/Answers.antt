@@ -15,6 +15,7 @@ use Rattle.ceal_repair.proofs.Runs.Paid.{stays, due-steps}
 use Rattle.ceal_repair.specs.declared.running.Running.{Running}
 use Rattle.ceal_repair.proofs.repair.Repair.leave.Goals as goal
 
+-- what is left over inside the read is between the cursor and its end
 pub cut_until-requires-clause-lies : goal.cut_until-requires-clause-lies
 cut_until-requires-clause-lies c =
     let old : Repair = c.args.self.now in
@@ -30,6 +31,7 @@ cut_until-requires-clause-lies c =
       inr (first-is (code_of old) (inputs_of old) start a.stack (view_under c.args.below old) (units_on c.args.below old) c.args.until a.now ∙ ap (λ (s : Stamp). Some s.0) same),
     )
 
+-- the end of the read is still there, since only what stood before it was revoked
 pub set_steps-requires-clause-here : goal.set_steps-requires-clause-here
 set_steps-requires-clause-here c =
     let old : Repair = c.args.self.now in
@@ -45,6 +47,7 @@ set_steps-requires-clause-here c =
     subst (λ (s : Stamp). has_node s.0 c.cut_until.new.self.tables.trace.nodes ≡ true) same
     (end-there (code_of old) (inputs_of old) start a.stack (view_under c.args.below old) (units_on c.args.below old) c.args.until a.now c.cut_until.new.self.tables f.kept l)
 
+-- what was left over is revoked, and the units below run on after the end of the read
 pub returns-clause-runs : goal.returns-clause-runs
 returns-clause-runs c = λ start a.
     let old : Repair = c.args.self.now in

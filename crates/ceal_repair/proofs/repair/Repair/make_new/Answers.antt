@@ -26,6 +26,7 @@ use Rattle.ceal_repair.proofs.repair.Repair.make_new.Goals as goal
 pub step-requires-clause-here : goal.step-requires-clause-here
 step-requires-clause-here c = running-here c.requires.acts.0 c.requires.acts.1.stack c.args.self.now c.requires.acts.1.now
 
+-- the node of the cursor is still there, since the step only counts
 pub put_alloc-requires-clause-here : goal.put_alloc-requires-clause-here
 put_alloc-requires-clause-here c =
     let e = c.in_ok-step.ensures in
@@ -33,6 +34,7 @@ put_alloc-requires-clause-here c =
     subst (λ (z : _). has_node c.step.new.self.cursor.0 z.nodes ≡ Rattle.std.proofs.Common.true) (sym c.in_ok-block.ensures.trace)
     (stepped-here c.requires.acts.0 c.requires.acts.1.stack c.args.self.now c.step.new.self c.requires.acts.1.now h)
 
+-- no old allocation has the key, so a new block is made, and its node is put in
 pub returns-clause-runs : goal.returns-clause-runs
 returns-clause-runs c = λ start a.
     let old : Repair = c.args.self.now in
@@ -63,6 +65,7 @@ returns-clause-runs c = λ start a.
     (ap code_of h.rest) (ap inputs_of h.rest) stack
     (made-view old new h c.put_alloc.new.self c.make.new.self.heap c.make.new.self.spent s _ f.spent c.in_ok-set.ensures.aside)
 
+-- a step was counted and a node put in, and no more was looked at than that pays
 pub returns-clause-pays : goal.returns-clause-pays
 returns-clause-pays c =
     let old : Repair = c.args.self.now in

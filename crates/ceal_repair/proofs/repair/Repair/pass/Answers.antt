@@ -40,6 +40,7 @@ pass_all-requires c =
       );
     }
 
+-- the read that was found is stale, and lies before the limit
 pub repair_inside-requires : goal.repair_inside-requires
 repair_inside-requires c =
     let old : Repair = c.args.self.now in

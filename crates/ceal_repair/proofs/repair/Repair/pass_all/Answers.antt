@@ -16,6 +16,7 @@ use Rattle.ceal_repair.proofs.Runs.Paid.{stays, due-steps}
 use Rattle.ceal_repair.specs.declared.running.Running.{Running}
 use Rattle.ceal_repair.proofs.repair.Repair.pass_all.Goals as goal
 
+-- the end of the read is there, and the cursor moves to it
 pub set_steps-requires-clause-here : goal.set_steps-requires-clause-here
 set_steps-requires-clause-here c =
     let old : Repair = c.args.self.now in
@@ -42,6 +43,7 @@ unreachable-requires-in-Some-Kept c =
     next-not-kept (code_of old) (inputs_of old) start a.until (record (view old) { tables = a.before }) a.now
     (aside_in old.stack.now) old.frames.now.items c.pop.new.self.items c.in-Some-Kept.field-0 refl c.in-Some-Kept.ensures.items _ c.in-Some-Kept.field-0-is
 
+-- no stale read is inside any more, so the cursor passes to the end, and the units below run on
 pub returns-clause-runs : goal.returns-clause-runs
 returns-clause-runs c = λ start a.
     let old : Repair = c.args.self.now in

@@ -12,6 +12,7 @@ use Rattle.ceal_repair.proofs.repair.Repair.quiet.Goals as goal
 pub step-requires-clause-here : goal.step-requires-clause-here
 step-requires-clause-here c = running-here c.requires.acts.0 c.requires.acts.1.stack c.args.self.now c.requires.acts.1.now
 
+-- a step that reads and writes nothing: only the unit and the count change
 pub returns-clause-runs : goal.returns-clause-runs
 returns-clause-runs c = λ start a.
     let old : Repair = c.args.self.now in

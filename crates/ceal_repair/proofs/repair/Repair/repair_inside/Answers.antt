@@ -16,6 +16,7 @@ use Rattle.ceal_repair.proofs.Runs.Paid.{stays, due-steps}
 use Rattle.ceal_repair.specs.declared.running.Running.{Running}
 use Rattle.ceal_repair.proofs.repair.Repair.repair_inside.Goals as goal
 
+-- looking at the read changed its value at most, so its node is still there
 pub set_steps-requires-clause-here : goal.set_steps-requires-clause-here
 set_steps-requires-clause-here c =
     let old : Repair = c.args.self.now in
@@ -25,6 +26,7 @@ set_steps-requires-clause-here c =
     let seen = seen-as (code_of old) (inputs_of old) start a.until (record (view old) { tables = a.before }) a.now c.args.read.0 a.stale a.limit t1 a.place a.value a.is_read a.nodes in
     read-here (code_of old) (inputs_of old) start a.until (record (view old) { tables = a.before }) a.now c.args.read.0 a.stale a.limit t1 seen
 
+-- the node is the stale read, and has the value of its moment
 pub unit_at-requires : goal.unit_at-requires
 unit_at-requires c =
     let old : Repair = c.args.self.now in
@@ -40,6 +42,7 @@ unit_at-requires c =
           (bases-cells t1.mods a.before.mods a.cells) a.kept g.nodes g.mods g.queue g.kept);
     }
 
+-- the node is a read, so it may be asked for its end
 pub end_of-self-requires : goal.end_of-self-requires
 end_of-self-requires c =
     let old : Repair = c.args.self.now in
@@ -54,6 +57,7 @@ end_of-self-requires c =
           (bases-cells t1.mods a.before.mods a.cells) a.kept g.nodes g.mods g.queue g.kept);
     }
 
+-- the stale read's unit runs with its value, and what is inside the read is left over
 pub returns-clause-runs : goal.returns-clause-runs
 returns-clause-runs c = λ start a.
     let old : Repair = c.args.self.now in

@@ -29,6 +29,7 @@ cut_until-requires-clause-has c =
     let a = c.requires.acts.1 in
     (code_of old, inputs_of old, has-stepped old c.step.new.self h c.requires.acts.0 a.stack a.now)
 
+-- the allocation lies in what is left over, so what will be revoked is between the cursor and it
 pub cut_until-requires-clause-lies : goal.cut_until-requires-clause-lies
 cut_until-requires-clause-lies c =
     let old : Repair = c.args.self.now in
@@ -42,6 +43,7 @@ cut_until-requires-clause-lies c =
       until-code old c.step.new.self h c.requires.acts.0 a.stack a.now c.args.key c.args.found c.requires.found,
     )
 
+-- the allocation is still there, since only what stood before it was revoked
 pub set_steps-requires-clause-here : goal.set_steps-requires-clause-here
 set_steps-requires-clause-here c =
     let old : Repair = c.args.self.now in
@@ -51,6 +53,7 @@ set_steps-requires-clause-here c =
     let f = c.in_ok-cut_until.ensures in
     found-there old c.step.new.self h c.requires.acts.0 a.stack a.now c.args.key c.args.found c.requires.found c.cut_until.new.self.tables f.kept f.there
 
+-- the node is an allocation, so it has a block
 pub block_at-block-requires : goal.block_at-block-requires
 block_at-block-requires c =
     let old : Repair = c.args.self.now in
@@ -77,6 +80,7 @@ block_at-block-requires c =
       );
     }
 
+-- the earliest old allocation with the key is used again, and what stood before it is revoked
 pub returns-clause-runs : goal.returns-clause-runs
 returns-clause-runs c = λ start a.
     let old : Repair = c.args.self.now in
@@ -111,6 +115,7 @@ returns-clause-runs c = λ start a.
     (ap code_of h.rest) (ap inputs_of h.rest) stack
     (made-view old new h c.set_steps.new.self c.cut_until.new.self.heap c.cut_until.new.self.spent c.args.found.0 _ f.spent c.in_ok-set.ensures.aside)
 
+-- a step was counted, and what was looked at is paid by that and by what was revoked
 pub returns-clause-pays : goal.returns-clause-pays
 returns-clause-pays c =
     let a : Running = c.args.self.now.running.now in

@@ -5,7 +5,7 @@ use Rattle.ceal_code.specs.declared.stack.Closure.{Closure}
 use Rattle.ceal_order.specs.Stamps.{is_in}
 use Rattle.ceal_order.specs.declared.stamp.Stamp.{Stamp}
 use Rattle.ceal_repair.proofs.Reuse.ReadReuseInCode.{until-read, entered-view, passes-as, limit-is, same-value}
-use Rattle.ceal_repair.proofs.Reuse.ReadTaken.{IsCut, IsRenewed, IsHonestHere, taken, is-there, comes-first, records-now, end-renewed, retakes, end-honest, enters}
+use Rattle.ceal_repair.proofs.Reuse.ReadTaken.{IsCut, IsRenewed, IsHonestHere, step-taken, cut-before, taken, is-there, comes-first, records-now, end-renewed, retakes, end-honest, enters}
 use Rattle.ceal_repair.proofs.Nodes.NodeItems.{more}
 use Rattle.ceal_repair.proofs.Reuse.AllocReuseInCode.{has-stepped, lies-code}
 use Rattle.ceal_repair.proofs.Runs.NewRead.{resumed-as}
@@ -29,22 +29,24 @@ use Rattle.ceal_repair.proofs.repair.Repair.take_read.Goals as goal
 pub step-requires-clause-here : goal.step-requires-clause-here
 step-requires-clause-here c = running-here c.requires.acts.0 c.requires.acts.1.stack c.args.self.now c.requires.acts.1.now
 
+-- the blocks of the nodes are in the heap still, since the step only counts
 pub cut_until-requires-clause-has : goal.cut_until-requires-clause-has
 cut_until-requires-clause-has c =
     let old : Repair = c.args.self.now in
     let new : Repair = c.step.new.self in
     let e = c.in_ok-step.ensures in
-    let h : IsStepped old new = record { rest = e.rest; heap = e.heap; spent = e.spent; more = record { nodes = e.nodes; mods = e.mods; queue = e.queue; kept = e.kept } } in
+    let h : IsStepped old new = step-taken e.rest e.heap e.spent (record { nodes = e.nodes; mods = e.mods; queue = e.queue; kept = e.kept }) in
     let start = c.requires.acts.0 in
     let a = c.requires.acts.1 in
     (code_of old, inputs_of old, has-stepped old new h start a.stack a.now)
 
+-- the read lies in what is left over, so what will be revoked is between the cursor and it
 pub cut_until-requires-clause-lies : goal.cut_until-requires-clause-lies
 cut_until-requires-clause-lies c =
     let old : Repair = c.args.self.now in
     let new : Repair = c.step.new.self in
     let e = c.in_ok-step.ensures in
-    let h : IsStepped old new = record { rest = e.rest; heap = e.heap; spent = e.spent; more = record { nodes = e.nodes; mods = e.mods; queue = e.queue; kept = e.kept } } in
+    let h : IsStepped old new = step-taken e.rest e.heap e.spent (record { nodes = e.nodes; mods = e.mods; queue = e.queue; kept = e.kept }) in
     let start = c.requires.acts.0 in
     let a = c.requires.acts.1 in (
       through a.now.placed.done (more a.now.placed.last),
@@ -54,89 +56,53 @@ cut_until-requires-clause-lies c =
       until-read old new h start a.stack a.now c.args.reading.place c.args.reading.unit c.args.reading.var (arguments_of c.args.self.now) c.args.found c.requires.found,
     )
 
+-- the node that was found is a read, and what was revoked stood before it
 pub look-requires-clause-here : goal.look-requires-clause-here
 look-requires-clause-here c =
     let e = c.in_ok-step.ensures in
     let f = c.in_ok-cut_until.ensures in
-    let h : IsStepped c.args.self.now c.step.new.self = record { rest = e.rest; heap = e.heap; spent = e.spent; more = record { nodes = e.nodes; mods = e.mods; queue = e.queue; kept = e.kept } } in
+    let h : IsStepped c.args.self.now c.step.new.self = step-taken e.rest e.heap e.spent (record { nodes = e.nodes; mods = e.mods; queue = e.queue; kept = e.kept }) in
     let reading : Closure = record { place = c.args.reading.place; unit = c.args.reading.unit; var = c.args.reading.var; args = arguments_of c.args.self.now } in
     let cut : IsCut c.args.self.now c.step.new.self reading c.args.found c.cut_until.new.self (above_floor c.in_ok-below.below (aside_in c.set_aside.new.self)) =
-    record {
-      stepped = h;
-      matches = c.requires.found;
-      there = f.there;
-      bases = f.bases;
-      blocks = f.blocks;
-      has = f.has;
-      kept = f.kept;
-      aside =
-          sym (c.in_ok-below.ensures.above ∙ ap (λ (r : Repair). stack_in r.stack.now) h.rest);
-    } in
+    cut-before h c.requires.found f.there f.bases f.blocks f.has f.kept c.in_ok-below.ensures.above in
     ap is_read
     (is-there c.args.self.now c.step.new.self reading c.args.found c.cut_until.new.self (above_floor c.in_ok-below.below (aside_in c.set_aside.new.self)) cut c.requires.acts.0 c.requires.acts.1)
 
+-- no queued read is between the cursor and it, since those were revoked
 pub look-requires-clause-first : goal.look-requires-clause-first
 look-requires-clause-first c =
     let e = c.in_ok-step.ensures in
     let f = c.in_ok-cut_until.ensures in
-    let h : IsStepped c.args.self.now c.step.new.self = record { rest = e.rest; heap = e.heap; spent = e.spent; more = record { nodes = e.nodes; mods = e.mods; queue = e.queue; kept = e.kept } } in
+    let h : IsStepped c.args.self.now c.step.new.self = step-taken e.rest e.heap e.spent (record { nodes = e.nodes; mods = e.mods; queue = e.queue; kept = e.kept }) in
     let reading : Closure = record { place = c.args.reading.place; unit = c.args.reading.unit; var = c.args.reading.var; args = arguments_of c.args.self.now } in
     let cut : IsCut c.args.self.now c.step.new.self reading c.args.found c.cut_until.new.self (above_floor c.in_ok-below.below (aside_in c.set_aside.new.self)) =
-    record {
-      stepped = h;
-      matches = c.requires.found;
-      there = f.there;
-      bases = f.bases;
-      blocks = f.blocks;
-      has = f.has;
-      kept = f.kept;
-      aside =
-          sym (c.in_ok-below.ensures.above ∙ ap (λ (r : Repair). stack_in r.stack.now) h.rest);
-    } in
+    cut-before h c.requires.found f.there f.bases f.blocks f.has f.kept c.in_ok-below.ensures.above in
     comes-first c.args.self.now c.step.new.self reading c.args.found c.cut_until.new.self (above_floor c.in_ok-below.below (aside_in c.set_aside.new.self)) cut c.requires.acts.0 c.requires.acts.1
 
+-- looking at the read changed its value at most, so its node is still there
 pub set_steps-requires-clause-here : goal.set_steps-requires-clause-here
 set_steps-requires-clause-here c =
     let e = c.in_ok-step.ensures in
     let f = c.in_ok-cut_until.ensures in
-    let h : IsStepped c.args.self.now c.step.new.self = record { rest = e.rest; heap = e.heap; spent = e.spent; more = record { nodes = e.nodes; mods = e.mods; queue = e.queue; kept = e.kept } } in
+    let h : IsStepped c.args.self.now c.step.new.self = step-taken e.rest e.heap e.spent (record { nodes = e.nodes; mods = e.mods; queue = e.queue; kept = e.kept }) in
     let reading : Closure = record { place = c.args.reading.place; unit = c.args.reading.unit; var = c.args.reading.var; args = arguments_of c.args.self.now } in
     let cut : IsCut c.args.self.now c.step.new.self reading c.args.found c.cut_until.new.self (above_floor c.in_ok-below.below (aside_in c.set_aside.new.self)) =
-    record {
-      stepped = h;
-      matches = c.requires.found;
-      there = f.there;
-      bases = f.bases;
-      blocks = f.blocks;
-      has = f.has;
-      kept = f.kept;
-      aside =
-          sym (c.in_ok-below.ensures.above ∙ ap (λ (r : Repair). stack_in r.stack.now) h.rest);
-    } in
+    cut-before h c.requires.found f.there f.bases f.blocks f.has f.kept c.in_ok-below.ensures.above in
     let before : Tables = c.cut_until.new.self.tables in
     let seen = c.look.ensures.nodes c.if-look.true in
     subst (λ ss. is_in c.args.found.0 ss ≡ true) (sym (ap stamps_in seen.3 ∙ stamps-changed c.args.found.0 (value_set (contents_at c.args.found.0 before seen.0)) (λ e. refl) before.trace.nodes))
     (has-held c.args.found.0 (Read reading.place _ reading.unit reading.var reading.args) before.trace.nodes
     (is-there c.args.self.now c.step.new.self reading c.args.found c.cut_until.new.self (above_floor c.in_ok-below.below (aside_in c.set_aside.new.self)) cut c.requires.acts.0 c.requires.acts.1))
 
+-- the node is still a read, with the value of its moment
 pub value_at-value-requires : goal.value_at-value-requires
 value_at-value-requires c =
     let e = c.in_ok-step.ensures in
     let f = c.in_ok-cut_until.ensures in
-    let h : IsStepped c.args.self.now c.step.new.self = record { rest = e.rest; heap = e.heap; spent = e.spent; more = record { nodes = e.nodes; mods = e.mods; queue = e.queue; kept = e.kept } } in
+    let h : IsStepped c.args.self.now c.step.new.self = step-taken e.rest e.heap e.spent (record { nodes = e.nodes; mods = e.mods; queue = e.queue; kept = e.kept }) in
     let reading : Closure = record { place = c.args.reading.place; unit = c.args.reading.unit; var = c.args.reading.var; args = arguments_of c.args.self.now } in
     let cut : IsCut c.args.self.now c.step.new.self reading c.args.found c.cut_until.new.self (above_floor c.in_ok-below.below (aside_in c.set_aside.new.self)) =
-    record {
-      stepped = h;
-      matches = c.requires.found;
-      there = f.there;
-      bases = f.bases;
-      blocks = f.blocks;
-      has = f.has;
-      kept = f.kept;
-      aside =
-          sym (c.in_ok-below.ensures.above ∙ ap (λ (r : Repair). stack_in r.stack.now) h.rest);
-    } in
+    cut-before h c.requires.found f.there f.bases f.blocks f.has f.kept c.in_ok-below.ensures.above in
     let k = c.look.ensures in
     let g = c.set_steps.ensures in
     let t : Tables = c.set_steps.new.self in
@@ -147,24 +113,15 @@ value_at-value-requires c =
           (above_floor c.in_ok-below.below (aside_in c.set_aside.new.self)) cut c.requires.acts.0 c.requires.acts.1 c.look.new.self t renewed);
     }
 
+-- the read was stale: its unit runs with the value of its moment, and what is inside the read is left over
 pub returns-in_ok-resume-clause-runs : goal.returns-in_ok-resume-clause-runs
 returns-in_ok-resume-clause-runs c = λ start a.
     let e = c.in_ok-step.ensures in
     let f = c.in_ok-cut_until.ensures in
-    let h : IsStepped c.args.self.now c.step.new.self = record { rest = e.rest; heap = e.heap; spent = e.spent; more = record { nodes = e.nodes; mods = e.mods; queue = e.queue; kept = e.kept } } in
+    let h : IsStepped c.args.self.now c.step.new.self = step-taken e.rest e.heap e.spent (record { nodes = e.nodes; mods = e.mods; queue = e.queue; kept = e.kept }) in
     let reading : Closure = record { place = c.args.reading.place; unit = c.args.reading.unit; var = c.args.reading.var; args = arguments_of c.args.self.now } in
     let cut : IsCut c.args.self.now c.step.new.self reading c.args.found c.cut_until.new.self (above_floor c.in_ok-below.below (aside_in c.set_aside.new.self)) =
-    record {
-      stepped = h;
-      matches = c.requires.found;
-      there = f.there;
-      bases = f.bases;
-      blocks = f.blocks;
-      has = f.has;
-      kept = f.kept;
-      aside =
-          sym (c.in_ok-below.ensures.above ∙ ap (λ (r : Repair). stack_in r.stack.now) h.rest);
-    } in
+    cut-before h c.requires.found f.there f.bases f.blocks f.has f.kept c.in_ok-below.ensures.above in
     let k = c.look.ensures in
     let g = c.set_steps.ensures in
     let t : Tables = c.set_steps.new.self in
@@ -200,48 +157,30 @@ returns-in_ok-resume-clause-runs c = λ start a.
     (taken-frames (aside_in c.step.new.self.stack.now) (aside_in c.set_aside.new.self) (aside_in c.resume.new.self) c.in_ok-below.below until c.step.new.self.frames.now.items gone.frames.now.items
     (c.in_ok-resume.ensures.aside ∙ ap (λ (r : Repair). aside_in r.stack.now) i.rest) c.in_ok-below.ensures.under i.frames))
 
+-- nothing has changed since the read was found, so it is one still
 pub go_inside-requires-else-look : goal.go_inside-requires-else-look
 go_inside-requires-else-look c =
     let e = c.in_ok-step.ensures in
     let f = c.in_ok-cut_until.ensures in
-    let h : IsStepped c.args.self.now c.step.new.self = record { rest = e.rest; heap = e.heap; spent = e.spent; more = record { nodes = e.nodes; mods = e.mods; queue = e.queue; kept = e.kept } } in
+    let h : IsStepped c.args.self.now c.step.new.self = step-taken e.rest e.heap e.spent (record { nodes = e.nodes; mods = e.mods; queue = e.queue; kept = e.kept }) in
     let reading : Closure = record { place = c.args.reading.place; unit = c.args.reading.unit; var = c.args.reading.var; args = arguments_of c.args.self.now } in
     let cut : IsCut c.args.self.now c.step.new.self reading c.args.found c.cut_until.new.self (above_floor c.in_ok-below.below (aside_in c.set_aside.new.self)) =
-    record {
-      stepped = h;
-      matches = c.requires.found;
-      there = f.there;
-      bases = f.bases;
-      blocks = f.blocks;
-      has = f.has;
-      kept = f.kept;
-      aside =
-          sym (c.in_ok-below.ensures.above ∙ ap (λ (r : Repair). stack_in r.stack.now) h.rest);
-    } in
+    cut-before h c.requires.found f.there f.bases f.blocks f.has f.kept c.in_ok-below.ensures.above in
     record {
       read = subst (λ (l : Timeline). is_read (node_at c.args.found.0 l.nodes) ≡ true) (sym (c.look.ensures.same c.if-look.false))
           (ap is_read (is-there c.args.self.now c.step.new.self reading c.args.found c.cut_until.new.self
           (above_floor c.in_ok-below.below (aside_in c.set_aside.new.self)) cut c.requires.acts.0 c.requires.acts.1));
     }
 
+-- the read is honest: the cursor passes what is inside it, up to its end
 pub returns-in_ok-go_inside-2-clause-runs : goal.returns-in_ok-go_inside-2-clause-runs
 returns-in_ok-go_inside-2-clause-runs c = λ start a.
     let e = c.in_ok-step.ensures in
     let f = c.in_ok-cut_until.ensures in
-    let h : IsStepped c.args.self.now c.step.new.self = record { rest = e.rest; heap = e.heap; spent = e.spent; more = record { nodes = e.nodes; mods = e.mods; queue = e.queue; kept = e.kept } } in
+    let h : IsStepped c.args.self.now c.step.new.self = step-taken e.rest e.heap e.spent (record { nodes = e.nodes; mods = e.mods; queue = e.queue; kept = e.kept }) in
     let reading : Closure = record { place = c.args.reading.place; unit = c.args.reading.unit; var = c.args.reading.var; args = arguments_of c.args.self.now } in
     let cut : IsCut c.args.self.now c.step.new.self reading c.args.found c.cut_until.new.self (above_floor c.in_ok-below.below (aside_in c.set_aside.new.self)) =
-    record {
-      stepped = h;
-      matches = c.requires.found;
-      there = f.there;
-      bases = f.bases;
-      blocks = f.blocks;
-      has = f.has;
-      kept = f.kept;
-      aside =
-          sym (c.in_ok-below.ensures.above ∙ ap (λ (r : Repair). stack_in r.stack.now) h.rest);
-    } in
+    cut-before h c.requires.found f.there f.bases f.blocks f.has f.kept c.in_ok-below.ensures.above in
     let old : Repair = c.args.self.now in
     let gone : Repair = c.go_inside-else-look.new.self in
     let k = c.look.ensures in
@@ -264,6 +203,7 @@ returns-in_ok-go_inside-2-clause-runs c = λ start a.
           refl c.in_ok-below.ensures.under i.frames)),
     )
 
+-- a read was looked at, which differed, and each other act is paid by what it revoked
 pub returns-in_ok-resume-clause-pays : goal.returns-in_ok-resume-clause-pays
 returns-in_ok-resume-clause-pays c =
     let a : Running = c.args.self.now.running.now in
@@ -281,6 +221,7 @@ returns-in_ok-resume-clause-pays c =
     rw (ap running_of c.in_ok-go_inside.ensures.rest)
     (pays-then 0 a u w first (stays u w (due-steps u.tables c.set_steps.new.self _ _ g.nodes g.mods g.queue) refl (ap (λ m. m.differed) g.mods)))
 
+-- a read was looked at, which did not differ, and each other act is paid by what it revoked
 pub returns-in_ok-go_inside-2-clause-pays : goal.returns-in_ok-go_inside-2-clause-pays
 returns-in_ok-go_inside-2-clause-pays c =
     let a : Running = c.args.self.now.running.now in

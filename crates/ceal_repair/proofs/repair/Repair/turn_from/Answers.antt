@@ -32,6 +32,7 @@ end_turn-requires c =
       );
     }
 
+-- the read's unit ran to its end over what was inside, and that is the turn
 pub returns-clause-turn : goal.returns-clause-turn
 returns-clause-turn c = λ f args o found.
     let runs = c.in_ok-begin_turn.ensures.begins f args o found in

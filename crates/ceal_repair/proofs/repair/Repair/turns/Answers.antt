@@ -29,6 +29,7 @@ returns-in_err-turn_from-in-Some-clause-sure c = λ f args o before h honest.
     absurd (found-never c.args.self.now c.loop-turn.self c.loop-turn.turn c.loop-turn.invariant.turning c.first_stale.new.self e.kept e.cells c.in-Some.read.0 e.stale e.nodes e.behind f args o before
     h honest)
 
+-- the next turn has more work than the fuel, and so has the repair
 pub returns-then-not-branch-clause-ended : goal.returns-then-not-branch-clause-ended
 returns-then-not-branch-clause-ended c = λ f args o before h.
     let e = c.in-Some.ensures in
@@ -41,6 +42,7 @@ returns-then-not-branch-clause-ended c = λ f args o before h.
           ),
     )
 
+-- one turn more is made: it is the next slice of one read
 pub loop-turn-preserved : goal.loop-turn-preserved
 loop-turn-preserved c =
     let e = c.in-Some.ensures in
@@ -78,6 +80,7 @@ some-turn : (reads : Option ℕ) (turn : ℕ) → reads ≡ Some turn → reads 
 some-turn reads zero is some = absurd (some is)
 some-turn reads (suc n) is some = omega arith
 
+-- the turns so far are paid, and a look at the queue by what it takes out
 pub returns-then-has_stale-clause-pays : goal.returns-then-has_stale-clause-pays
 returns-then-has_stale-clause-pays c =
     let b : Running = c.loop-turn.self.running.now in
@@ -86,6 +89,7 @@ returns-then-has_stale-clause-pays c =
     let d = due-one b.tables c.has_stale.new.self h.trace h.looks in
     spends c.loop-turn.turn c.args.self.now.running.now b (record b { tables = c.has_stale.new.self }) c.loop-turn.invariant.pays (omega (arith, d, n)) refl h.differed
 
+-- no read is stale any more, so the repair is done
 pub returns-then-is_last-clause-ended : goal.returns-then-is_last-clause-ended
 returns-then-is_last-clause-ended c = λ f args o before h.
     let e = c.has_stale.ensures in
@@ -99,6 +103,7 @@ returns-then-is_last-clause-within c = λ e h.
     let s = spent-so c.conclude.result c.args.fuel (record c.loop-turn.self.running.now { tables = c.has_stale.new.self }) c.conclude.new.self c.conclude.ensures in
     omega (arith, s, c.loop-turn.invariant.within h)
 
+-- the turns so far are paid, and a look at the queue by what it takes out
 pub returns-then-is_last-clause-pays : goal.returns-then-is_last-clause-pays
 returns-then-is_last-clause-pays c =
     let b : Running = c.loop-turn.self.running.now in
@@ -108,6 +113,7 @@ returns-then-is_last-clause-pays c =
     pays-concluded c.conclude.result c.args.fuel c.args.self.now.running.now m c.conclude.new.self c.conclude.ensures
     (spends c.loop-turn.turn c.args.self.now.running.now b m c.loop-turn.invariant.pays (omega (arith, d)) refl h.differed)
 
+-- no read is stale any more, so the repair is done
 pub returns-in-None-clause-ended : goal.returns-in-None-clause-ended
 returns-in-None-clause-ended c = λ f args o before h.
     let e = c.in-None.ensures in
@@ -122,6 +128,7 @@ returns-in-None-clause-within c = λ e h.
     let s = spent-so c.conclude-in-None.result c.args.fuel (record c.loop-turn.self.running.now { tables = c.first_stale.new.self }) c.conclude-in-None.new.self c.conclude-in-None.ensures in
     omega (arith, s, c.loop-turn.invariant.within h)
 
+-- the turns so far are paid, and the last search by what it takes out
 pub returns-in-None-clause-pays : goal.returns-in-None-clause-pays
 returns-in-None-clause-pays c =
     let b : Running = c.loop-turn.self.running.now in
@@ -131,6 +138,7 @@ returns-in-None-clause-pays c =
     pays-concluded c.conclude-in-None.result c.args.fuel c.args.self.now.running.now m c.conclude-in-None.new.self c.conclude-in-None.ensures
     (spends c.loop-turn.turn c.args.self.now.running.now b m c.loop-turn.invariant.pays (omega (arith, d)) refl e.none_differs)
 
+-- the turns so far are paid, and the one that was not ended by what it re-executed
 pub returns-then-not-branch-clause-pays : goal.returns-then-not-branch-clause-pays
 returns-then-not-branch-clause-pays c =
     let b : Running = c.loop-turn.self.running.now in

@@ -19,6 +19,7 @@ put_write-requires-clause-here c =
     let h : IsStepped c.args.self.now c.step.new.self = record { rest = e.rest; heap = e.heap; spent = e.spent; more = record { nodes = e.nodes; mods = e.mods; queue = e.queue; kept = e.kept } } in
     stepped-here c.requires.acts.0 c.requires.acts.1.stack c.args.self.now c.step.new.self c.requires.acts.1.now h
 
+-- a node is put in for the write, and the unit continues after it
 pub returns-clause-runs : goal.returns-clause-runs
 returns-clause-runs c = λ start a.
     let old : Repair = c.args.self.now in
@@ -35,6 +36,7 @@ returns-clause-runs c = λ start a.
     (node-behind old new h s (Write c.args.place c.args.value) c.put_write.new.self k))
     (ap code_of h.rest) (ap inputs_of h.rest) (ap (λ (r : Repair). stack_in r.stack.now) h.rest) (put-view old new h c.put_write.new.self s)
 
+-- a step was counted and a node put in, and no more was looked at than that pays
 pub returns-clause-pays : goal.returns-clause-pays
 returns-clause-pays c =
     let a : Running = c.args.self.now.running.now in

@@ -6,6 +6,7 @@ use Rattle.ceal_trace.specs.Nodes.{node_at}
 use Rattle.ceal_trace.specs.declared.node.Node.TheVariants.{Read}
 use Rattle.ceal_repair.proofs.repair.turn.unit_at.Goals as goal
 
+-- the node is a read, so its unit begins with its value and its arguments
 pub returns : goal.returns
 returns c = record {
   unit = λ p v u x args held.

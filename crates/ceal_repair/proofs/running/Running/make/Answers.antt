@@ -15,6 +15,7 @@ returns-clause-words c =
     (words_of c.args.code.now c.args.inputs.now c.args.self.now.heap) c.make.new.self c.in_ok-made.made.block c.made_shape-shape.result c.args.key.now c.in_ok-few_words.field-0.now
     c.in_ok-made.ensures.made c.made_shape-shape.ensures.value (c.in_ok-few_words.ensures.words ∙ ap (λ (b : Block). b.words) c.in_ok-block.ensures)
 
+-- the fields of the new block have their words for bases, and other places keep theirs
 pub returns-clause-bases : goal.returns-clause-bases
 returns-clause-bases c =
     made-bases c.args.code.now.structs c.args.inputs.now c.args.self.now.heap c.make.new.self c.args.self.now.tables.mods c.renew_bases.new.tables.mods c.in_ok-made.made.block

@@ -23,6 +23,7 @@ add_read-requires-clause-absent c =
 pub add-requires-clause-absent : goal.add-requires-clause-absent
 add-requires-clause-absent c = no-entry c.begin_read-read.result.0 c.value_behind-value.new.self c.value_behind-value.ensures.kept.step c.begin_read-read.ensures.inserted.new
 
+-- a read changes no base
 pub returns-clause-bases : goal.returns-clause-bases
 returns-clause-bases c = λ p.
     bases-same c.value_behind-value.new.self.mods c.add_read.new.self c.key.inside.place
@@ -36,6 +37,7 @@ here after a b nodes e f h = rw (e, f) h
 further : (after r : ℕ) (a b : Timeline) (nodes : List Entry) → a ≡ b → b.nodes ≡ nodes → position after nodes < position r nodes → position after a.nodes < position r a.nodes
 further after r a b nodes e f h = rw (e, f) h
 
+-- the new read is not stale, so what was queued is what is queued
 pub returns-clause-behind : goal.returns-clause-behind
 returns-clause-behind c = λ late r i.
     behind-put c.args.after.0 c.begin_read-read.result.0
@@ -46,6 +48,7 @@ returns-clause-behind c = λ late r i.
     (further c.args.after.0 r c.value_behind-value.new.self.trace c.reserve.new.self c.args.self.now.trace.nodes c.value_behind-value.ensures.trace c.reserve.ensures.nodes
     (late r (rw c.value_behind-value.ensures.queue at i)))
 
+-- the order has one stamp more, along which all tables still lie
 pub returns-clause-kept : goal.returns-clause-kept
 returns-clause-kept c =
     let s : ℕ = c.begin_read-read.result.0 in

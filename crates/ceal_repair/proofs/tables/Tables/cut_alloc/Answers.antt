@@ -13,6 +13,7 @@ remove-requires-clause-here c = rw c.order.ensures (node-has c.args.alloc.0 (All
 pub discard-requires-clause-here : goal.discard-requires-clause-here
 discard-requires-clause-here c = node-has c.args.alloc.0 (Alloc c.requires.here.0 c.requires.here.1) c.args.self.now.trace.nodes c.requires.here.2
 
+-- the memo loses the node with its stamp, and the other tables never had it
 pub returns-clause-kept : goal.returns-clause-kept
 returns-clause-kept c =
     let n : Node = Alloc c.requires.here.0 c.requires.here.1 in

@@ -20,6 +20,7 @@ returns-clause-bases c = λ p.
     bases-same c.args.self.now.mods c.remove_read.new.self c.recorded-value.result.0 (without_read c.args.read.0 (cell_of c.args.self.now.mods c.recorded-value.result.0))
     (rw c.hand_on.ensures.mods at c.remove_read.ensures.cell) refl p
 
+-- the read leaves the queue, and the next one of its place may be queued for it, which is after it
 pub returns-clause-behind : goal.returns-clause-behind
 returns-clause-behind c = λ s lt.
     read-cut-behind c.args.self.now c.requires.kept c.args.read.0 c.in-Some.end.0 c.recorded-value.result.0 c.recorded-value.result.1 c.recorded-value.ensures c.in-Some.ensures.finished
@@ -30,6 +31,7 @@ returns-clause-behind c = λ s lt.
     c.hand_on.new.self.stale c.hand_on.ensures.gone c.hand_on.ensures.more c.hand_on.ensures.only c.in-Some.ensures.behind (rw c.hand_on.ensures.trace at c.hand_on.ensures.stale)
     (rw c.hand_on.ensures.trace at c.hand_on.ensures.ahead) s lt
 
+-- each table loses the node with its stamp
 pub returns-clause-kept : goal.returns-clause-kept
 returns-clause-kept c =
     let is = end-is c.args.self.now c.requires.kept c.args.read.0 c.in-Some.end.0 c.recorded-value.result.0 c.recorded-value.result.1 c.recorded-value.ensures c.in-Some.ensures.finished

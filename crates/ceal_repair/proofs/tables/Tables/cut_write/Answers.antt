@@ -43,6 +43,7 @@ either : {X Y : Type 0} (t : Bool) → (t ≡ true → X) → (t ≡ false → Y
 either true f g = inl (f refl)
 either false f g = inr (g refl)
 
+-- the read that this affects is queued, and it is after the write
 pub returns-clause-behind : goal.returns-clause-behind
 returns-clause-behind c = λ s lt late r i.
     let b : Tables = c.is_needless-needless.new.self in
@@ -56,6 +57,7 @@ returns-clause-behind c = λ s lt late r i.
     c.wake_unless.ensures.ahead s (rw c.is_needless-needless.ensures.trace lt)
     (λ z j. rw c.is_needless-needless.ensures.trace (late z (rw (c.is_needless-needless.ensures.queue, c.reserve.ensures.stamps) at j))) r i
 
+-- each table loses the node with its stamp
 pub returns-clause-kept : goal.returns-clause-kept
 returns-clause-kept c =
     let b : Tables = c.is_needless-needless.new.self in

@@ -6,6 +6,7 @@ use Rattle.ceal_repair.proofs.tables.Tables.dismiss.Goals as goal
 pub unqueue-was-requires-clause-here : goal.unqueue-was-requires-clause-here
 unqueue-was-requires-clause-here c = read-has c.args.read.0 c.args.self.now.trace.nodes c.requires.here
 
+-- the first read of the queue is taken out, so what is left is after it
 pub returns-clause-behind : goal.returns-clause-behind
 returns-clause-behind c = λ r i. rw c.unqueue-was.ensures.trace
     (behind-own (stamps_in c.args.self.now.trace.nodes) c.unqueue-was.new.self.stale.stamps c.args.read.0 (rw c.unqueue-was.ensures.trace at c.unqueue-was.ensures.stale)

@@ -11,6 +11,7 @@ use Rattle.ceal_repair.proofs.tables.Tables.edit.Goals as goal
 pub returns-then-begun-clause-base : goal.returns-then-begun-clause-base
 returns-then-begun-clause-base c = edit-base c.args.self.now c.requires.kept c.args.place c.args.value c.begin.new.self (c.in_ok-begun.ensures.begun c.if-begun.true)
 
+-- the place was not there before, so nothing has read it
 pub returns-then-begun-clause-kept : goal.returns-then-begun-clause-kept
 returns-then-begun-clause-kept c =
     let old = c.args.self.now in
@@ -28,6 +29,7 @@ returns-clause-base c = λ p.
     let change = rw (c.in_ok-begun.ensures.left c.if-begun.false) at c.in_ok-set_base.ensures.ok in
     rw c.wake.ensures.mods (edit-base c.args.self.now c.requires.kept c.args.place c.args.value c.set_base.new.self change p)
 
+-- the read that this affects is queued, and the other tables lie along the order as before
 pub returns-clause-kept : goal.returns-clause-kept
 returns-clause-kept c =
     let old = c.args.self.now in

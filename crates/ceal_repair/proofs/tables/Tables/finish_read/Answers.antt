@@ -11,6 +11,7 @@ returns-clause-behind c = λ late r i.
     behind-put c.args.after.0 c.finish_read.result.0 (End c.args.read) c.args.self.now.trace.nodes c.finish_read.new.self.nodes
     (rw c.reserve.ensures.nodes at c.finish_read.ensures.inserted) c.requires.here r (read-has r c.args.self.now.trace.nodes (c.requires.kept.step.queued r i)) (late r i)
 
+-- the order has one stamp more, along which all tables still lie
 pub returns-clause-kept : goal.returns-clause-kept
 returns-clause-kept c =
     let s : ℕ = c.finish_read.result.0 in

@@ -64,6 +64,7 @@ returns-then-settle-clause-cells c = c.settle.ensures.cells ∙ c.loop-looked.in
 pub returns-then-settle-clause-memo : goal.returns-then-settle-clause-memo
 returns-then-settle-clause-memo c = c.settle.ensures.memo ∙ c.loop-looked.invariant.memo
 
+-- one read more was looked at, and it had the value of its moment
 pub loop-looked-preserved : goal.loop-looked-preserved
 loop-looked-preserved c =
     looked-more c.args.self.now c.loop-looked.self c.settle.new.self c.loop-looked._looked c.in_ok-read.read.0 c.loop-looked.invariant c.in_ok-read.ensures.earliest.there c.settle.ensures.kept

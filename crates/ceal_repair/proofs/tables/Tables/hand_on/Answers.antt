@@ -4,6 +4,7 @@ use Rattle.std.proofs.Common.{length, ap, arith}
 use Rattle.ceal_queue.specs.Queue.{Waiting}
 use Rattle.ceal_repair.proofs.tables.Tables.hand_on.Goals as goal
 
+-- the read is taken out of the queue, and the next one of its place, which is after it, is queued
 pub returns-then-unqueue-clause-ahead : goal.returns-then-unqueue-clause-ahead
 returns-then-unqueue-clause-ahead c = λ r i. rw (c.wake.ensures.trace, c.unqueue.ensures.trace)
     (by-queue r c.unqueue.new.self.stale.stamps

@@ -37,6 +37,7 @@ pub dismiss-requires-clause-honest : goal.dismiss-requires-clause-honest
 dismiss-requires-clause-honest c =
     honest-same c.loop-looked.self c.differs.new.self c.in-Some.read.0 (sym c.differs.ensures.trace) (sym c.differs.ensures.cells) (c.differs.ensures.honest c.if-differs.false)
 
+-- one read more was looked at, and it had the value of its moment
 pub loop-looked-preserved : goal.loop-looked-preserved
 loop-looked-preserved c =
     looked-more c.args.self.now c.loop-looked.self c.dismiss.new.self c.loop-looked._looked c.in-Some.read.0 c.loop-looked.invariant

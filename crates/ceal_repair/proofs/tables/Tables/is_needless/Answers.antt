@@ -10,6 +10,7 @@ use Rattle.ceal_repair.proofs.tables.Tables.is_needless.Goals as goal
 pub value_at-held-requires-clause-here : goal.value_at-held-requires-clause-here
 value_at-held-requires-clause-here c = rw c.order.ensures (node-has c.args.write.0 (Write c.args.place c.requires.here.0) c.args.self.now.trace.nodes c.requires.here.1)
 
+-- the place holds without the write what the write wrote
 pub returns-clause-same : goal.returns-clause-same
 returns-clause-same c = λ told.
     let is = same-write c.args.place c.written_at-value.ensures.value.0 c.requires.here.0 c.written_at-value.result

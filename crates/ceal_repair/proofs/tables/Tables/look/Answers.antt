@@ -28,6 +28,7 @@ returns-else-unqueue-clause-honest c = λ told.
     unqueued-honest c.args.self.now c.requires.kept c.args.read.0
     (false-of (is_in c.args.read.0 c.args.self.now.stale.stamps) (λ i. sym (c.unqueue.ensures.was.1 i) ∙ c.if-unqueue.false)) c.requires.first
 
+-- the read is honest and leaves the queue, and what is left is after it
 pub returns-else-unqueue-clause-behind : goal.returns-else-unqueue-clause-behind
 returns-else-unqueue-clause-behind c = λ r i. rw c.unqueue.ensures.trace
     (behind-own (stamps_in c.args.self.now.trace.nodes) c.unqueue.new.self.stale.stamps c.args.read.0 (rw c.unqueue.ensures.trace at c.unqueue.ensures.stale)
@@ -35,6 +36,7 @@ returns-else-unqueue-clause-behind c = λ r i. rw c.unqueue.ensures.trace
     c.unqueue.ensures.without.gone
     (still-first (stamps_in c.args.self.now.trace.nodes) c.args.self.now.stale.stamps c.unqueue.new.self.stale.stamps c.args.read.0 c.unqueue.ensures.without c.requires.first) r i)
 
+-- only the queue has changed, and it has fewer stamps of the order
 pub returns-else-unqueue-clause-kept : goal.returns-else-unqueue-clause-kept
 returns-else-unqueue-clause-kept c =
     as-tables c.unqueue.new.self c.args.self.now.trace c.args.self.now.mods c.args.self.now.memo c.unqueue.ensures.trace c.unqueue.ensures.mods c.unqueue.ensures.memo

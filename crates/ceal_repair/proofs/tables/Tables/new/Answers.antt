@@ -3,6 +3,7 @@ use Rattle.ceal_repair.proofs.TableCalls.PutKeepsTables.{tables}
 use Rattle.ceal_repair.proofs.TableCalls.ContentAfter.{first-kept}
 use Rattle.ceal_repair.proofs.tables.Tables.new.Goals as goal
 
+-- there is one node, the root, and each table is empty
 pub returns-clause-kept : goal.returns-clause-kept
 returns-clause-kept c =
     first-kept (tables c.in_ok-new.field-0 c.in_ok-new-2.field-0 c.in_ok-new-3.field-0 c.in_ok-seeded.field-0) c.in_ok-new.ensures.nodes c.in_ok-new.ensures.whole c.in_ok-new.ensures.closed

@@ -16,6 +16,7 @@ returns-clause-behind c = λ late r i.
     behind-put c.args.after.0 c.insert_alloc-alloc.result.0 (Alloc c.args.block c.args.key) c.args.self.now.trace.nodes c.insert_alloc-alloc.new.self.nodes
     (rw c.reserve.ensures.nodes at c.insert_alloc-alloc.ensures.inserted) c.requires.here r (read-has r c.args.self.now.trace.nodes (c.requires.kept.step.queued r i)) (late r i)
 
+-- the order has one stamp more, along which all tables still lie
 pub returns-clause-kept : goal.returns-clause-kept
 returns-clause-kept c =
     let s : ℕ = c.insert_alloc-alloc.result.0 in

@@ -26,6 +26,7 @@ returns-clause-bases c = λ p. rw c.wake.ensures.mods
     (with_write (stamps_in c.insert_write-added.new.self.nodes) c.insert_write-added.result.0 c.args.value (cell_of c.args.self.now.mods c.args.place))
     (rw c.order.ensures at c.in_ok-add_write.ensures.ok) refl p)
 
+-- the read that this affects is queued, and it is after the write
 pub returns-clause-behind : goal.returns-clause-behind
 returns-clause-behind c = λ late r i. rw c.wake.ensures.trace
     (by-queue r c.args.self.now.stale.stamps
@@ -33,6 +34,7 @@ returns-clause-behind c = λ late r i. rw c.wake.ensures.trace
     (rw c.reserve.ensures.nodes at c.insert_write-added.ensures.inserted) c.requires.here r (read-has r c.args.self.now.trace.nodes (c.requires.kept.step.queued r j)) (late r j))
     (λ j. c.wake.ensures.ahead r (rw c.reserve-2.ensures.stamps j) i))
 
+-- the write has its stamp in the list of its place, and the read that it affects is queued
 pub returns-clause-kept : goal.returns-clause-kept
 returns-clause-kept c =
     let s : ℕ = c.insert_write-added.result.0 in

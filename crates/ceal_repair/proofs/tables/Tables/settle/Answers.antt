@@ -37,6 +37,7 @@ returns-clause-stale c = λ told.
     stale-read c.args.self.now c.requires.step c.args.popped.0 c.recorded-value.result.0 c.recorded-value.result.1 c.value_at-now.result c.recorded-value.ensures
     (rw c.order.ensures at c.value_at-now.ensures.value) (c.is_same.ensures.differ c.if-is_same.false)
 
+-- the read gets the value of its moment
 pub returns-clause-nodes : goal.returns-clause-nodes
 returns-clause-nodes c = λ told. (
   c.recorded-value.result.0,
@@ -57,6 +58,7 @@ returns-clause-behind c = λ r i. rw (c.set_value.ensures.others.stamps, c.wake.
     (read-has c.args.popped.0 c.args.self.now.trace.nodes c.requires.here) c.requires.out c.requires.first r j)
     (λ j. c.wake.ensures.ahead r j i))
 
+-- the read has another value, and the next one of its place is queued
 pub returns-clause-kept : goal.returns-clause-kept
 returns-clause-kept c =
     let cell = cell-same c.recorded-value.result.0 c.count_differed.new.self c.args.self.now.mods (c.count_differed.ensures.cells ∙ c.value_at-now.ensures.cells) in

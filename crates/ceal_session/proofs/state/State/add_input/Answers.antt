@@ -7,6 +7,7 @@ use Rattle.ceal_session.specs.Runs.{memory_of}
 use Rattle.ceal_session.specs.Steps.{block_of, with_input}
 use Rattle.ceal_session.proofs.state.State.add_input.Goals as goal
 
+-- the engine has the block under the next number, and the table of names its name
 pub invariant_of-self-in-Ok : goal.invariant_of-self-in-Ok
 invariant_of-self-in-Ok c =
     let i = c.self.inside in
@@ -16,6 +17,7 @@ invariant_of-self-in-Ok c =
     (block_of c.args.shape c.args.words.now)
     (subst (λ m. block_fits m.state.program.structs (memory_of m.state) (block_of c.args.shape c.args.words.now) ≡ true) (sym c.self.view_is) c.requires.fits) o.phase o.inputs c.requires.named)
 
+-- the new situation has one input more, with its name
 pub returns-in-Ok-clause-ok : goal.returns-in-Ok-clause-ok
 returns-in-Ok-clause-ok c =
     let i = c.self.inside in
@@ -26,6 +28,7 @@ returns-in-Ok-clause-ok c =
     (block_of c.args.shape c.args.words.now)
     (subst (λ m. block_fits m.state.program.structs (memory_of m.state) (block_of c.args.shape c.args.words.now) ≡ true) (sym c.self.view_is) c.requires.fits) o.phase o.inputs))
 
+-- the trace is as it was
 pub returns-in-Ok-clause-trace : goal.returns-in-Ok-clause-trace
 returns-in-Ok-clause-trace c =
     let i = c.self.inside in

@@ -12,6 +12,7 @@ settle-requires c =
     let g = the-call c.self.inside.engine (subst (λ m. is_some m.state.call ≡ true) (sym c.self.view_is) c.requires.called) in
     λ e. (c.advanced-came.ensures.brings g.0 g.1).phase ∙ ap phase_after_outcome e
 
+-- the engine was brought forward, and the journal says with which outcome
 pub invariant_of-self : goal.invariant_of-self
 invariant_of-self c =
     let i = c.self.inside in
@@ -21,6 +22,7 @@ invariant_of-self c =
     (holds-behind i.program i.names i.engine i.journal i.pending c.self.invariant g.0 (fits-of i.engine c.phase-before.ensures.whole g.0 g.1)
     c.args.reads o.new.engine c.phase-after.ensures.whole o.result (o.ensures.brings g.0 g.1))
 
+-- the situation after it, by the outcome
 pub returns : goal.returns
 returns c =
     let i = c.self.inside in

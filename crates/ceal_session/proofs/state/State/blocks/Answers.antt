@@ -4,6 +4,7 @@ use Rattle.ceal_session.specs.Questions.{IsReady, blocks_in}
 use Rattle.ceal_session.specs.Runs.{present_run}
 use Rattle.ceal_session.proofs.state.State.blocks.Goals as goal
 
+-- the core blocks of a finished run are those that its trace allocates
 pub returns : goal.returns
 returns c =
     subst (λ m. blocks_in (present_run m.state) ≡ Some c.live_blocks.result) c.self.view_is

@@ -14,6 +14,7 @@ bound_of-requires c =
           (now-measured i.program i.names i.engine i.journal i.pending c.self.invariant c.phase-phase.ensures.whole (subst (λ m. IsReady m.state) (sym c.self.view_is) c.requires));
     }
 
+-- the number is the bound that the situation tells
 pub returns-clause-bound : goal.returns-clause-bound
 returns-clause-bound c =
     let i = c.self.inside in

@@ -5,6 +5,7 @@ use Rattle.ceal_session.specs.Runs.{present_run}
 use Rattle.ceal_session.specs.Texts.{value_text}
 use Rattle.ceal_session.proofs.state.State.content.Goals as goal
 
+-- what the modifiable holds at the end of the run
 pub returns : goal.returns
 returns c =
     subst (λ m. content_text m.state c.args.place (present_run m.state) ≡ Some (value_text m.state c.value.result)) c.self.view_is

@@ -14,12 +14,14 @@ graph-requires-clause-whole c =
     whole-seen c.self.inside.program c.self.inside.names c.self.inside.engine c.self.inside.journal c.self.inside.pending c.self.invariant c.phase-phase.ensures.whole
     (subst (λ m. IsReady m.state) (sym c.self.view_is) c.requires.ready) c.fitting_is_whole.ensures.law
 
+-- an input is a block of the memory
 pub graph-requires-clause-there : goal.graph-requires-clause-there
 graph-requires-clause-there c =
     root-seen c.self.inside.program c.self.inside.names c.self.inside.engine c.self.inside.journal c.self.inside.pending c.self.invariant c.phase-phase.ensures.whole
     (subst (λ m. IsReady m.state) (sym c.self.view_is) c.requires.ready) c.progress_law.ensures.law
     c.args.input (subst (λ m. c.args.input < length m.state.inputs) (sym c.self.view_is) c.requires.there)
 
+-- the text is the graph of the memory from this input on
 pub returns : goal.returns
 returns c =
     subst (λ m. IfOk c.graph.result (λ text. TellsOf m.state (numbers_in (situation m)) (Show c.args.input) (present_run m.state) text)) c.self.view_is

@@ -8,6 +8,7 @@ invariant_of-self c =
     let i = c.self.inside in
     subst (λ j. SessionInvariant i.program i.names i.engine j i.pending) (sym c.keep.ensures) (keeps i.program i.names i.engine i.journal i.pending c.args.bound c.self.invariant)
 
+-- only the number that is kept changes, and no reply depends on whether it is kept
 pub returns : goal.returns
 returns c =
     let i = c.self.inside in

@@ -5,6 +5,7 @@ use Rattle.ceal_session.specs.Runs.{present_run}
 use Rattle.ceal_session.specs.Values.{number_after}
 use Rattle.ceal_session.proofs.state.State.number.Goals as goal
 
+-- what the modifiable holds at the end of the run, as a number
 pub returns : goal.returns
 returns c =
     subst (λ m. c.word_number.result ≡ number_after c.args.place (present_run m.state)) c.self.view_is

@@ -5,6 +5,7 @@ use Rattle.ceal_session.specs.SessionState.{situation}
 use Rattle.ceal_session.specs.RunRecord.{IsRecorded}
 use Rattle.ceal_session.proofs.state.State.recorded.Goals as goal
 
+-- the record has the code, the inputs, the call and the items of the run
 pub returns : goal.returns
 returns c =
     let i = c.self.inside in

@@ -8,6 +8,7 @@ use Rattle.ceal_session.specs.Steps.{with_base}
 use Rattle.ceal_session.specs.UndoneEdits.{base_at}
 use Rattle.ceal_session.proofs.state.State.set_base.Goals as goal
 
+-- the engine has another base at the place, and the rest of the state is as it was
 pub invariant_of-self-in-Ok : goal.invariant_of-self-in-Ok
 invariant_of-self-in-Ok c =
     let i = c.self.inside in
@@ -18,6 +19,7 @@ invariant_of-self-in-Ok c =
     (edited-holds i.program i.names i.engine i.journal i.pending c.self.invariant c.edit.new.self o.code o.fuel o.call o.forest o.heap o.work c.args.place c.args.word
     (subst (λ m. IsCellOf m.state c.args.place) (sym c.self.view_is) c.requires.cell) o.phase o.inputs)
 
+-- the new situation has the edited input
 pub returns-in-Ok-clause-ok : goal.returns-in-Ok-clause-ok
 returns-in-Ok-clause-ok c =
     let i = c.self.inside in
@@ -29,6 +31,7 @@ returns-in-Ok-clause-ok c =
     (edited-state i.program i.names i.engine i.journal i.pending c.self.invariant c.edit.new.self o.code o.fuel o.call o.forest o.heap o.work c.args.place c.args.word
     (subst (λ m. IsCellOf m.state c.args.place) (sym c.self.view_is) c.requires.cell) o.phase o.inputs))
 
+-- the trace is as it was
 pub returns-in-Ok-clause-trace : goal.returns-in-Ok-clause-trace
 returns-in-Ok-clause-trace c =
     let i = c.self.inside in

@@ -9,6 +9,7 @@ use Rattle.ceal_session.proofs.state.State.start.Goals as goal
 pub first_advanced-came-requires-clause-new : goal.first_advanced-came-requires-clause-new
 first_advanced-came-requires-clause-new c = c.phase-before.ensures.whole.new (subst (λ m. m.state.call ≡ None) (sym c.self.view_is) c.requires.none)
 
+-- the call fits the inputs, since its line was accepted
 pub first_advanced-came-requires-clause-fits : goal.first_advanced-came-requires-clause-fits
 first_advanced-came-requires-clause-fits c =
     let i = c.self.inside in
@@ -19,6 +20,7 @@ first_advanced-came-requires-clause-fits c =
 pub settle-requires : goal.settle-requires
 settle-requires c = λ e. c.first_advanced-came.ensures.brings.phase ∙ ap phase_after_outcome e
 
+-- the engine has run the call, and the journal begins with it
 pub invariant_of-self : goal.invariant_of-self
 invariant_of-self c =
     let i = c.self.inside in
@@ -30,6 +32,7 @@ invariant_of-self c =
     (subst (λ m. IsCall m.state c.args.call.now) (sym c.self.view_is) c.requires.fits))
     None o.new.engine c.phase-after.ensures.whole o.result o.ensures.brings)
 
+-- the situation after the first run of the call
 pub returns : goal.returns
 returns c =
     let i = c.self.inside in

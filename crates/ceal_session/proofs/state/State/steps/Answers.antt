@@ -4,6 +4,7 @@ use Rattle.ceal_session.specs.Questions.{IsReady, steps_in}
 use Rattle.ceal_session.specs.Runs.{present_run}
 use Rattle.ceal_session.proofs.state.State.steps.Goals as goal
 
+-- the steps of the run are those of its trace
 pub returns : goal.returns
 returns c =
     subst (λ m. steps_in (present_run m.state) ≡ Some c.steps.result) c.self.view_is

@@ -8,6 +8,7 @@ use Rattle.ceal_types.proofs.NameNumbers.FirstFew.{missing-after}
 use Rattle.ceal_types.proofs.NameNumbers.NumberOfName.{absent}
 use Rattle.ceal_types.proofs.table.Table.add.Goals as goal
 
+-- the name is put at the end of what the map has, after the few that are compared
 pub returns-in_ok-insert-clause-ok : goal.returns-in_ok-insert-clause-ok
 returns-in_ok-insert-clause-ok g c =
     let few = c.self.inside.few.items in

@@ -10,6 +10,7 @@ returns-in-Some-clause-number g c =
     let p : position (λ e. t e.0) c.self.inside.few.items ≡ Some c.in-Some.at = search rules in
     rw (← c.self.view_is) (among-first t c.self.inside.few.items c.self.inside.map.entries c.in-Some.at p)
 
+-- none of the few has the name, so its number is that of the map after them
 pub returns-in-Some-get_index_of-clause-number : goal.returns-in-Some-get_index_of-clause-number
 returns-in-Some-get_index_of-clause-number g c =
     let t = bytes_eq c.args.name.now in
@@ -18,6 +19,7 @@ returns-in-Some-get_index_of-clause-number g c =
     let n : c.len.result ≡ length c.self.inside.few.items = search rules in
     rw (n, ← c.self.view_is) (after-first t c.self.inside.few.items c.self.inside.map.entries c.in-Some-get_index_of.at p q)
 
+-- neither the few nor the map have the name
 pub returns-in-None-get_index_of-clause-number : goal.returns-in-None-get_index_of-clause-number
 returns-in-None-get_index_of-clause-number g c =
     let t = bytes_eq c.args.name.now in

@@ -2,6 +2,7 @@ use Rattle.std.proofs.Common.{◌≡◌, ◌++◌, ◌-◌, length, take, sym, r
 use Rattle.ceal_types.proofs.NameNumbers.FirstFew.{first-of-both}
 use Rattle.ceal_types.proofs.table.Table.truncate.Goals as goal
 
+-- the few are cut first, and of the map what is left of the length
 pub returns : goal.returns
 returns g c =
     let few = c.self.inside.few.items in
