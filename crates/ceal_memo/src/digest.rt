@@ -2,7 +2,8 @@
 
 ghost use Rattle.std.specs.Prelude.{◌≡◌, ◌<◌, ◌+◌, ◌*◌, ◌/◌, ◌%◌, ◌^◌};
 ghost use Rattle.ceal_base.specs.Hashing.{mixed as one_more};
-ghost use Rattle.ceal_memo.specs.Hashes.{word_number, seed_word, with_number, with_wide, with_words, empty, alloc_digest, hash_of};
+ghost use Rattle.ceal_memo.specs.Hashes.{word_number, seed_word, with_number, with_wide, with_words};
+ghost use Rattle.ceal_memo.specs.Hashes.{empty, alloc_digest, hash_of};
 ghost use Rattle.ceal_memo.specs.Keys.{OfRead, OfAlloc};
 
 use crate::key::ReadKey;
