@@ -196,14 +196,16 @@ valued_whole a value (small.Alloc block at) = by (get a (number_of at))
     by : (o : Option Apart) → keyed block o ≡ option_map (valued (word_of value)) (keyed block o)
     by None = refl
     by (Some (other.Key key)) = refl
-    by (Some (other.Closure place unit args)) = refl
+    by (Some (other.OfInput block' field unit args)) = refl
+    by (Some (other.OfCore block' field unit args)) = refl
 valued_whole a value (small.Write place word) = refl
 valued_whole a value (small.Read word var at) = by (get a (number_of at))
   where
     by : (o : Option Apart) → closed (word_of value) var o ≡ option_map (valued (word_of value)) (closed (word_of word) var o)
     by None = refl
     by (Some (other.Key key)) = refl
-    by (Some (other.Closure place unit args)) = refl
+    by (Some (other.OfInput block' field unit args)) = refl
+    by (Some (other.OfCore block' field unit args)) = refl
 valued_whole a value (small.End read) = refl
 
 valued_place : (value : Packed) (x : Held) → place_of (Some (held_valued value x)) ≡ place_of (Some x)

@@ -1,9 +1,12 @@
 -- Nodes in two parts, each in a slab.
-use Rattle.std.specs.Prelude.{◌≡◌, ◌≢◌, ◌<◌, ◌≤◌, ◌+◌, ℕ, Bool, Option, None, Some, IsSome, is_some, count_by}
+use Rattle.std.specs.Prelude.{◌≡◌, ◌≢◌, ◌<◌, ◌≤◌, ◌+◌, ℕ, Bool, List, Option, None, Some, IsSome, is_some, count_by}
 use Rattle.std.specs.Prelude.{option_map, if◌then◌else◌}
 use Rattle.slab.specs.Slab.{Slab, get, slab_len, with_value}
 use Rattle.ceal_base.specs.declared.word.Word.{Word}
 use Rattle.ceal_base.specs.declared.word.BlockId.{BlockId}
+use Rattle.ceal_base.specs.declared.word.BlockId.TheVariants.{Input, Core}
+use Rattle.ceal_base.specs.declared.word.Place.{Place}
+use Rattle.ceal_base.specs.declared.forest.UnitId.{UnitId}
 use Rattle.ceal_trace.specs.declared.node.Node.{Node}
 use Rattle.ceal_trace.specs.declared.node.Node.TheVariants as node
 use Rattle.ceal_trace.specs.declared.held.Held.{Held}
@@ -26,8 +29,19 @@ keyed block _ = None
 
 -- a read, where its closure is there
 abbrev pub closed : Word → ℕ → Option Apart → Option Node
-closed value var (Some (other.Closure place unit args)) = Some (node.Read place value unit var args)
+closed value var (Some (other.OfInput block field unit args)) =
+    Some (node.Read (record { block = Input block; field = field }) value unit var args)
+closed value var (Some (other.OfCore block field unit args)) =
+    Some (node.Read (record { block = Core block; field = field }) value unit var args)
 closed value var _ = None
+
+-- the closure of a read but for its variable
+abbrev pub closure_of : Place → UnitId → List Word → Apart
+closure_of place unit args = by place.block
+  where
+    by : BlockId → Apart
+    by (Input block) = other.OfInput block place.field unit args
+    by (Core block) = other.OfCore block place.field unit args
 
 -- a whole node
 abbrev pub whole : Slab Apart → Held → Option Node

@@ -2,7 +2,7 @@
 
 ghost use Rattle.std.specs.Prelude.{◌≡◌, Some, IsSome};
 ghost use Rattle.ceal_trace.specs.Nodes.{seen, ended_by};
-ghost use Rattle.ceal_trace.specs.Shelves.{whole, or_root, Joined, held_valued};
+ghost use Rattle.ceal_trace.specs.Shelves.{whole, or_root, closure_of, Joined, held_valued};
 
 use crate::node::{Node, Seen};
 use ceal_base::forest::{Key, UnitId};
@@ -36,12 +36,20 @@ pub enum Held {
     },
 }
 
-/// The second part: the key of an allocation, or the closure of a read but for its variable.
+/// The second part: the key of an allocation, or the closure of a read but for its variable. The place of a read is in
+/// two numbers of a block of one kind, so that it takes eight bytes.
 #[derive(Drop)]
 pub enum Apart {
     Key(Key),
-    Closure {
-        place: Place,
+    OfInput {
+        block: u32,
+        field: u32,
+        unit: UnitId,
+        args: Words,
+    },
+    OfCore {
+        block: u32,
+        field: u32,
         unit: UnitId,
         args: Words,
     },
@@ -56,7 +64,8 @@ pub fn join(apart: &mut Slab<Apart>, held: Held) -> Node
         Held::Root => Node::Root,
         Held::Alloc { block, apart: at } => match apart.remove(at.number() as usize) {
             Apart::Key(key) => Node::Alloc { block, key },
-            Apart::Closure { .. } => unreachable!(),
+            Apart::OfInput { .. } => unreachable!(),
+            Apart::OfCore { .. } => unreachable!(),
         },
         Held::Write { place, value } => Node::Write {
             place,
@@ -67,8 +76,25 @@ pub fn join(apart: &mut Slab<Apart>, held: Held) -> Node
             var,
             apart: at,
         } => match apart.remove(at.number() as usize) {
-            Apart::Closure { place, unit, args } => Node::Read {
-                place,
+            Apart::OfInput {
+                block,
+                field,
+                unit,
+                args,
+            } => Node::Read {
+                place: place_in(BlockId::Input(block), field),
+                value: value.word(),
+                unit,
+                var,
+                args,
+            },
+            Apart::OfCore {
+                block,
+                field,
+                unit,
+                args,
+            } => Node::Read {
+                place: place_in(BlockId::Core(block), field),
                 value: value.word(),
                 unit,
                 var,
@@ -112,7 +138,8 @@ pub fn look<'a>(apart: &'a Slab<Apart>, held: &'a Held) -> Seen<'a>
         Held::Root => Seen::Root,
         Held::Alloc { block, apart: at } => match &apart[at.number() as usize] {
             Apart::Key(key) => Seen::Alloc { block: *block, key },
-            Apart::Closure { .. } => unreachable!(),
+            Apart::OfInput { .. } => unreachable!(),
+            Apart::OfCore { .. } => unreachable!(),
         },
         Held::Write { place, value } => Seen::Write {
             place: *place,
@@ -123,8 +150,25 @@ pub fn look<'a>(apart: &'a Slab<Apart>, held: &'a Held) -> Seen<'a>
             var,
             apart: at,
         } => match &apart[at.number() as usize] {
-            Apart::Closure { place, unit, args } => Seen::Read {
-                place: *place,
+            Apart::OfInput {
+                block,
+                field,
+                unit,
+                args,
+            } => Seen::Read {
+                place: place_in(BlockId::Input(*block), *field),
+                value: value.word(),
+                unit: *unit,
+                var: *var,
+                args,
+            },
+            Apart::OfCore {
+                block,
+                field,
+                unit,
+                args,
+            } => Seen::Read {
+                place: place_in(BlockId::Core(*block), *field),
                 value: value.word(),
                 unit: *unit,
                 var: *var,
@@ -136,11 +180,40 @@ pub fn look<'a>(apart: &'a Slab<Apart>, held: &'a Held) -> Seen<'a>
     }
 }
 
+// A field of a block.
+#[inline]
+fn place_in(block: BlockId, field: u32) -> Place
+    ensures { result ≡ record { block = block; field = field } }
+{
+    Place { block, field }
+}
+
 /// Gives a read another value.
 pub fn give_value(held: &mut Held, value: Packed)
     ensures { held.new ≡ held_valued value held.old }
 {
     if let Held::Read { value: kept, .. } = held {
         *kept = value;
+    }
+}
+
+/// The closure of a read but for its variable, as a second part.
+#[inline]
+pub fn closure(place: Place, unit: UnitId, args: Words) -> Apart
+    ensures { result ≡ closure_of place unit args }
+{
+    match place.block {
+        BlockId::Input(block) => Apart::OfInput {
+            block,
+            field: place.field,
+            unit,
+            args,
+        },
+        BlockId::Core(block) => Apart::OfCore {
+            block,
+            field: place.field,
+            unit,
+            args,
+        },
     }
 }

@@ -6,7 +6,7 @@ ghost use Rattle.ceal_trace.specs.declared.node.Node.TheVariants as node;
 ghost use Rattle.ceal_trace.specs.Shelves.{Split};
 ghost use Rattle.slab.specs.Slab.{HasRoomFor};
 
-use crate::held::{Apart, Held};
+use crate::held::{Apart, Held, closure};
 use ceal_base::forest::{Key, UnitId};
 use ceal_base::word::{BlockId, Place, Word};
 use ceal_base::words::Words;
@@ -96,7 +96,7 @@ impl NewNode for NewRead {
             var,
             args,
         } = self;
-        let at = apart.insert_reserved(Apart::Closure { place, unit, args });
+        let at = apart.insert_reserved(closure(place, unit, args));
         Held::Read {
             value: Packed::of(value),
             var,
