@@ -5,3 +5,6 @@ pub mod ModsLemmas
 pub mod WritesLemmas
 pub mod IndexLemmas
 pub mod Samples
+pub mod MarksLemmas
+pub mod ChangedPlaces
+pub mod RenewedMarks
