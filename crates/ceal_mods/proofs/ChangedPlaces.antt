@@ -1,7 +1,7 @@
 -- Which places are told as changed: those that hold something else at the end than when they were marked, each once.
 use Rattle.std.proofs.Common.{◌≡◌, ◌≢◌, ◌<◌, ◌≤◌, ◌+◌, ℕ, suc, zero, pos, cond, inl, inr, ◌⊎◌, true, false, Bool, List, [], ◌∷◌, ◌++◌, length, drop, get_or, Option, Some, None, refl, sym, ap, subst, ◌∙◌, arith, rules}
 use Rattle.std.specs.Bool.{Decides}
-use Rattle.std.specs.Prelude.{IfSome, unwrap_or}
+use Rattle.std.specs.Prelude.{IfSome, unwrap_or, Result, Ok, Err, OnOk, OnErr, IfOk}
 use Rattle.std.specs.Map.{lookup}
 use Rattle.std.proofs.lemmas.Bool.{cases_Bool, cases_lt, false≢true}
 use Rattle.std.proofs.lemmas.Bool.Decides.{eqb_tells}
@@ -331,3 +331,15 @@ module _ (m : Marked) (cells : List (Place × Cell)) (w : Watches m cells) (apar
       | inr more ↦ came-differs at more (λ e. differs (at-now at ∙ (e ∙ sym (new-held at more))))
     ]
   ]
+
+-- ---- the same of answers
+
+pub renewed-held : {A E : Type 0} (r : Result A E) (new : Marked) (cells : List (Place × Cell)) → OnOk r (new ≡ record { ends = ends_of cells; slots = [] })
+    → OnOk r ((p : Place) → held_in new.ends p ≡ latest_value (unwrap_or (lookup (ghosts.eq p) cells) untouched))
+renewed-held (Ok x) new cells is = λ p. ap (λ (m : Marked). held_in m.ends p) is ∙ held-now cells p
+renewed-held (Err x) new cells is = tt
+
+-- where the places are these, so many are each of them
+pub if-listed : {A E : Type 0} (r : Result A E) (items : A → List Place) (xs : List Place) (P : A → Type 0) → IfOk r (λ v. items v ≡ xs) → ((v : A) → items v ≡ xs → P v) → IfOk r P
+if-listed (Ok x) items xs P h f = f x h
+if-listed (Err x) items xs P h f = tt

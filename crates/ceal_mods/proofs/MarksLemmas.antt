@@ -1,6 +1,6 @@
 -- What is marked of cells, and which of it may be otherwise.
 use Rattle.std.proofs.Common.{◌≡◌, ◌≢◌, ◌<◌, ◌≤◌, ◌+◌, ◌-◌, ℕ, suc, zero, pos, cond, nat_lt, inl, inr, ◌⊎◌, true, false, Bool, List, [], ◌∷◌, ◌++◌, length, drop, Option, Some, None, refl, sym, ap, subst, ◌∙◌, arith}
-use Rattle.std.specs.Prelude.{IfSome, unwrap_or}
+use Rattle.std.specs.Prelude.{IfSome, unwrap_or, Result, Ok, Err, OnOk, OnErr, IfOk}
 use Rattle.std.specs.Map.{lookup}
 use Rattle.std.proofs.lemmas.Bool.{cases_Bool, eq-eqb}
 use Rattle.std.proofs.lemmas.Bool.Decides.{eqb_tells}
@@ -256,3 +256,9 @@ watches-none es = record { places = tt; within = tt; distinct = tt; same = λ s 
 
 pub whole-marked : (index : Index) (cells : List (Place × Cell)) (marks : Option Marked) → IsWhole index cells marks → (m : Marked) → m ≡ record { ends = ends_of cells; slots = [] } → IsWhole index cells (Some m)
 whole-marked index cells marks w m is = record { indexes = w.indexes; apart = w.apart; watched = subst (λ (n : Marked). Watches n cells) (sym is) (watches-now cells) }
+
+-- marked anew, or left as it was where there was no memory
+pub whole-renewed : {A E : Type 0} (index : Index) (cells : List (Place × Cell)) (marks : Option Marked) → IsWhole index cells marks → (old new : Marked) (r : Result A E) → marks ≡ Some old
+    → OnOk r (new ≡ record { ends = ends_of cells; slots = [] }) → OnErr r (new ≡ old) → IsWhole index cells (Some new)
+whole-renewed index cells marks w old new (Ok x) is ok err = whole-marked index cells marks w new ok
+whole-renewed index cells marks w old new (Err x) is ok err = subst (λ (o : Option Marked). IsWhole index cells o) (is ∙ ap Some (sym err)) w
