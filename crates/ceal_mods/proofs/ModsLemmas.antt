@@ -5,6 +5,7 @@ use Rattle.std.specs.Map.{lookup}
 use Rattle.std.proofs.lemmas.Bool.{cases_Bool}
 use Rattle.ceal_base.specs.contracts.word.PlacePartialEq.TheImpl.{ghosts}
 use Rattle.ceal_base.specs.declared.word.Place.{Place}
+use Rattle.ceal_base.specs.declared.word.Word.{Word}
 use Rattle.ceal_mods.specs.Cell.{untouched, Rises}
 use Rattle.ceal_mods.specs.declared.cell.Cell.{Cell}
 use Rattle.ceal_mods.specs.declared.index.Index.{Index}
@@ -29,10 +30,10 @@ rise_changed order cells after p cell rise updates rises q = elim (cases_Bool (g
 ]
 
 -- one place has another cell, and the others have theirs
-pub changes_as : (cells after : List (Place × Cell)) (looked differed : ℕ) (p : Place) (cell : Cell)
+pub changes_as : (cells after : List (Place × Cell)) (looked differed : ℕ) (marked left : Option (List (Place × Word))) (p : Place) (cell : Cell) → left ≡ marked
     → ((q : Place) → lookup (ghosts.eq q) after ≡ cond (ghosts.eq p q) (Some cell) (lookup (ghosts.eq q) cells))
-    → Changes (record { cells = cells; looked = looked; differed = differed }) (record { cells = after; looked = looked; differed = differed }) p cell
-changes_as cells after looked differed p cell updates = record {
+    → Changes (record { cells = cells; looked = looked; differed = differed; marked = marked }) (record { cells = after; looked = looked; differed = differed; marked = left }) p cell
+changes_as cells after looked differed marked left p cell same_marks updates = record {
   here = elim (same_place p p) [
     | inl same ↦ (let here : lookup (ghosts.eq p) after ≡ Some cell = updates p ∙ rw same.0 refl in ap (λ (o : Option Cell). unwrap_or o untouched) here)
     | inr differ ↦ absurd (differ.1 refl)
@@ -43,6 +44,7 @@ changes_as cells after looked differed p cell updates = record {
   ];
   looked = refl;
   differed = refl;
+  marked = same_marks;
 }
 
 -- where one place has another cell, it has one, and the others that had one have it
@@ -76,9 +78,10 @@ module _ (index : Index) (cells : List (Place × Cell)) (p : Place) (slot : ℕ)
     pub rises_here : (order : List ℕ) → AllRise order cells → Rises order (cell_in cells slot)
     rises_here order rise = rw cell_here at (rise p)
 
-    pub changed : (looked differed : ℕ) (cell : Cell) (after : List (Place × Cell)) → after ≡ with_cell slot cell cells
-        → Changes (record { cells = cells; looked = looked; differed = differed }) (record { cells = after; looked = looked; differed = differed }) p cell
-    changed looked differed cell after now = rw now (changes_as cells (with_cell slot cell cells) looked differed p cell (λ q. lookup_with p q cells slot cell at.stands))
+    pub changed : (looked differed : ℕ) (marked left : Option (List (Place × Word))) (cell : Cell) (after : List (Place × Cell)) → left ≡ marked → after ≡ with_cell slot cell cells
+        → Changes (record { cells = cells; looked = looked; differed = differed; marked = marked }) (record { cells = after; looked = looked; differed = differed; marked = left }) p cell
+    changed looked differed marked left cell after same now = rw now
+        (changes_as cells (with_cell slot cell cells) looked differed marked left p cell same (λ q. lookup_with p q cells slot cell at.stands))
 
     pub follow : (order : List ℕ) (cell : Cell) (after : List (Place × Cell)) → AllRise order cells → after ≡ with_cell slot cell cells → Rises order cell → AllRise order after
     follow order cell after rise now rises = rw now (rise_changed order cells (with_cell slot cell cells) p cell rise (λ q. lookup_with p q cells slot cell at.stands) rises)
@@ -108,10 +111,10 @@ module _ (index : Index) (cells : List (Place × Cell)) (p : Place) (slot : ℕ)
     pub cell_none : unwrap_or (lookup (ghosts.eq p) cells) untouched ≡ untouched
     cell_none = ap (λ (o : Option Cell). unwrap_or o untouched) (not_found index cells p indexes nowhere)
 
-    pub added : (looked differed : ℕ) (cell : Cell) (after : List (Place × Cell)) → after ≡ cells ++ (p, cell) ∷ []
-        → Changes (record { cells = cells; looked = looked; differed = differed }) (record { cells = after; looked = looked; differed = differed }) p cell
-    added looked differed cell after now =
-        rw now (changes_as cells (cells ++ (p, cell) ∷ []) looked differed p cell (λ q. lookup_pushed p q cell cells (not_found index cells p indexes nowhere)))
+    pub added : (looked differed : ℕ) (marked : Option (List (Place × Word))) (cell : Cell) (after : List (Place × Cell)) → after ≡ cells ++ (p, cell) ∷ []
+        → Changes (record { cells = cells; looked = looked; differed = differed; marked = marked }) (record { cells = after; looked = looked; differed = differed; marked = marked }) p cell
+    added looked differed marked cell after now =
+        rw now (changes_as cells (cells ++ (p, cell) ∷ []) looked differed marked marked p cell refl (λ q. lookup_pushed p q cell cells (not_found index cells p indexes nowhere)))
 
     pub follow_added : (order : List ℕ) (cell : Cell) (after : List (Place × Cell)) → AllRise order cells → after ≡ cells ++ (p, cell) ∷ [] → Rises order cell → AllRise order after
     follow_added order cell after rise now rises =

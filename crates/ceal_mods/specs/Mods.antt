@@ -1,21 +1,25 @@
 -- The modifiables of all places, with many writes in one run (Acar, Ahmed and Blume, *Imperative self-adjusting
 -- computation*, POPL 2008).
-use Rattle.std.specs.Prelude.{◌≡◌, ◌≢◌, ℕ, List, unwrap_or, IsSome, false}
+use Rattle.std.specs.Prelude.{◌≡◌, ◌≢◌, ℕ, List, [], Option, unwrap_or, IsSome, false}
 use Rattle.std.specs.Map.{lookup}
 use Rattle.ceal_base.specs.contracts.word.PlacePartialEq.TheImpl.{ghosts}
 use Rattle.ceal_base.specs.declared.word.Place.{Place}
+use Rattle.ceal_base.specs.declared.word.Word.{Word}
 use Rattle.ceal_order.specs.Stamps.{is_in}
 use Rattle.ceal_order.specs.Rising.{KeepsOrder}
 use Rattle.ceal_mods.specs.Writes.{stamps_of}
 use Rattle.ceal_mods.specs.Cell.{untouched, Rises}
+use Rattle.ceal_mods.specs.Marks.{held_in}
 use Rattle.ceal_mods.specs.declared.cell.Cell.{Cell}
 
--- what a caller sees: the cells of the places that were touched, how often a value was looked up, and how often it
--- differed from what had been recorded of it
+-- what a caller sees: the cells of the places that were touched, how often a value was looked up, how often it
+-- differed from what had been recorded of it, and what the places that were touched then held at the end when they were
+-- marked, if they were
 pub record Contents : Type 0 where
   pub cells : List (Place × Cell)
   pub looked : ℕ
   pub differed : ℕ
+  pub marked : Option (List (Place × Word))
 
 -- the cell of a place
 abbrev pub cell_of : Contents → Place → Cell
@@ -25,16 +29,21 @@ cell_of mods p = unwrap_or (lookup (ghosts.eq p) mods.cells) untouched
 abbrev pub HasCell : Contents → Place → Type 0
 HasCell mods p = IsSome (lookup (ghosts.eq p) mods.cells)
 
+-- what a place held at the end when the places were marked
+abbrev pub held_at_mark : Contents → Place → Word
+held_at_mark mods p = held_in (unwrap_or mods.marked []) p
+
 -- nothing was set, written or read at any place
 abbrev pub IsUntouched : Contents → Type 0
 IsUntouched mods = (p : Place) → cell_of mods p ≡ untouched
 
--- the new contents have this cell at a place, and the others' cells and the look-ups as the old ones
+-- the new contents have this cell at a place, and the others' cells, the look-ups and what was marked as the old ones
 pub record Changes (old new : Contents) (p : Place) (cell : Cell) : Type 0 where
   pub here : cell_of new p ≡ cell
   pub others : (q : Place) → q ≢ p → cell_of new q ≡ cell_of old q
   pub looked : new.looked ≡ old.looked
   pub differed : new.differed ≡ old.differed
+  pub marked : new.marked ≡ old.marked
 
 -- modifiables follow an order along which the writes and the reads of each place rise
 abbrev pub Follows : List ℕ → Contents → Type 0

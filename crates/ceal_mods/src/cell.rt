@@ -2,7 +2,7 @@
 
 ghost use Rattle.std.specs.Prelude.{◌≡◌, ℕ, [], IsTrue, IfSome, IfNone, IfOk};
 ghost use Rattle.ceal_order.specs.Stamps.{is_in};
-ghost use Rattle.ceal_mods.specs.Cell.{untouched, with_write, with_read, Rises, Sees, IsAffected};
+ghost use Rattle.ceal_mods.specs.Cell.{untouched, latest_value, with_write, with_read, Rises, Sees, IsAffected};
 
 use crate::writes::Writes;
 use ceal_base::no_memory::NoMemory;
@@ -65,6 +65,13 @@ impl Cell {
             writes: Writes::new(alloc),
             reads,
         })
+    }
+
+    /// What it holds at the end.
+    pub fn end(&self) -> Word
+        ensures { result ≡ latest_value self.now }
+    {
+        self.writes.last(self.base)
     }
 
     /// The earliest read after a stamp that no write parts from it.

@@ -7,13 +7,17 @@
 //! `mods` has the calls over the cells of all places, `cell` the lists of one place, and `writes` stamps with values;
 //! `laws` says along which orders they still follow, and which stamps there are after a change. Inside, the cells stand
 //! in
-//! one vector, which `entries` changes, and an `index` leads from a place to its cell, by rows of `slots`.
+//! one vector, which `entries` changes, and an `index` leads from a place to its cell, by rows of `slots`. `marks` has
+//! what the places held when they were marked and the slots of cells that may hold something else since, and `ends` the
+//! loops over them.
 #![tactic(auto)]
 
 mod cell;
+mod ends;
 mod entries;
 mod index;
 pub mod laws;
+mod marks;
 pub mod mods;
 mod slots;
 mod writes;

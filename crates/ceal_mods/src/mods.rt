@@ -1,7 +1,8 @@
 // The modifiables of all places.
 
 ghost use Rattle.std.specs.Prelude.{◌≡◌, ◌≢◌, ℕ, ◌<◌, ◌+◌, ◌-◌, ◌^◌, ◌++◌, ◌∷◌, [], List, None, Some, false, length};
-ghost use Rattle.std.specs.Prelude.{min, IsTrue, IfSome, IfNone, IfOk, IsOk, OnOk, OnErr, vec_len, vec_capacity};
+ghost use Rattle.std.specs.Prelude.{min, IsTrue, IsSome, IfSome, IfNone, IfOk, IsOk, OnOk, OnErr, is_some, vec_len};
+ghost use Rattle.std.specs.Prelude.{vec_capacity};
 ghost use Rattle.std.specs.Map.{lookup};
 ghost use Rattle.ceal_base.specs.contracts.word.PlacePartialEq.TheImpl.{ghosts};
 ghost use Rattle.ceal_base.specs.declared.word.Place.{Place as PlaceOf};
@@ -10,7 +11,8 @@ ghost use Rattle.ceal_mods.specs.Writes.{stamps_of};
 ghost use Rattle.ceal_mods.specs.Cell.{untouched, value_before, latest_value, with_base, with_write, without_write};
 ghost use Rattle.ceal_mods.specs.Cell.{with_read, without_read, Sees, IsAffected};
 ghost use Rattle.ceal_mods.specs.Index.{where_from, slot_of, Indexes};
-ghost use Rattle.ceal_mods.specs.Mods.{cell_of, HasCell, IsUntouched, Changes, Follows};
+ghost use Rattle.ceal_mods.specs.Mods.{cell_of, held_at_mark, HasCell, IsUntouched, Changes, Follows};
+ghost use Rattle.ceal_mods.specs.Marks.{ends_of, times};
 ghost use Rattle.ceal_mods.specs.Slots.{no_slot};
 
 use crate::cell::Cell;
@@ -18,6 +20,7 @@ use crate::entries::{
     add_read_at, add_write_at, cell_at, remove_read_at, remove_write_at, set_base_at,
 };
 use crate::index::Index;
+use crate::marks::{Marks, note};
 use crate::slots::NO_SLOT;
 use ceal_base::no_memory::NoMemory;
 use ceal_base::word::{Place, Word};
@@ -38,6 +41,7 @@ pub struct Mods {
     index: Index,
     looked: u64,
     differed: u64,
+    marks: Option<Marks>,
     alloc: Global,
 }
 
@@ -46,11 +50,16 @@ impl Model for Mods {
 
     ghost Value = { Contents };
 
-    ghost use Rattle.ceal_mods.specs.Index.{Indexes};
+    ghost use Rattle.ceal_mods.specs.Marks.{ends_in, IsWhole};
 
-    ghost view = { λ m. record { cells = m.cells.items; looked = m.looked; differed = m.differed } };
+    ghost view = { λ m. record {
+      cells = m.cells.items;
+      looked = m.looked;
+      differed = m.differed;
+      marked = ends_in m.marks;
+    } };
 
-    ghost invariant = { λ m. Indexes m.index m.cells.items };
+    ghost invariant = { λ m. IsWhole m.index m.cells.items m.marks };
 }
 
 impl Mods {
@@ -59,6 +68,7 @@ impl Mods {
         ensures cells { IfOk result IsUntouched }
         ensures looked { IfOk result (λ mods. mods.looked ≡ 0) }
         ensures differed { IfOk result (λ mods. mods.differed ≡ 0) }
+        ensures marked { IfOk result (λ mods. mods.marked ≡ None) }
         ensures follows { IfOk result (λ mods. (order : List ℕ) → Follows order mods) }
     {
         Ok(Mods {
@@ -66,6 +76,7 @@ impl Mods {
             index: Index::new(alloc),
             looked: 0,
             differed: 0,
+            marks: None,
             alloc,
         })
     }
@@ -82,6 +93,7 @@ impl Mods {
     {
         let slot = self.index.find(place);
         if slot != NO_SLOT {
+            note(&mut self.marks, slot);
             set_base_at(&mut self.cells, slot, value);
             return Ok(());
         }
@@ -132,6 +144,7 @@ impl Mods {
     {
         let slot = self.index.find(place);
         if slot != NO_SLOT {
+            note(&mut self.marks, slot);
             add_write_at(&mut self.cells, slot, order, stamp, value)?;
             return Ok(());
         }
@@ -151,6 +164,7 @@ impl Mods {
     {
         let slot = self.index.find(place);
         if slot != NO_SLOT {
+            note(&mut self.marks, slot);
             remove_write_at(&mut self.cells, slot, order, stamp);
         }
     }
@@ -200,6 +214,7 @@ impl Mods {
         ensures looked { self.new.looked ≡ min (self.old.looked + 1) (2 ^ 64 - 1) }
         ensures differed { self.new.differed ≡ self.old.differed }
         ensures cells { self.new.cells ≡ self.old.cells }
+        ensures marked { self.new.marked ≡ self.old.marked }
         ensures follows { Follows order.now.stamps self.new }
     {
         self.looked = self.looked.saturating_add(1);
@@ -221,6 +236,7 @@ impl Mods {
         ensures differed { self.new.differed ≡ min (self.old.differed + 1) (2 ^ 64 - 1) }
         ensures looked { self.new.looked ≡ self.old.looked }
         ensures cells { self.new.cells ≡ self.old.cells }
+        ensures marked { self.new.marked ≡ self.old.marked }
     {
         self.differed = self.differed.saturating_add(1);
     }
@@ -242,6 +258,50 @@ impl Mods {
         }
     }
 
+    /// From now on `changed` compares what places hold at the end with what they hold now. The first time it takes the
+    /// time and the room of all cells, and then the time of those that were changed since.
+    pub fn mark(&mut self) -> Result<(), NoMemory>
+        ensures marked { OnOk result (IsSome self.new.marked) }
+        ensures held { OnOk result ((p : PlaceOf)
+            → held_at_mark self.new p ≡ latest_value (cell_of self.new p)) }
+        ensures cells { self.new.cells ≡ self.old.cells }
+        ensures looked { self.new.looked ≡ self.old.looked }
+        ensures differed { self.new.differed ≡ self.old.differed }
+        ensures err { OnErr result (self.new ≡ self.old) }
+    {
+        match &mut self.marks {
+            Some(marks) => marks.renew(&self.cells),
+            None => {
+                self.marks = Some(first_marks(self.alloc, &self.cells)?);
+                Ok(())
+            }
+        }
+    }
+
+    /// Whether `changed` may be called: `mark` was.
+    pub fn is_marked(&self) -> bool
+        ensures { result ≡ is_some self.now.marked }
+    {
+        self.marks.is_some()
+    }
+
+    /// The places that hold something else at the end than when `mark` was called last; one that was not touched then
+    /// held 0. It takes the time of the cells that were changed since.
+    pub fn changed(&self) -> Result<Vec<Place>, NoMemory>
+        requires marked { IsSome self.now.marked }
+        ensures told { IfOk result (λ places. (p : PlaceOf)
+            → latest_value (cell_of self.now p) ≢ held_at_mark self.now p
+            → times p places.items ≡ 1) }
+        ensures only { IfOk result (λ places. (p : PlaceOf)
+            → latest_value (cell_of self.now p) ≡ held_at_mark self.now p
+            → times p places.items ≡ 0) }
+    {
+        match &self.marks {
+            None => unreachable!(),
+            Some(marks) => marks.changed(self.alloc, &self.cells),
+        }
+    }
+
     /// The earliest read of a place after a stamp that no write of the place parts from it.
     pub fn affected(&self, order: &Order, place: Place, after: Stamp) -> Option<Stamp>
         requires here { IsTrue (is_in after.0 order.now.stamps) }
@@ -255,6 +315,20 @@ impl Mods {
         match found(&self.cells, &self.index, place) {
             None => None,
             Some(cell) => cell.affected(order, after),
+        }
+    }
+}
+
+// What the places of these cells hold at the end.
+fn first_marks(alloc: Global, cells: &[(Place, Cell)]) -> Result<Marks, NoMemory>
+    ensures { IfOk result (λ marks. marks ≡ record { ends = ends_of cells.now; slots = [] }) }
+{
+    let mut marks = Marks::new(alloc);
+    match marks.renew(cells) {
+        Ok(()) => Ok(marks),
+        Err(error) => {
+            drop(marks);
+            Err(error)
         }
     }
 }

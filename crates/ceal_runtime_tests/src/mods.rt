@@ -41,6 +41,28 @@ fn a_base_begins_once(rt: HostRuntime) {
     drop(mods);
 }
 
+const OTHER: Place = Place {
+    block: BlockId::Core(0),
+    field: 1,
+};
+
+#[test]
+fn what_has_changed_since_the_mark(rt: HostRuntime) {
+    let mut mods = Mods::new(rt.alloc()).expect(&rt, "memory");
+    holds(&rt, !mods.is_marked());
+    holds(&rt, mods.set_base(COUNTER, Word::Num(1)).is_ok());
+    mods.mark().expect(&rt, "memory");
+    holds(&rt, mods.is_marked());
+    holds(&rt, mods.set_base(COUNTER, Word::Num(2)).is_ok());
+    holds(&rt, mods.set_base(OTHER, Word::Num(3)).is_ok());
+    equal(&rt, mods.changed().expect(&rt, "memory").len(), 2);
+    holds(&rt, mods.set_base(COUNTER, Word::Num(1)).is_ok());
+    equal(&rt, mods.changed().expect(&rt, "memory").len(), 1);
+    mods.mark().expect(&rt, "memory");
+    equal(&rt, mods.changed().expect(&rt, "memory").len(), 0);
+    drop(mods);
+}
+
 fn writes_at_the_start<R: Abort>(rt: &R, order: &mut Order, mods: &mut Mods)
     requires room { 1 ≤ order.old.spare }
     requires untouched { IsUntouched mods.old }

@@ -1,0 +1,30 @@
+use Rattle.std.proofs.Common.{◌≡◌, ◌≤◌, ◌++◌, ◌∙◌, List, drop, length, refl, ap, sym, subst, arith}
+use Rattle.ceal_base.specs.declared.word.Place.{Place}
+use Rattle.ceal_order.proofs.Places.{AllBelow-more}
+use Rattle.ceal_mods.specs.Marks.{told, told_new}
+use Rattle.ceal_mods.proofs.MarksLemmas.{fewer}
+use Rattle.ceal_mods.proofs.marks.Marks.changed.Goals as goal
+
+pub tell_listed-requires : goal.tell_listed-requires
+tell_listed-requires c =
+    let v = c.self.inside in
+    let w = rw (← c.self.view_is) at c.requires in
+    rw (c.deref.ensures.value, c.deref-2.ensures.value) (record {
+      ends = w.within;
+      cells = AllBelow-more (length v.ends.items) (length c.args.cells.now) v.slots.items (fewer v.ends.items c.args.cells.now w.places) w.within;
+    })
+
+pub cells_from-requires : goal.cells_from-requires
+cells_from-requires c =
+    let v = c.self.inside in
+    let w = rw (← c.self.view_is) at c.requires in
+    let few = fewer v.ends.items c.args.cells.now w.places in
+    omega (arith, few, c.len.ensures, v.ends.ok.0)
+
+pub returns : goal.returns
+returns c =
+    let v = c.self.inside in
+    let is : c.len.result ≡ length v.ends.items = omega (arith, c.len.ensures, v.ends.ok.0) in
+    let first : c.tell_listed.new.places.items ≡ told v.ends.items c.args.cells.now v.slots.items =
+    c.in_ok-tell_listed.ensures ∙ rw (c.new-places.ensures.items, c.deref.ensures.value, c.deref-2.ensures.value) refl in
+    rw (← c.self.view_is) (c.in_ok-tell_new.ensures ∙ rw (first, c.cells_from.ensures, is) refl)

@@ -1,0 +1,21 @@
+use Rattle.std.proofs.Common.{◌≡◌, ◌≢◌, ◌∙◌, ap}
+use Rattle.ceal_base.specs.declared.word.Place.{Place}
+use Rattle.ceal_mods.specs.Marks.{times}
+use Rattle.ceal_mods.proofs.ChangedPlaces.{if-listed, told-not, told-once}
+use Rattle.ceal_mods.proofs.mods.Mods.changed.Goals as goal
+
+pub returns-clause-told : goal.returns-clause-told
+returns-clause-told c =
+    let v = c.self.inside in
+    let whole = rw c.in-Some.is at c.self.invariant in
+    rw (← c.self.view_is, c.in-Some.is)
+    (if-listed c.changed.result (λ places. places.items) _ _ (rw c.deref.ensures.value at c.changed.ensures)
+    (λ places is p differs. ap (times p) is ∙ told-once c.in-Some.marks v.cells.items whole.watched whole.apart p differs))
+
+pub returns-clause-only : goal.returns-clause-only
+returns-clause-only c =
+    let v = c.self.inside in
+    let whole = rw c.in-Some.is at c.self.invariant in
+    rw (← c.self.view_is, c.in-Some.is)
+    (if-listed c.changed.result (λ places. places.items) _ _ (rw c.deref.ensures.value at c.changed.ensures)
+    (λ places is p same. ap (times p) is ∙ told-not c.in-Some.marks v.cells.items whole.watched whole.apart p same))
