@@ -15,5 +15,4 @@ pub mod Restored
 pub mod EngineLaws
 pub mod TraceSoFar
 pub mod LooksOfCalls
-pub mod MarkedEnds
 pub mod Samples
