@@ -1,7 +1,7 @@
 -- Which places are told as changed: those that hold something else at the end than when they were marked, each once.
-use Rattle.std.proofs.Common.{◌≡◌, ◌≢◌, ◌<◌, ◌≤◌, ◌+◌, ℕ, suc, zero, pos, cond, inl, inr, ◌⊎◌, true, false, Bool, List, [], ◌∷◌, ◌++◌, length, drop, get_or, Option, Some, None, refl, sym, ap, subst, ◌∙◌, arith, rules}
+use Rattle.std.proofs.Common.{◌≡◌, ◌≢◌, ◌<◌, ◌≤◌, ◌+◌, ℕ, suc, zero, pos, inl, inr, ◌⊎◌, true, false, List, [], ◌∷◌, ◌++◌, length, drop, get_or, Option, Some, None, refl, sym, ap, subst, ◌∙◌, arith, rules}
 use Rattle.std.specs.Bool.{Decides}
-use Rattle.std.specs.Prelude.{IfSome, unwrap_or, Result, Ok, Err, OnOk, OnErr, IfOk}
+use Rattle.std.specs.Prelude.{unwrap_or, Result, Ok, Err, OnOk, IfOk}
 use Rattle.std.specs.Map.{lookup}
 use Rattle.std.proofs.lemmas.Bool.{cases_Bool, cases_lt, false≢true}
 use Rattle.std.proofs.lemmas.Bool.Decides.{eqb_tells}
@@ -11,7 +11,7 @@ use Rattle.ceal_base.specs.declared.word.Place.{Place}
 use Rattle.ceal_base.specs.declared.word.Word.{Word}
 use Rattle.ceal_base.specs.declared.word.Word.TheVariants.{Num}
 use Rattle.ceal_order.proofs.Places.{in_head, in_tail, not_in, below_of}
-use Rattle.ceal_order.specs.Stamps.{is_in, NotIn, Distinct, AllBelow}
+use Rattle.ceal_order.specs.Stamps.{is_in, NotIn, Distinct}
 use Rattle.ceal_mods.specs.Cell.{untouched, latest_value}
 use Rattle.ceal_mods.specs.Index.{cell_in}
 use Rattle.ceal_mods.specs.Marks.{Marked, SamePlaces, Apart, Watches, end_in, ends_of, held_in, times, told_of, told_at, told, told_new}
@@ -45,7 +45,7 @@ one-differs p q held now here differs = elim (cases_Bool (word_ghosts.eq now hel
   | inr differ ↦ rw (differ, here) refl
 ]
 
--- ---- where a place stands
+-- ---- where a place is
 
 pub record At (p : Place) (es : List (Place × Cell)) : Type 0 where
   pub slot : ℕ
@@ -162,9 +162,9 @@ told-differs p xs cells k [] same apart stands less differs distinct there = abs
 told-differs p xs cells k (s ∷ ss) same apart stands less differs distinct there = elim (eqb_tells s k) [
   | inl e ↦
       let here : times p (told_at xs s (latest_value (cell_in cells s))) ≡ 1 =
-          subst (λ (n : ℕ). times p (told_at xs n (latest_value (cell_in cells n))) ≡ 1) (sym e.1) (at-differs p xs cells k (latest_value (cell_in cells k)) same stands less differs) in
+      subst (λ (n : ℕ). times p (told_at xs n (latest_value (cell_in cells n))) ≡ 1) (sym e.1) (at-differs p xs cells k (latest_value (cell_in cells k)) same stands less differs) in
       let rest = told-none p xs cells ss (λ t in-t. at-other p xs cells k t (latest_value (cell_in cells t)) same apart stands
-          (λ same-t. (let no : is_in t ss ≡ false = not_in t ss (subst (λ (n : ℕ). NotIn n ss) (e.1 ∙ same-t) distinct.0) in false≢true (sym no ∙ in-t)))) in
+      (λ same-t. (let no : is_in t ss ≡ false = not_in t ss (subst (λ (n : ℕ). NotIn n ss) (e.1 ∙ same-t) distinct.0) in false≢true (sym no ∙ in-t)))) in
       times-append p (told_at xs s (latest_value (cell_in cells s))) (told xs cells ss) ∙ omega (arith, here, rest)
   | inr e ↦
       let here = at-other p xs cells k s (latest_value (cell_in cells s)) same apart stands (λ z. e.1 (sym z)) in
@@ -339,7 +339,7 @@ pub renewed-held : {A E : Type 0} (r : Result A E) (new : Marked) (cells : List 
 renewed-held (Ok x) new cells is = λ p. ap (λ (m : Marked). held_in m.ends p) is ∙ held-now cells p
 renewed-held (Err x) new cells is = tt
 
--- where the places are these, so many are each of them
+-- what is true of an answer that has these places
 pub if-listed : {A E : Type 0} (r : Result A E) (items : A → List Place) (xs : List Place) (P : A → Type 0) → IfOk r (λ v. items v ≡ xs) → ((v : A) → items v ≡ xs → P v) → IfOk r P
 if-listed (Ok x) items xs P h f = f x h
 if-listed (Err x) items xs P h f = tt

@@ -1,13 +1,13 @@
 -- What is marked of cells, and which of it may be otherwise.
-use Rattle.std.proofs.Common.{◌≡◌, ◌≢◌, ◌<◌, ◌≤◌, ◌+◌, ◌-◌, ℕ, suc, zero, pos, cond, nat_lt, inl, inr, ◌⊎◌, true, false, Bool, List, [], ◌∷◌, ◌++◌, length, drop, Option, Some, None, refl, sym, ap, subst, ◌∙◌, arith}
-use Rattle.std.specs.Prelude.{IfSome, unwrap_or, Result, Ok, Err, OnOk, OnErr, IfOk}
+use Rattle.std.proofs.Common.{◌≡◌, ◌≢◌, ◌<◌, ◌≤◌, ℕ, suc, zero, nat_lt, inl, inr, true, false, List, [], ◌∷◌, ◌++◌, length, Option, Some, None, refl, sym, ap, subst, ◌∙◌, arith}
+use Rattle.std.specs.Prelude.{IfSome, Result, Ok, Err, OnOk, OnErr}
 use Rattle.std.specs.Map.{lookup}
 use Rattle.std.proofs.lemmas.Bool.{cases_Bool, eq-eqb}
 use Rattle.std.proofs.lemmas.Bool.Decides.{eqb_tells}
 use Rattle.ceal_base.specs.contracts.word.PlacePartialEq.TheImpl.{ghosts}
 use Rattle.ceal_base.specs.declared.word.Place.{Place}
 use Rattle.ceal_base.specs.declared.word.Word.{Word}
-use Rattle.ceal_order.proofs.Places.{NotIn-of, AllBelow-more, in_tail}
+use Rattle.ceal_order.proofs.Places.{in_tail}
 use Rattle.ceal_order.specs.Stamps.{is_in, NotIn, Distinct, AllBelow}
 use Rattle.ceal_mods.specs.Cell.{latest_value}
 use Rattle.ceal_mods.specs.Index.{cell_in, with_cell, Indexes}
@@ -229,9 +229,6 @@ module _ (index : Index) (cells : List (Place × Cell)) (marks : Option Marked) 
     watched = rw now (watched-added marks cells (p, cell) w.watched);
   }
 
-  pub whole-kept : (new : Index) (after : List (Place × Cell)) → after ≡ cells → Indexes new after → IsWhole new after marks
-  whole-kept new after now indexes = record { indexes = indexes; apart = rw now w.apart; watched = rw now w.watched }
-
 -- a place is marked as it was
 pub ends-noted : (slot : ℕ) (marks : Option Marked) → ends_in (noted slot marks) ≡ ends_in marks
 ends-noted slot None = refl
@@ -251,13 +248,10 @@ end-now (e ∷ es) (suc s) less = end-now es s (omega arith)
 pub watches-now : (es : List (Place × Cell)) → Watches (record { ends = ends_of es; slots = [] }) es
 watches-now es = record { places = same-ends es; within = tt; distinct = tt; same = λ s less none. end-now es s less }
 
-pub watches-none : (es : List (Place × Cell)) → Watches (record { ends = []; slots = [] }) es
-watches-none es = record { places = tt; within = tt; distinct = tt; same = λ s less none. absurd (omega (arith, less)) }
-
 pub whole-marked : (index : Index) (cells : List (Place × Cell)) (marks : Option Marked) → IsWhole index cells marks → (m : Marked) → m ≡ record { ends = ends_of cells; slots = [] } → IsWhole index cells (Some m)
 whole-marked index cells marks w m is = record { indexes = w.indexes; apart = w.apart; watched = subst (λ (n : Marked). Watches n cells) (sym is) (watches-now cells) }
 
--- marked anew, or left as it was where there was no memory
+-- marked again, or left as it was where there was no memory
 pub whole-renewed : {A E : Type 0} (index : Index) (cells : List (Place × Cell)) (marks : Option Marked) → IsWhole index cells marks → (old new : Marked) (r : Result A E) → marks ≡ Some old
     → OnOk r (new ≡ record { ends = ends_of cells; slots = [] }) → OnErr r (new ≡ old) → IsWhole index cells (Some new)
 whole-renewed index cells marks w old new (Ok x) is ok err = whole-marked index cells marks w new ok
