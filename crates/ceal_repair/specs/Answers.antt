@@ -70,6 +70,7 @@ pub record IsFirstRun (code : Code) (inputs : List Block) (f : ℕ) (args : List
   pub named : Named code inputs f args Nothing 0 names first.items trace
   pub work : run.spent ≡ first.work
   pub pays : PaysFirst run
+  pub unmarked : run.tables.mods.marked ≡ None
 
 -- out of fuel exactly when the run from scratch is
 abbrev pub IsFirst : Code → List Block → ℕ → List Word → ℕ → Outcome → Type 0

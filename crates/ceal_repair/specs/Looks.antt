@@ -18,6 +18,10 @@ NoneDiffers old new = new.mods.differed ≡ old.mods.differed
 abbrev pub OneDiffers : Tables → Tables → Type 0
 OneDiffers old new = new.mods.differed ≡ min (old.mods.differed + 1) (2 ^ 64 - 1)
 
+-- what was marked is marked as it was
+abbrev pub KeepsMarks : Tables → Tables → Type 0
+KeepsMarks old new = new.mods.marked ≡ old.mods.marked
+
 -- nothing was looked at, and the queue is as it was
 pub record LooksAtNothing (old new : Tables) : Type 0 where
   pub looked : new.mods.looked ≡ old.mods.looked

@@ -13,6 +13,7 @@ use Rattle.ceal_code.specs.declared.step.Step.{Step as CodeStep}
 use Rattle.ceal_code.specs.declared.waits.Floor.{Floor}
 use Rattle.ceal_order.specs.declared.stamp.Stamp.{Stamp}
 use Rattle.ceal_repair.specs.Frames.{Begun, frames_in}
+use Rattle.ceal_repair.specs.Looks.{KeepsMarks}
 use Rattle.ceal_repair.specs.Moment.{View, Start, RunningNow, PassingNow}
 use Rattle.ceal_repair.specs.Words.{words_of}
 use Rattle.ceal_repair.specs.declared.frame.Frame.{Frame}
@@ -102,11 +103,12 @@ pub record IsOver (start : Start) (r : Repair) : Type 0 where
 abbrev pub PassesOn : Start → Repair → Type 0
 PassesOn start r = (until : Stamp) × PassingNow (code_of r) (inputs_of r) start until (view r)
 
--- the code and the inputs stay, and so does the place of what the run keeps
+-- the code and the inputs stay, and so do the place of what the run keeps and what was marked
 pub record SameCall (old new : Repair) : Type 0 where
   pub code : code_of new ≡ code_of old
   pub inputs : inputs_of new ≡ inputs_of old
   pub place : new.running.ghost_name ≡ old.running.ghost_name
+  pub marks : KeepsMarks (running_of old).tables (running_of new).tables
 
 -- the unit of a new read is over; its frame was taken off
 pub record EndsRead (start : Start) (below : Floor) (read : Stamp) (r : Repair) : Type 0 where

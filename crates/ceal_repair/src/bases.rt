@@ -12,7 +12,7 @@ ghost use Rattle.ceal_order.specs.Stamps.{is_in};
 ghost use Rattle.ceal_code.specs.Replay.{content_in};
 ghost use Rattle.ceal_repair.specs.Words.{base_of, base_cleared};
 ghost use Rattle.ceal_repair.specs.Kept.{Kept, base_in};
-ghost use Rattle.ceal_repair.specs.Looks.{NoneDiffers};
+ghost use Rattle.ceal_repair.specs.Looks.{NoneDiffers, KeepsMarks};
 
 use crate::tables::Tables;
 use ceal_base::kind::{FieldKind, Shape};
@@ -47,6 +47,7 @@ pub fn set_bases(
     ensures memo { tables.new.memo ≡ tables.old.memo }
     ensures looked { tables.new.mods.looked ≡ tables.old.mods.looked }
     ensures differed { NoneDiffers tables.old tables.new }
+    ensures marks { KeepsMarks tables.old tables.new }
     ensures here { OnOk result ((p : PlaceOf) → same_block p.block id ≡ true
         → base_in tables.new.mods p
         ≡ base_of structs.now shape words.now p.field (base_in tables.old.mods p)) }
@@ -85,6 +86,7 @@ fn clear_bases(
     ensures memo { tables.new.memo ≡ tables.old.memo }
     ensures looked { tables.new.mods.looked ≡ tables.old.mods.looked }
     ensures differed { NoneDiffers tables.old tables.new }
+    ensures marks { KeepsMarks tables.old tables.new }
     ensures here { OnOk result ((p : PlaceOf) → same_block p.block id ≡ true
         → base_in tables.new.mods p
         ≡ base_cleared structs.now (Some before) p.field (base_in tables.old.mods p)) }
@@ -123,6 +125,7 @@ fn clear_others(
     ensures memo { tables.new.memo ≡ tables.old.memo }
     ensures looked { tables.new.mods.looked ≡ tables.old.mods.looked }
     ensures differed { NoneDiffers tables.old tables.new }
+    ensures marks { KeepsMarks tables.old tables.new }
     ensures here { OnOk result ((p : PlaceOf) → same_block p.block id ≡ true
         → base_of structs.now shape [] p.field (base_in tables.new.mods p)
         ≡ base_of structs.now shape [] p.field
@@ -156,6 +159,7 @@ pub fn renew_bases(
     ensures memo { tables.new.memo ≡ tables.old.memo }
     ensures looked { tables.new.mods.looked ≡ tables.old.mods.looked }
     ensures differed { NoneDiffers tables.old tables.new }
+    ensures marks { KeepsMarks tables.old tables.new }
     ensures here { OnOk result ((p : PlaceOf) → same_block p.block id ≡ true
         → base_in tables.new.mods p ≡ base_of structs.now shape [] p.field
         (base_cleared structs.now before p.field (base_in tables.old.mods p))) }
@@ -189,6 +193,7 @@ pub fn set_inputs(
         → base_in tables.new.mods p ≡ base_in tables.old.mods p }
     ensures looked { tables.new.mods.looked ≡ tables.old.mods.looked }
     ensures differed { NoneDiffers tables.old tables.new }
+    ensures marks { KeepsMarks tables.old tables.new }
     ensures kept { Kept tables.new }
 {
     let count = inputs.items().len() as u32;

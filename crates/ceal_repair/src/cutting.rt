@@ -8,7 +8,7 @@ ghost use Rattle.ceal_order.specs.Stamps.{is_in, successor};
 ghost use Rattle.ceal_repair.specs.Blocks.{HasBlocks, KeepsReadable};
 ghost use Rattle.ceal_repair.specs.Entries.{CutTo, IsNoneOr, IsUntil, Lies, Revokes, starts, first_in, first_stamp};
 ghost use Rattle.ceal_repair.specs.Kept.{Kept, base_in};
-ghost use Rattle.ceal_repair.specs.Looks.{due, NoneDiffers};
+ghost use Rattle.ceal_repair.specs.Looks.{due, NoneDiffers, KeepsMarks};
 ghost use Rattle.ceal_theory.specs.Groves.{Grove, Bare, cut};
 ghost use Rattle.ceal_trace.specs.Nodes.{Entry, stamps_in, has_node, node_at, is_plain};
 ghost use Rattle.ceal_trace.specs.declared.node.Node.{Node as NodeOf};
@@ -63,6 +63,7 @@ impl Running {
         ensures spent { self.new.spent ≡ self.old.spent }
         ensures looks { OnOk result (due self.new.tables ≤ due self.old.tables) }
         ensures differed { OnOk result (NoneDiffers self.old.tables self.new.tables) }
+        ensures marks { OnOk result (KeepsMarks self.old.tables self.new.tables) }
         ensures kept { OnOk result (Kept self.new.tables) }
     {
         match cut_of(&self.tables.trace, node) {
@@ -109,6 +110,7 @@ impl Running {
         ensures spent { self.new.spent ≡ self.old.spent }
         ensures looks { OnOk result (due self.new.tables ≤ due self.old.tables) }
         ensures differed { OnOk result (NoneDiffers self.old.tables self.new.tables) }
+        ensures marks { OnOk result (KeepsMarks self.old.tables self.new.tables) }
         ensures kept { OnOk result (Kept self.new.tables) }
     {
         for _revoked in 0..u64::MAX {

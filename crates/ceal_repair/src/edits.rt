@@ -9,7 +9,7 @@ ghost use Rattle.ceal_code.specs.Replay.{stored};
 ghost use Rattle.ceal_code.specs.Value.{field_kind as kind_of};
 ghost use Rattle.ceal_mods.specs.Mods.{HasCell, cell_of};
 ghost use Rattle.ceal_repair.specs.Kept.{Kept, base_in};
-ghost use Rattle.ceal_repair.specs.Looks.{LooksAtNothing, NoneDiffers};
+ghost use Rattle.ceal_repair.specs.Looks.{LooksAtNothing, NoneDiffers, KeepsMarks};
 ghost use Rattle.ceal_repair.specs.Words.{base_of, IsTouched, NO_FIELD};
 
 use crate::bases::word_or_default;
@@ -28,6 +28,7 @@ fn touch(tables: &mut Tables, place: Place) -> Result<(), NoMemory>
     ensures trace { tables.new.trace ≡ tables.old.trace }
     ensures cells { (p : PlaceOf) → cell_of tables.new.mods p ≡ cell_of tables.old.mods p }
     ensures looks { LooksAtNothing tables.old tables.new }
+    ensures marks { KeepsMarks tables.old tables.new }
     ensures touched { OnOk result (HasCell tables.new.mods place) }
     ensures others { (p : PlaceOf) → HasCell tables.old.mods p → HasCell tables.new.mods p }
     ensures kept { Kept tables.new }
@@ -49,6 +50,7 @@ pub fn touch_input(
     ensures trace { tables.new.trace ≡ tables.old.trace }
     ensures cells { (p : PlaceOf) → cell_of tables.new.mods p ≡ cell_of tables.old.mods p }
     ensures looks { LooksAtNothing tables.old tables.new }
+    ensures marks { KeepsMarks tables.old tables.new }
     ensures touched { OnOk result (IsTouched structs.now input shape tables.new.mods) }
     ensures few { OnOk result (kind_of structs.now shape NO_FIELD ≡ None) }
     ensures kept { Kept tables.new }
@@ -77,6 +79,7 @@ fn set_unread(tables: &mut Tables, place: Place, value: Word)
     ensures queue { tables.new.stale ≡ tables.old.stale }
     ensures looked { tables.new.mods.looked ≡ tables.old.mods.looked }
     ensures differed { NoneDiffers tables.old tables.new }
+    ensures marks { KeepsMarks tables.old tables.new }
     ensures base { (p : PlaceOf)
         → base_in tables.new.mods p ≡ stored (base_in tables.old.mods) place value p }
     ensures others { (p : PlaceOf) → HasCell tables.old.mods p → HasCell tables.new.mods p }
@@ -108,6 +111,7 @@ pub fn set_input(
     ensures others { (p : PlaceOf) → same_block p.block (Input input) ≡ false
         → base_in tables.new.mods p ≡ base_in tables.old.mods p }
     ensures looks { LooksAtNothing tables.old tables.new }
+    ensures marks { KeepsMarks tables.old tables.new }
     ensures kept { Kept tables.new }
 {
     for field in 0..u32::MAX {

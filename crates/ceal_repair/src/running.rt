@@ -13,7 +13,7 @@ ghost use Rattle.ceal_repair.specs.Blocks.{GivesOne};
 ghost use Rattle.ceal_repair.specs.Words.{words_of, HasBases};
 ghost use Rattle.ceal_repair.specs.Kept.{Kept, base_in};
 ghost use Rattle.ceal_repair.specs.Propagation.{Concludes};
-ghost use Rattle.ceal_repair.specs.Looks.{LooksNever, NoneDiffers};
+ghost use Rattle.ceal_repair.specs.Looks.{LooksNever, NoneDiffers, KeepsMarks};
 ghost use Rattle.ceal_trace.specs.Nodes.{new_entry};
 ghost use Rattle.ceal_trace.specs.declared.node.Node.TheVariants.{Root};
 
@@ -90,6 +90,7 @@ impl Running {
             (λ r. HasBases code.now.structs inputs.now r.heap r.tables.mods) }
         ensures spent { IfOk result (λ r. r.spent ≡ 0) }
         ensures looks { IfOk result (λ r. LooksNever r.tables) }
+        ensures unmarked { IfOk result (λ r. r.tables.mods.marked ≡ None) }
         ensures kept { IfOk result (λ r. Kept r.tables) }
     {
         let mut tables = Tables::new(alloc, seed)?;
@@ -137,6 +138,7 @@ impl Running {
         ensures spent { self.new.spent ≡ self.old.spent }
         ensures looked { self.new.tables.mods.looked ≡ self.old.tables.mods.looked }
         ensures differed { NoneDiffers self.old.tables self.new.tables }
+        ensures marks { KeepsMarks self.old.tables self.new.tables }
         ensures only { IfOk result (λ block. (s : ℕ)
             → is_in s self.new.tables.stale.stamps ≡ true
             → is_in s self.old.tables.stale.stamps ≡ false

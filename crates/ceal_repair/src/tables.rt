@@ -11,7 +11,7 @@ ghost use Rattle.ceal_order.specs.Stamps.{is_in};
 ghost use Rattle.ceal_repair.specs.Covered.{contents_after};
 ghost use Rattle.ceal_repair.specs.Kept.{Kept, QueuedAfter, base_in};
 ghost use Rattle.ceal_repair.specs.Lists.{up_to, between};
-ghost use Rattle.ceal_repair.specs.Looks.{looks_owed, LooksNever, NoneDiffers};
+ghost use Rattle.ceal_repair.specs.Looks.{looks_owed, LooksNever, NoneDiffers, KeepsMarks};
 ghost use Rattle.ceal_trace.specs.Nodes.{has_node, node_at, position, is_read, end_in, with_entry_after, with_steps};
 ghost use Rattle.ceal_trace.specs.Nodes.{new_entry, Inserted};
 ghost use Rattle.ceal_trace.specs.declared.node.Node.TheVariants.{Root, Alloc, Write, Read, End};
@@ -34,6 +34,7 @@ use std::alloc::Global;
 
 mod cut;
 mod find;
+mod mark;
 mod queue;
 
 /// The nodes of a trace, the lists of its modifiables, the queue of its stale reads, and the memo of its reads and
@@ -60,6 +61,7 @@ impl Tables {
         ensures bases { IfOk result (λ t. IsUntouched t.mods) }
         ensures queue { IfOk result (λ t. t.stale.stamps ≡ []) }
         ensures looks { IfOk result LooksNever }
+        ensures unmarked { IfOk result (λ t. t.mods.marked ≡ None) }
         ensures kept { IfOk result Kept }
     {
         Ok(Tables {
@@ -87,6 +89,7 @@ impl Tables {
         ensures queued { length self.new.stale.stamps ≤ length self.old.stale.stamps + 1 }
         ensures looked { self.new.mods.looked ≡ self.old.mods.looked }
         ensures differed { NoneDiffers self.old self.new }
+        ensures marks { KeepsMarks self.old self.new }
         ensures kept { Kept self.new }
     {
         let root = self.trace.root();
@@ -144,6 +147,7 @@ impl Tables {
             (Write place value) self.old.trace.nodes self.new.trace.nodes) }
         ensures looks { OnOk result (looks_owed self.new ≤ looks_owed self.old + 2) }
         ensures differed { OnOk result (NoneDiffers self.old self.new) }
+        ensures marks { OnOk result (KeepsMarks self.old self.new) }
         ensures bases { OnOk result
             ((p : PlaceOf) → base_in self.new.mods p ≡ base_in self.old.mods p) }
         ensures behind { IfOk result
@@ -170,6 +174,7 @@ impl Tables {
             ≡ contents_after (base_in self.old.mods) (up_to after.0 self.old.trace.nodes) place }
         ensures looks { looks_owed self.new ≤ looks_owed self.old + 1 }
         ensures differed { NoneDiffers self.old self.new }
+        ensures marks { KeepsMarks self.old self.new }
         ensures trace { self.new.trace ≡ self.old.trace }
         ensures cells { self.new.mods.cells ≡ self.old.mods.cells }
         ensures queue { self.new.stale ≡ self.old.stale }
@@ -209,6 +214,7 @@ impl Tables {
         ensures open { IfOk result (λ b. end_in b.read.0 self.new.trace.nodes ≡ None) }
         ensures looks { OnOk result (looks_owed self.new ≤ looks_owed self.old + 1) }
         ensures differed { OnOk result (NoneDiffers self.old self.new) }
+        ensures marks { OnOk result (KeepsMarks self.old self.new) }
         ensures bases { OnOk result
             ((p : PlaceOf) → base_in self.new.mods p ≡ base_in self.old.mods p) }
         ensures queue { OnOk result (self.new.stale ≡ self.old.stale) }

@@ -144,7 +144,7 @@ pub record Turning (old now : Repair) (turns : ℕ) : Type 0 where
 
 pub no-turns : (r : Repair) → r.frames.now.items ≡ [] → Turning r r 0
 no-turns r idle = record {
-  call = record { code = refl; inputs = refl; place = refl };
+  call = record { code = refl; inputs = refl; place = refl; marks = refl };
   idle = idle;
   come = λ f args o before h. h;
   sure = λ f args o before h k. refl;
@@ -262,7 +262,7 @@ module _ (old now : Repair) (turns : ℕ) (t : Turning old now turns) (looked : 
         → TurnMade (code_of now) (inputs_of now) f args (later turns o) now.running.now new.running.now)
         → Turning old new (turns + 1)
     turn-more new same idle made = record {
-      call = record { code = same.code ∙ t.call.code; inputs = same.inputs ∙ t.call.inputs; place = same.place ∙ t.call.place };
+      call = record { code = same.code ∙ t.call.code; inputs = same.inputs ∙ t.call.inputs; place = same.place ∙ t.call.place; marks = same.marks ∙ t.call.marks };
       idle = idle;
       come = λ f args o before h. further f args o before h new (made f args o before h);
       sure = λ f args o before h honest. absurd (found-never f args o before h honest);
@@ -284,6 +284,13 @@ spent-so More fuel last run h = absurd h
 spent-so Ends fuel last run h = h.spent
 spent-so Spent fuel last run h = absurd h
 spent-so OutOfFuel fuel last run h = ap (λ r. r.spent) h.0
+
+-- its tables are those of the run before
+pub tables-so : (p : Progress) (fuel : ℕ) (last run : Running) → Concludes p fuel last run → run.tables ≡ last.tables
+tables-so More fuel last run h = absurd h
+tables-so Ends fuel last run h = h.tables
+tables-so Spent fuel last run h = absurd h
+tables-so OutOfFuel fuel last run h = ap (λ r. r.tables) h.0
 
 -- ---- one turn in code
 

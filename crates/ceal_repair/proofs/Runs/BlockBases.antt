@@ -52,6 +52,7 @@ module _ (structs : List StructInfo) (id : BlockId) (shape : Shape) (value : ℕ
     pub memo : t.memo ≡ old.memo
     pub looked : t.mods.looked ≡ old.mods.looked
     pub differed : t.mods.differed ≡ old.mods.differed
+    pub marks : t.mods.marked ≡ old.mods.marked
     pub here : (p : Place) → same_block p.block id ≡ true → p.field < n → base_in t.mods p ≡ (if is_cell (field_kind structs shape p.field) then value p.field else base_in old.mods p)
     pub later : (p : Place) → same_block p.block id ≡ true → n ≤ p.field → base_in t.mods p ≡ base_in old.mods p
     pub others : (p : Place) → same_block p.block id ≡ false → base_in t.mods p ≡ base_in old.mods p
@@ -65,6 +66,7 @@ module _ (structs : List StructInfo) (id : BlockId) (shape : Shape) (value : ℕ
     memo = s.memo;
     looked = s.looked;
     differed = s.differed;
+    marks = s.marks;
     here = here-too;
     later = λ p e l. s.later p e (omega (arith, l));
     others = s.others;
@@ -84,16 +86,17 @@ module _ (structs : List StructInfo) (id : BlockId) (shape : Shape) (value : ℕ
   -- a field that is one
   pub setting-more : (old t t' : Tables) (n : ℕ) (word : Word) → Kept old → Setting old t n → (kind : FieldKind) → Some kind ≡ field_kind structs shape n → is_cell (Some kind) ≡ true
       → word ≡ value n
-      → t'.trace ≡ t.trace → t'.memo ≡ t.memo → t'.mods.looked ≡ t.mods.looked → t'.mods.differed ≡ t.mods.differed
+      → t'.trace ≡ t.trace → t'.memo ≡ t.memo → t'.mods.looked ≡ t.mods.looked → t'.mods.differed ≡ t.mods.differed → t'.mods.marked ≡ t.mods.marked
       → ((p : Place) → base_in t'.mods p ≡ stored (base_in t.mods) (record { block = id; field = n }) word p)
       → ((s : ℕ) → is_in s t'.stale.stamps ≡ true → is_in s t.stale.stamps ≡ false → is_in s (cell_of t.mods (record { block = id; field = n })).reads ≡ true)
       → Kept t' → Setting old t' (n + 1)
   unfolding stored
-  setting-more old t t' n word ko s kind is_kind is_cell_kind is trace memo looked differed base only kept = record {
+  setting-more old t t' n word ko s kind is_kind is_cell_kind is trace memo looked differed marks base only kept = record {
     trace = trace ∙ s.trace;
     memo = memo ∙ s.memo;
     looked = looked ∙ s.looked;
     differed = differed ∙ s.differed;
+    marks = marks ∙ s.marks;
     here = here-too;
     later = λ p e l. elim (eqb_tells p.field n) [
       | inl q ↦ absurd (omega (arith, l, q.1))
@@ -130,6 +133,7 @@ pub record SetInputs (structs : List StructInfo) (inputs : List Block) (old t : 
   pub others : (p : Place) → ((i : ℕ) → i < n → same_block p.block (Input i) ≡ false) → base_in t.mods p ≡ base_in old.mods p
   pub looked : t.mods.looked ≡ old.mods.looked
   pub differed : t.mods.differed ≡ old.mods.differed
+  pub marks : t.mods.marked ≡ old.mods.marked
   pub kept : Kept t
 
 module _ (structs : List StructInfo) (inputs : List Block) (old : Tables) where
@@ -137,10 +141,11 @@ module _ (structs : List StructInfo) (inputs : List Block) (old : Tables) where
       → t'.trace ≡ t.trace
       → ((p : Place) → same_block p.block (Input n) ≡ true → base_in t'.mods p ≡ base_of structs block.shape block.words p.field (base_in t.mods p))
       → ((p : Place) → same_block p.block (Input n) ≡ false → base_in t'.mods p ≡ base_in t.mods p)
-      → t'.mods.looked ≡ t.mods.looked → t'.mods.differed ≡ t.mods.differed → Kept t' → SetInputs structs inputs old t' (n + 1)
-  inputs-more fresh t t' n block s is trace here others looked differed kept = record {
+      → t'.mods.looked ≡ t.mods.looked → t'.mods.differed ≡ t.mods.differed → t'.mods.marked ≡ t.mods.marked → Kept t' → SetInputs structs inputs old t' (n + 1)
+  inputs-more fresh t t' n block s is trace here others looked differed marks kept = record {
     looked = looked ∙ s.looked;
     differed = differed ∙ s.differed;
+    marks = marks ∙ s.marks;
     trace = trace ∙ s.trace;
     here = here-too;
     others = λ p away. others p (away n (omega arith)) ∙ s.others p (λ i l. away i (omega (arith, l)));

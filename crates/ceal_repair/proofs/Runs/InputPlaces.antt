@@ -50,9 +50,9 @@ touched-either (Err x) old mods p v bare ok err q = ap (λ (m : Contents). cell_
 
 -- nothing was looked up
 pub touched-looks : {A E : Type 0} (r : Result A E) (old mods : Contents) (p : Place) (c : Cell) → OnOk r (Changes old mods p c) → OnErr r (mods ≡ old)
-    → (mods.looked ≡ old.looked) × (mods.differed ≡ old.differed)
-touched-looks (Ok x) old mods p c ok err = (ok.looked, ok.differed)
-touched-looks (Err x) old mods p c ok err = (ap (λ (m : Contents). m.looked) err, ap (λ (m : Contents). m.differed) err)
+    → (mods.looked ≡ old.looked) × (mods.differed ≡ old.differed) × (mods.marked ≡ old.marked)
+touched-looks (Ok x) old mods p c ok err = (ok.looked, ok.differed, ok.marked)
+touched-looks (Err x) old mods p c ok err = (ap (λ (m : Contents). m.looked) err, ap (λ (m : Contents). m.differed) err, ap (λ (m : Contents). m.marked) err)
 
 -- what two calls after one another look at
 pub looks-then : (a b c : Tables) → LooksAtNothing a b → LooksAtNothing b c → LooksAtNothing a c
@@ -91,10 +91,11 @@ module _ (structs : List StructInfo) (input : ℕ) (shape : Shape) where
     pub cells : (p : Place) → cell_of t.mods p ≡ cell_of old.mods p
     pub touched : (field : ℕ) → field < n → is_cell (field_kind structs shape field) ≡ true → HasCell t.mods (record { block = Input input; field = field })
     pub looks : LooksAtNothing old t
+    pub marks : t.mods.marked ≡ old.mods.marked
     pub kept : Kept t
 
   pub touching-plain : (old t : Tables) (n : ℕ) → Touching old t n → (kind : FieldKind) → Some kind ≡ field_kind structs shape n → is_cell (Some kind) ≡ false → Touching old t (n + 1)
-  touching-plain old t n s kind is not_cell = record { trace = s.trace; cells = s.cells; touched = touched; looks = s.looks; kept = s.kept }
+  touching-plain old t n s kind is not_cell = record { trace = s.trace; cells = s.cells; touched = touched; looks = s.looks; marks = s.marks; kept = s.kept }
     where
       plain : is_cell (field_kind structs shape n) ≡ false
       plain = rw (← is) not_cell
@@ -107,9 +108,10 @@ module _ (structs : List StructInfo) (input : ℕ) (shape : Shape) where
 
   pub touching-more : (old t t' : Tables) (n : ℕ) → Touching old t n → t'.trace ≡ t.trace → ((p : Place) → cell_of t'.mods p ≡ cell_of t.mods p)
       → HasCell t'.mods (record { block = Input input; field = n })
-      → ((p : Place) → HasCell t.mods p → HasCell t'.mods p) → LooksAtNothing t t' → Kept t' → Touching old t' (n + 1)
-  touching-more old t t' n s trace cells here others looks kept = record {
+      → ((p : Place) → HasCell t.mods p → HasCell t'.mods p) → LooksAtNothing t t' → t'.mods.marked ≡ t.mods.marked → Kept t' → Touching old t' (n + 1)
+  touching-more old t t' n s trace cells here others looks marks kept = record {
     looks = looks-then old t t' s.looks looks;
+    marks = marks ∙ s.marks;
     trace = trace ∙ s.trace;
     cells = λ p. cells p ∙ s.cells p;
     touched = λ field l c. elim (eqb_tells field n) [
@@ -170,12 +172,12 @@ module _ (structs : List StructInfo) (input : ℕ) (shape : Shape) (words : List
   pub placing-more : (old t t' : Tables) (n : ℕ) (value : Word) → Kept old → Placing structs input shape words old t n → (kind : FieldKind) → Some kind ≡ field_kind structs shape n
       → is_cell (Some kind) ≡ true
       → value ≡ unwrap_or (slice_get words n) (default_of_field kind)
-      → t'.trace ≡ t.trace → t'.memo ≡ t.memo → t'.mods.looked ≡ t.mods.looked → t'.mods.differed ≡ t.mods.differed → t'.stale ≡ t.stale
+      → t'.trace ≡ t.trace → t'.memo ≡ t.memo → t'.mods.looked ≡ t.mods.looked → t'.mods.differed ≡ t.mods.differed → t'.mods.marked ≡ t.mods.marked → t'.stale ≡ t.stale
       → ((p : Place) → base_in t'.mods p ≡ stored (base_in t.mods) (record { block = Input input; field = n }) value p)
       → ((p : Place) → HasCell t.mods p → HasCell t'.mods p) → Kept t' → Placing structs input shape words old t' (n + 1)
-  placing-more old t t' n value ko s kind is cell is_value trace memo looked differed queue base others kept = record {
+  placing-more old t t' n value ko s kind is cell is_value trace memo looked differed marks queue base others kept = record {
     setting = setting-more structs (Input input) shape (field-word structs shape words) old t t' n value ko s.setting kind is cell
-        (set-word structs shape words n kind value is is_value) trace memo looked differed base
+        (set-word structs shape words n kind value is is_value) trace memo looked differed marks base
         (λ r a b. absurd (let no : true ≡ false = sym a ∙ (ap (λ (q : Waiting). is_in r q.stamps) queue ∙ b) in cc)) kept;
     touched = λ field c. others (record { block = Input input; field = field }) (s.touched field c);
     unread = λ field. reads-same t t' s.setting.kept kept trace (record { block = Input input; field = field }) ∙ s.unread field;

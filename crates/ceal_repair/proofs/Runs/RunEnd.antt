@@ -120,8 +120,8 @@ module _ (code : Code) (inputs : List Block) (f : ℕ) (args : List Word) (fits 
 
     module _ (run : Running) (same : run.tables ≡ v.tables) (spent : run.spent ≡ v.spent) (rel : ReleasesRevoked v.heap run.heap) (slots : HasSlots run.heap) where
       -- what is left is the first trace of the call
-      pub first-run : (fuel : ℕ) → v.spent ≤ fuel → PaysFirst run → IsFirstRun code inputs f args fuel run
-      first-run fuel few paid = record {
+      pub first-run : (fuel : ℕ) → v.spent ≤ fuel → PaysFirst run → run.tables.mods.marked ≡ None → IsFirstRun code inputs f args fuel run
+      first-run fuel few paid unmarked = record {
         trace = ended.items;
         is_run = record {
           stands = record {
@@ -140,6 +140,7 @@ module _ (code : Code) (inputs : List Block) (f : ℕ) (args : List Word) (fits 
           idle = rw same idle;
         };
         pays = paid;
+        unmarked = unmarked;
         first = ended.a;
         is = ended.is fuel few;
         names = then_from now.course.made ended.bound;
@@ -152,10 +153,10 @@ module _ (code : Code) (inputs : List Block) (f : ℕ) (args : List Word) (fits 
     (same_inputs : inputs_of r ≡ inputs) (fuel : ℕ) where
   pub first-done : IsOver (first_start code inputs f args) r → (view r).spent ≤ fuel → (run : Running) → run.tables ≡ r.running.now.tables → run.spent ≡ r.running.now.spent
       → ReleasesRevoked r.running.now.heap run.heap
-      → HasSlots run.heap → PaysFirst run → IsFirstRun code inputs f args fuel run
-  first-done over few run tables spent rel slots paid =
+      → HasSlots run.heap → PaysFirst run → run.tables.mods.marked ≡ None → IsFirstRun code inputs f args fuel run
+  first-done over few run tables spent rel slots paid unmarked =
       first-run code inputs f args fits laws over.stack (view r) (rw (same_code, same_inputs) at over.now) (rw (same_code, same_inputs) at over.over)
-      (ap (λ fs. frames_in (aside_in r.stack.now) (reverse fs)) over.last) run tables spent rel slots fuel few paid
+      (ap (λ fs. frames_in (aside_in r.stack.now) (reverse fs)) over.last) run tables spent rel slots fuel few paid unmarked
 
   pub first-out : Runs (first_start code inputs f args) r → fuel < (view r).spent → fresh code f args inputs fuel ≡ None
   first-out runs more = first-over code inputs f args fits laws (stack_in r.stack.now) (view r) (rw (same_code, same_inputs) at runs) fuel more

@@ -27,7 +27,7 @@ use Rattle.ceal_repair.proofs.Lists.ListsOfNodes.{other-place}
 use Rattle.ceal_repair.specs.Covered.{queue_of, and_one}
 use Rattle.ceal_repair.specs.Kept.{InStep, Kept, ChainedBy, IsAwake, IsStale, IsHonestRecord, QueuedAfter, Records, base_in, contents_at}
 use Rattle.ceal_repair.specs.Lists.{IsTabled}
-use Rattle.ceal_repair.specs.Looks.{looks_owed, NoneDiffers}
+use Rattle.ceal_repair.specs.Looks.{looks_owed, NoneDiffers, KeepsMarks}
 use Rattle.ceal_repair.specs.declared.tables.Tables.{Tables}
 use Rattle.ceal_trace.specs.Nodes.{Entry, Timeline, stamps_in, node_at, position, is_read, with_value}
 use Rattle.ceal_trace.specs.declared.node.Node.TheVariants.{Root}
@@ -102,9 +102,10 @@ pub record Looking (old t : Tables) (n : ℕ) : Type 0 where
   pub late : (s : ℕ) → is_in s t.stale.stamps ≡ true → n ≤ position s t.trace.nodes
   pub looks : looks_owed t ≤ looks_owed old
   pub differed : NoneDiffers old t
+  pub marks : KeepsMarks old t
 
 pub looking-first : (old : Tables) → Kept old → Looking old old 0
-looking-first old k = record { kept = k; trace = refl; cells = refl; memo = refl; late = λ s i. omega arith; looks = omega arith; differed = refl }
+looking-first old k = record { kept = k; trace = refl; cells = refl; memo = refl; late = λ s i. omega arith; looks = omega arith; differed = refl; marks = refl }
 
 -- no place is that far on
 pub none-late : (old t : Tables) (n : ℕ) → Looking old t n → 2 ^ 32 ≤ n → (s : ℕ) → is_in s t.stale.stamps ≡ true → ⊥
@@ -144,8 +145,8 @@ module _ (t : Tables) (k : Kept t) (s : ℕ) (stale : Waiting) (first : IsEarlie
 
 -- one that was not stale
 pub looked-more : (old t t' : Tables) (n s : ℕ) → Looking old t n → is_in s t.stale.stamps ≡ true → Kept t' → t'.trace ≡ t.trace → t'.mods.cells ≡ t.mods.cells → t'.memo ≡ t.memo → QueuedAfter s t'
-    → looks_owed t' ≤ looks_owed t → NoneDiffers t t' → Looking old t' (n + 1)
-looked-more old t t' n s l i kept trace cells memo behind looks differed = record {
+    → looks_owed t' ≤ looks_owed t → NoneDiffers t t' → KeepsMarks t t' → Looking old t' (n + 1)
+looked-more old t t' n s l i kept trace cells memo behind looks differed marks = record {
   kept = kept;
   trace = trace ∙ l.trace;
   cells = cells ∙ l.cells;
@@ -153,6 +154,7 @@ looked-more old t t' n s l i kept trace cells memo behind looks differed = recor
   late = λ z j. let a = behind z j in let b = l.late s i in omega (arith, a, b, ap (λ (w : Timeline). position s w.nodes) trace);
   looks = omega (arith, looks, l.looks);
   differed = differed ∙ l.differed;
+  marks = marks ∙ l.marks;
 }
 
 -- what is said of a read depends on the nodes and the cells

@@ -6,7 +6,7 @@ ghost use Rattle.ceal_base.specs.declared.word.BlockId.{BlockId as Block};
 ghost use Rattle.ceal_base.specs.declared.word.Place.{Place as PlaceOf};
 ghost use Rattle.ceal_base.specs.declared.word.Word.{Word as WordOf};
 ghost use Rattle.ceal_repair.specs.Kept.{Kept, QueuedAfter, QueuedFrom, base_in};
-ghost use Rattle.ceal_repair.specs.Looks.{looks_owed, NoneDiffers};
+ghost use Rattle.ceal_repair.specs.Looks.{looks_owed, NoneDiffers, KeepsMarks};
 ghost use Rattle.ceal_trace.specs.Nodes.{node_at, position, is_read, end_in, without_entry};
 ghost use Rattle.ceal_trace.specs.declared.node.Node.TheVariants.{Alloc, Write};
 
@@ -47,6 +47,7 @@ impl Tables {
             → QueuedAfter s self.old → QueuedAfter s self.new) }
         ensures looks { OnOk result (looks_owed self.new ≤ looks_owed self.old + 3) }
         ensures differed { OnOk result (NoneDiffers self.old self.new) }
+        ensures marks { OnOk result (KeepsMarks self.old self.new) }
         ensures kept { OnOk result (Kept self.new) }
     {
         self.stale.reserve(1)?;
@@ -72,6 +73,7 @@ impl Tables {
             → QueuedAfter s self.new }
         ensures looks { looks_owed self.new ≤ looks_owed self.old }
         ensures differed { NoneDiffers self.old self.new }
+        ensures marks { KeepsMarks self.old self.new }
         ensures kept { Kept self.new }
     {
         let end = match self.trace.end_of(read) {

@@ -11,7 +11,7 @@ ghost use Rattle.ceal_queue.specs.Queue.{IsBefore, IsWithout, Follows as Queue_f
 ghost use Rattle.ceal_repair.specs.Covered.{and_one};
 ghost use Rattle.ceal_repair.specs.Kept.{InStep, Kept, ChainedBy, QueuedAfter, QueuedFrom, Records, IsStale};
 ghost use Rattle.ceal_repair.specs.Kept.{IsHonestRecord, IsAwake, contents_at};
-ghost use Rattle.ceal_repair.specs.Looks.{looks_owed, NoneDiffers, OneDiffers};
+ghost use Rattle.ceal_repair.specs.Looks.{looks_owed, NoneDiffers, OneDiffers, KeepsMarks};
 ghost use Rattle.ceal_repair.specs.Woken.{KeepsQueued, QueuesReadsOf, QueuesAfter};
 ghost use Rattle.ceal_trace.specs.Nodes.{stamps_in, has_node, node_at, is_read, with_value};
 ghost use Rattle.ceal_trace.specs.declared.node.Node.TheVariants.{Write};
@@ -42,6 +42,7 @@ impl Tables {
         ensures idle { result ≡ false → looks_owed self.new ≤ looks_owed self.old }
         ensures differs { IsTrue result → OneDiffers self.old self.new }
         ensures none_differs { result ≡ false → NoneDiffers self.old self.new }
+        ensures marks { KeepsMarks self.old self.new }
         ensures kept { Kept self.new }
     {
         if self.unqueue(read) {
@@ -70,6 +71,7 @@ impl Tables {
         ensures idle { IfNone result (looks_owed self.new ≤ looks_owed self.old) }
         ensures differs { IfSome result (λ s. OneDiffers self.old self.new) }
         ensures none_differs { IfNone result (NoneDiffers self.old self.new) }
+        ensures marks { KeepsMarks self.old self.new }
         ensures cells { self.new.mods.cells ≡ self.old.mods.cells }
         ensures memo { self.new.memo ≡ self.old.memo }
         ensures kept { Kept self.new }
@@ -93,6 +95,7 @@ impl Tables {
         ensures looks { looks_owed self.new ≤ looks_owed self.old + 1 }
         ensures idle { result ≡ false → looks_owed self.new ≤ looks_owed self.old }
         ensures differed { NoneDiffers self.old self.new }
+        ensures marks { KeepsMarks self.old self.new }
         ensures trace { self.new.trace ≡ self.old.trace }
         ensures cells { self.new.mods.cells ≡ self.old.mods.cells }
         ensures memo { self.new.memo ≡ self.old.memo }
@@ -124,6 +127,7 @@ impl Tables {
         ensures queue { self.new.stale ≡ self.old.stale }
         ensures looks { looks_owed self.new ≤ looks_owed self.old + 1 }
         ensures differed { NoneDiffers self.old self.new }
+        ensures marks { KeepsMarks self.old self.new }
         ensures kept { Kept self.new }
     {
         let (place, value) = recorded(&self.trace, read);
@@ -183,6 +187,7 @@ impl Tables {
         ensures queue { self.new.stale ≡ self.old.stale }
         ensures looks { looks_owed self.new ≤ looks_owed self.old + 1 }
         ensures differed { NoneDiffers self.old self.new }
+        ensures marks { KeepsMarks self.old self.new }
         ensures memo { self.new.memo ≡ self.old.memo }
         ensures kept { Kept self.new }
     {
@@ -283,6 +288,7 @@ impl Tables {
         ensures idle { result ≡ false → looks_owed self.new ≤ looks_owed self.old + 1 }
         ensures differs { IsTrue result → OneDiffers self.old self.new }
         ensures none_differs { result ≡ false → NoneDiffers self.old self.new }
+        ensures marks { KeepsMarks self.old self.new }
         ensures kept { Kept self.new }
     {
         let (place, value) = recorded(&self.trace, popped);

@@ -7,6 +7,7 @@ use Rattle.ceal_repair.specs.Propagation.{Propagated}
 use Rattle.ceal_repair.specs.Turning.{since_begun}
 use Rattle.ceal_repair.specs.declared.advance.Progress.TheVariants.{Spent}
 use Rattle.ceal_repair.specs.declared.running.Running.{Running}
+use Rattle.ceal_repair.specs.declared.tables.Tables.{Tables}
 use Rattle.ceal_repair.proofs.advance.advance.Goals as goal
 
 pub turns-requires-clause-comes : goal.turns-requires-clause-comes
@@ -78,3 +79,10 @@ returns-in_err-progress-clause-sure c = λ f args r part honest.
     let come = begun-in c.args.code.now c.args.inputs.now f args c.args.fuel r c.args.running.now part c.at_root-repair.result e.code e.inputs e.view e.heap e.spent in
     absurd (let no : false ≡ true =
     c.in_err-progress.ensures.sure f args (since c.args.code.now c.args.inputs.now f args c.args.fuel r c.args.running.now part) c.args.running.now come (rw (e.code, e.inputs) honest) in cc)
+
+pub returns-clause-marks : goal.returns-clause-marks
+returns-clause-marks c =
+    let e = c.at_root-repair.ensures in
+    let t = c.in_ok-progress.ensures in
+    let same : c.turns.new.self.running.now ≡ c.running-1.given.0 = search (rules, e.place, t.call.place) in
+    ap (λ (z : Running). z.tables.mods.marked) (sym same) ∙ (t.call.marks ∙ ap (λ (d : Tables). d.mods.marked) e.view)

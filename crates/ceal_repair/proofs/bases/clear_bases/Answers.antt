@@ -11,7 +11,7 @@ loop-field-preserved c = elim c.if-is_modifiable.branch [
       rw w.tables-is
       (setting-more c.args.structs.now c.args.id c.args.before (λ field. Num (pos 0)) c.args.tables.now c.loop-field.tables w.edit.new.self c.loop-field.field (Num (pos 0)) c.requires.kept
       c.loop-field.invariant c.in-Some.kind (sym c.in-Some.is ∙ c.field_kind.ensures.value) (sym c.is_modifiable.ensures.value ∙ w.if-is_modifiable.true) refl
-      e.trace e.memo e.looked e.differed e.base e.only e.kept)
+      e.trace e.memo e.looked e.differed e.marks e.base e.only e.kept)
   | else-is_modifiable w ↦
       rw w.tables-is
       (setting-plain c.args.structs.now c.args.id c.args.before (λ field. Num (pos 0)) c.args.tables.now c.loop-field.tables c.loop-field.field c.loop-field.invariant c.in-Some.kind

@@ -13,7 +13,7 @@ loop-field-preserved c = elim c.if-is_modifiable.branch [
       c.loop-field.invariant c.in-Some.kind (sym c.in-Some.is ∙ c.field_kind.ensures.value) (sym c.is_modifiable.ensures.value ∙ w.if-is_modifiable.true)
       (set-word c.args.structs.now c.args.shape c.args.words.now c.loop-field.field c.in-Some.kind w.word_or_default-value.result
       (sym c.in-Some.is ∙ c.field_kind.ensures.value) w.word_or_default-value.ensures)
-      e.trace e.memo e.looked e.differed e.base e.only e.kept)
+      e.trace e.memo e.looked e.differed e.marks e.base e.only e.kept)
   | else-is_modifiable w ↦
       rw w.tables-is
       (setting-plain c.args.structs.now c.args.id c.args.shape

@@ -13,4 +13,4 @@ loop-n-preserved c =
     let found : slice_get c.args.inputs.now c.loop-n.n ≡ Some block =
     rw (← c.items-in-loop-n.ensures.value) (slice_get-get_or c.items-in-loop-n.result.now c.loop-n.n block few ∙ ap Some (sym c.index-items-n.is)) in
     inputs-more c.args.structs.now c.args.inputs.now c.args.tables.now c.requires.untouched c.loop-n.tables c.set_bases.new.tables c.loop-n.n block c.loop-n.invariant found e.trace
-    (rw (shape, c.items-in-loop-n-2.ensures.value) at e.here) e.others e.looked e.differed e.kept
+    (rw (shape, c.items-in-loop-n-2.ensures.value) at e.here) e.others e.looked e.differed e.marks e.kept

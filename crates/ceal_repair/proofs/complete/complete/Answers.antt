@@ -10,7 +10,7 @@ returns-then-not-branch-clause-done c = λ start r.
 
 pub loop-act-init : goal.loop-act-init
 loop-act-init c = record {
-  call = record { code = refl; inputs = refl; place = refl };
+  call = record { code = refl; inputs = refl; place = refl; marks = refl };
   some = c.requires.runs;
   runs = λ start r. r;
   pays = stays c.args.repair.now.running.now c.args.repair.now.running.now (omega arith) refl refl;
@@ -22,7 +22,7 @@ loop-act-preserved c =
     let e = c.in_ok-act.ensures in
     let i = c.loop-act.invariant in
     record {
-      call = record { code = e.call.code ∙ i.call.code; inputs = e.call.inputs ∙ i.call.inputs; place = e.call.place ∙ i.call.place };
+      call = record { code = e.call.code ∙ i.call.code; inputs = e.call.inputs ∙ i.call.inputs; place = e.call.place ∙ i.call.place; marks = e.call.marks ∙ i.call.marks };
       some = (i.some.0, rw told at (e.runs i.some.0 i.some.1));
       runs = λ start r. rw told at (e.runs start (i.runs start r));
       pays = pays-then 0 c.args.repair.now.running.now c.loop-act.repair.running.now c.act.new.self.running.now i.pays e.pays;

@@ -16,3 +16,6 @@ returns-clause-looked c = c.in-Ok.ensures.ok.looked
 
 pub returns-clause-differed : goal.returns-clause-differed
 returns-clause-differed c = c.in-Ok.ensures.ok.differed
+
+pub returns-clause-marks : goal.returns-clause-marks
+returns-clause-marks c = c.in-Ok.ensures.ok.marked

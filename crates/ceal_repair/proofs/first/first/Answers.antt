@@ -5,6 +5,7 @@ use Rattle.ceal_repair.proofs.Runs.RunStart.{begun}
 use Rattle.ceal_repair.proofs.first.first.Goals as goal
 use Rattle.ceal_repair.specs.Moment.{first_start}
 use Rattle.ceal_repair.specs.declared.running.Running.{Running}
+use Rattle.ceal_repair.specs.declared.tables.Tables.{Tables}
 
 pub complete-requires : goal.complete-requires
 complete-requires c =
@@ -33,7 +34,8 @@ returns-in-Ok-true c =
           (ap (λ (run : Running). run.spent) back) (rw back at c.release_revoked.ensures.released) c.release_revoked.ensures.slots
           (first-pays c.in_ok-running.running e.nodes e.queue e.looks e.spent c.complete.new.repair.running.now
           (record { tables = c.running-3-1.given.0.tables; heap = c.release_revoked.new.self; spent = c.running-3-1.given.0.spent }) c.at_root-repair.result.running.now r.view r.spent
-          (ap (λ (run : Running). run.tables) back) (ap (λ (run : Running). run.spent) back) c.in-Ok-true.ensures.pays);
+          (ap (λ (run : Running). run.tables) back) (ap (λ (run : Running). run.spent) back) c.in-Ok-true.ensures.pays)
+          (ap (λ (run : Running). run.tables.mods.marked) back ∙ (same.marks ∙ (ap (λ (t : Tables). t.mods.marked) r.view ∙ e.unmarked)));
     }
 
 pub returns-in-Ok-false : goal.returns-in-Ok-false

@@ -1,9 +1,10 @@
 use Rattle.ceal_repair.specs.Turning.{later}
 use Rattle.std.proofs.Common.{◌≡◌, ◌≢◌, ◌≤◌, ◌+◌, ℕ, zero, suc, Option, Some, arith}
-use Rattle.ceal_repair.proofs.Propagation.TurnAgreement.{no-turns-in, not-last, one-more, is-under-way, is-done, is-up-to-date, found_by, found-never, turn-more, ends-so, spent-so}
-use Rattle.std.proofs.Common.{refl}
+use Rattle.ceal_repair.proofs.Propagation.TurnAgreement.{no-turns-in, not-last, one-more, is-under-way, is-done, is-up-to-date, found_by, found-never, turn-more, ends-so, spent-so, tables-so}
+use Rattle.std.proofs.Common.{refl, ap, ◌∙◌}
 use Rattle.ceal_repair.proofs.Runs.Paid.{pays-then, pays-less, turn-pays, one-left, due-value, due-one, due-same, spends, pays-concluded}
 use Rattle.ceal_repair.specs.declared.running.Running.{Running}
+use Rattle.ceal_repair.specs.declared.tables.Tables.{Tables}
 use Rattle.ceal_repair.proofs.repair.Repair.turns.Goals as goal
 
 pub loop-turn-init : goal.loop-turn-init
@@ -47,7 +48,7 @@ loop-turn-preserved c =
     let g = c.in_ok-turn_from-in-Some.ensures in
     record {
       turning = turn-more c.args.self.now c.loop-turn.self c.loop-turn.turn c.loop-turn.invariant.turning c.first_stale.new.self e.kept e.cells c.in-Some.read.0 e.stale e.nodes e.behind
-          c.turn_from.new.self (record { code = g.call.code; inputs = g.call.inputs; place = g.call.place })
+          c.turn_from.new.self (record { code = g.call.code; inputs = g.call.inputs; place = g.call.place; marks = g.call.marks ∙ e.marks })
           (g.idle c.if-not-branch.false)
           (λ f args o before h.
           rw c.if-not-branch.false at (g.turn f args (later c.loop-turn.turn o)
@@ -140,3 +141,28 @@ returns-then-not-branch-clause-pays c =
     (turn-pays c.loop-turn.turn c.args.self.now.running.now b c.turn_from.new.self.running.now c.loop-turn.invariant.pays
     (pays-then 1 b m c.turn_from.new.self.running.now
     (one-left b m (due-value b.tables c.first_stale.new.self _ _ 1 e.nodes.3 c.first_stale.ensures.looks) refl e.differs) c.in_ok-turn_from-in-Some.ensures.pays))
+
+pub returns-then-has_stale-clause-call : goal.returns-then-has_stale-clause-call
+returns-then-has_stale-clause-call c =
+    let t = c.loop-turn.invariant.turning.call in
+    record { code = t.code; inputs = t.inputs; place = t.place; marks = c.has_stale.ensures.marks ∙ t.marks }
+
+pub returns-then-is_last-clause-call : goal.returns-then-is_last-clause-call
+returns-then-is_last-clause-call c =
+    let t = c.loop-turn.invariant.turning.call in
+    let m : Running = record c.loop-turn.self.running.now { tables = c.has_stale.new.self } in
+    let last = ap (λ (d : Tables). d.mods.marked) (tables-so c.conclude.result c.args.fuel m c.conclude.new.self c.conclude.ensures) in
+    record { code = t.code; inputs = t.inputs; place = t.place; marks = last ∙ (c.has_stale.ensures.marks ∙ t.marks) }
+
+pub returns-in-None-clause-call : goal.returns-in-None-clause-call
+returns-in-None-clause-call c =
+    let t = c.loop-turn.invariant.turning.call in
+    let m : Running = record c.loop-turn.self.running.now { tables = c.first_stale.new.self } in
+    let last = ap (λ (d : Tables). d.mods.marked) (tables-so c.conclude-in-None.result c.args.fuel m c.conclude-in-None.new.self c.conclude-in-None.ensures) in
+    record { code = t.code; inputs = t.inputs; place = t.place; marks = last ∙ (c.first_stale.ensures.marks ∙ t.marks) }
+
+pub returns-then-not-branch-clause-call : goal.returns-then-not-branch-clause-call
+returns-then-not-branch-clause-call c =
+    let t = c.loop-turn.invariant.turning.call in
+    let g = c.in_ok-turn_from-in-Some.ensures.call in
+    record { code = g.code ∙ t.code; inputs = g.inputs ∙ t.inputs; place = g.place ∙ t.place; marks = g.marks ∙ (c.first_stale.ensures.marks ∙ t.marks) }

@@ -17,3 +17,6 @@ returns-in-Ok-clause-looks c = record {
   looked = c.set_inputs.ensures.looked ∙ c.in_ok-tables.ensures.looks.looked;
   differed = c.set_inputs.ensures.differed ∙ c.in_ok-tables.ensures.looks.differed;
 }
+
+pub returns-in-Ok-clause-unmarked : goal.returns-in-Ok-clause-unmarked
+returns-in-Ok-clause-unmarked c = c.set_inputs.ensures.marks ∙ c.in_ok-tables.ensures.unmarked

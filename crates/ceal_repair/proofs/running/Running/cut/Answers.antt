@@ -91,3 +91,6 @@ returns-in_ok-cut_write-in-Write-clause-blocks c = record { blocks = λ b. refl;
 
 pub returns-in-Read-clause-blocks : goal.returns-in-Read-clause-blocks
 returns-in-Read-clause-blocks c = record { blocks = λ b. refl; numbers = refl }
+
+pub returns-in-Alloc-clause-marks : goal.returns-in-Alloc-clause-marks
+returns-in-Alloc-clause-marks c = ap (λ m. m.marked) c.cut_alloc.ensures.mods

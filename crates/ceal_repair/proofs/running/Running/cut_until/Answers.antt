@@ -24,4 +24,4 @@ loop-revoked-preserved c =
     let e = c.in-Some.ensures in
     let f = c.in_ok-cut-in-Some.ensures in
     one-revoked c.args.cursor.0 c.args.until.0 c.args.self.now c.loop-revoked.self c.loop-revoked.invariant c.in-Some.node.0 c.cut.new.self e.next e.some f.lies f.bases f.blocks f.has f.spent f.looks
-    f.differed f.kept
+    f.differed f.marks f.kept

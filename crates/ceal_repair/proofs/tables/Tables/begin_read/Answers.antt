@@ -80,3 +80,8 @@ pub returns-clause-differed : goal.returns-clause-differed
 returns-clause-differed c =
     let change = rw c.order.ensures at c.in_ok-add_read.ensures.ok in
     change.differed ∙ c.value_behind-value.ensures.differed
+
+pub returns-clause-marks : goal.returns-clause-marks
+returns-clause-marks c =
+    let change = rw c.order.ensures at c.in_ok-add_read.ensures.ok in
+    change.marked ∙ c.value_behind-value.ensures.marks

@@ -57,3 +57,6 @@ returns-clause-looks c =
 
 pub returns-clause-differed : goal.returns-clause-differed
 returns-clause-differed c = c.remove_read.ensures.cell.differed ∙ ap (λ (m : Contents). m.differed) c.hand_on.ensures.mods
+
+pub returns-clause-marks : goal.returns-clause-marks
+returns-clause-marks c = c.remove_read.ensures.cell.marked ∙ ap (λ (m : Contents). m.marked) c.hand_on.ensures.mods

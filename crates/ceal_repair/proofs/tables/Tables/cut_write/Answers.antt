@@ -88,3 +88,6 @@ returns-clause-looks c =
 
 pub returns-clause-differed : goal.returns-clause-differed
 returns-clause-differed c = ap (λ (m : Contents). m.differed) c.wake_unless.ensures.mods ∙ (c.remove_write.ensures.cell.differed ∙ c.is_needless-needless.ensures.differed)
+
+pub returns-clause-marks : goal.returns-clause-marks
+returns-clause-marks c = ap (λ (m : Contents). m.marked) c.wake_unless.ensures.mods ∙ (c.remove_write.ensures.cell.marked ∙ c.is_needless-needless.ensures.marks)

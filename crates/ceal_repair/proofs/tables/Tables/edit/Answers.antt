@@ -58,3 +58,11 @@ pub returns-clause-looked : goal.returns-clause-looked
 returns-clause-looked c =
     let change = rw (c.in_ok-begun.ensures.left c.if-begun.false) at c.in_ok-set_base.ensures.ok in
     ap (λ (m : Contents). m.looked) c.wake.ensures.mods ∙ change.looked
+
+pub returns-then-begun-clause-marks : goal.returns-then-begun-clause-marks
+returns-then-begun-clause-marks c = let change = c.in_ok-begun.ensures.begun c.if-begun.true in change.marked
+
+pub returns-clause-marks : goal.returns-clause-marks
+returns-clause-marks c =
+    let change = rw (c.in_ok-begun.ensures.left c.if-begun.false) at c.in_ok-set_base.ensures.ok in
+    ap (λ (m : Contents). m.marked) c.wake.ensures.mods ∙ change.marked

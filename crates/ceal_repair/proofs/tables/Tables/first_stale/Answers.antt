@@ -70,7 +70,7 @@ loop-looked-preserved c =
     (c.settle.ensures.same c.if-settle.false)
     c.settle.ensures.cells c.settle.ensures.memo c.settle.ensures.behind
     (let a = c.settle.ensures.idle c.if-settle.false in
-    let b = c.in_ok-read.ensures.fewer in omega (arith, a, b)) (c.settle.ensures.none_differs c.if-settle.false)
+    let b = c.in_ok-read.ensures.fewer in omega (arith, a, b)) (c.settle.ensures.none_differs c.if-settle.false) c.settle.ensures.marks
 
 pub returns-clause-none : goal.returns-clause-none
 returns-clause-none c = c.loop-looked.invariant.trace
@@ -117,3 +117,12 @@ returns-then-settle-clause-differs c = rw (← c.loop-looked.invariant.differed)
 
 pub returns-clause-none_differs : goal.returns-clause-none_differs
 returns-clause-none_differs c = c.loop-looked.invariant.differed
+
+pub returns-in_err-read-clause-marks : goal.returns-in_err-read-clause-marks
+returns-in_err-read-clause-marks c = c.loop-looked.invariant.marks
+
+pub returns-then-settle-clause-marks : goal.returns-then-settle-clause-marks
+returns-then-settle-clause-marks c = c.settle.ensures.marks ∙ c.loop-looked.invariant.marks
+
+pub returns-clause-marks : goal.returns-clause-marks
+returns-clause-marks c = c.loop-looked.invariant.marks

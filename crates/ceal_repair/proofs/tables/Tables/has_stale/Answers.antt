@@ -48,7 +48,7 @@ loop-looked-preserved c =
     let b = ap (λ (m : Contents). m.looked) c.dismiss.ensures.mods in
     let d = c.dismiss.ensures.fewer (rw c.differs.ensures.queue there) in
     let e = ap (λ (q : Waiting). length q.stamps) c.differs.ensures.queue in omega (arith, a, b, d, e))
-    (ap (λ (m : Contents). m.differed) c.dismiss.ensures.mods ∙ c.differs.ensures.differed)
+    (ap (λ (m : Contents). m.differed) c.dismiss.ensures.mods ∙ c.differs.ensures.differed) (ap (λ (m : Contents). m.marked) c.dismiss.ensures.mods ∙ c.differs.ensures.marks)
 
 pub returns-clause-honest : goal.returns-clause-honest
 returns-clause-honest c = λ told s. all-honest c.loop-looked.self c.loop-looked.invariant.kept
@@ -86,3 +86,12 @@ returns-in-None-clause-none c = λ told. queue-empty c.loop-looked.self.stale.st
 pub returns-clause-none : goal.returns-clause-none
 returns-clause-none c = λ told. queue-empty c.loop-looked.self.stale.stamps
     (λ r i. none-late c.args.self.now c.loop-looked.self c.loop-looked._looked c.loop-looked.invariant (omega (arith, c.loop-looked-test.false)) r i)
+
+pub returns-in-None-clause-marks : goal.returns-in-None-clause-marks
+returns-in-None-clause-marks c = c.loop-looked.invariant.marks
+
+pub returns-then-differs-clause-marks : goal.returns-then-differs-clause-marks
+returns-then-differs-clause-marks c = c.differs.ensures.marks ∙ c.loop-looked.invariant.marks
+
+pub returns-clause-marks : goal.returns-clause-marks
+returns-clause-marks c = c.loop-looked.invariant.marks

@@ -68,3 +68,9 @@ returns-then-unqueue-clause-none_differs c = λ told. c.settle.ensures.none_diff
 
 pub returns-else-unqueue-clause-none_differs : goal.returns-else-unqueue-clause-none_differs
 returns-else-unqueue-clause-none_differs c = λ told. ap (λ (m : Contents). m.differed) c.unqueue.ensures.mods
+
+pub returns-then-unqueue-clause-marks : goal.returns-then-unqueue-clause-marks
+returns-then-unqueue-clause-marks c = c.settle.ensures.marks ∙ ap (λ (m : Contents). m.marked) c.unqueue.ensures.mods
+
+pub returns-else-unqueue-clause-marks : goal.returns-else-unqueue-clause-marks
+returns-else-unqueue-clause-marks c = ap (λ (m : Contents). m.marked) c.unqueue.ensures.mods

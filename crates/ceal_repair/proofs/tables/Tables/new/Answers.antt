@@ -13,3 +13,6 @@ returns-clause-kept c =
 
 pub returns-clause-looks : goal.returns-clause-looks
 returns-clause-looks c = record { looked = c.in_ok-new-2.ensures.looked; differed = c.in_ok-new-2.ensures.differed }
+
+pub returns-clause-unmarked : goal.returns-clause-unmarked
+returns-clause-unmarked c = c.in_ok-new-2.ensures.marked

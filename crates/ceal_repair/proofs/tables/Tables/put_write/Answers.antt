@@ -59,3 +59,8 @@ pub returns-clause-differed : goal.returns-clause-differed
 returns-clause-differed c =
     let change = rw c.order.ensures at c.in_ok-add_write.ensures.ok in
     ap (λ (m : Contents). m.differed) c.wake.ensures.mods ∙ change.differed
+
+pub returns-clause-marks : goal.returns-clause-marks
+returns-clause-marks c =
+    let change = rw c.order.ensures at c.in_ok-add_write.ensures.ok in
+    ap (λ (m : Contents). m.marked) c.wake.ensures.mods ∙ change.marked

@@ -87,3 +87,9 @@ returns-then-is_same-clause-none_differs c = λ told. c.value_at-now.ensures.dif
 
 pub returns-clause-differs : goal.returns-clause-differs
 returns-clause-differs c = λ told. rw (ap (λ (m : Contents). m.differed) c.wake.ensures.mods, ← c.value_at-now.ensures.differed) c.count_differed.ensures.differed
+
+pub returns-then-is_same-clause-marks : goal.returns-then-is_same-clause-marks
+returns-then-is_same-clause-marks c = c.value_at-now.ensures.marked
+
+pub returns-clause-marks : goal.returns-clause-marks
+returns-clause-marks c = ap (λ (m : Contents). m.marked) c.wake.ensures.mods ∙ (c.count_differed.ensures.marked ∙ c.value_at-now.ensures.marked)
