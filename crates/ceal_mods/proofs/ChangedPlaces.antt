@@ -1,8 +1,8 @@
 -- Which places are told as changed: those that hold something else at the end than when they were marked, each once.
-use Rattle.std.proofs.Common.{◌≡◌, ◌≢◌, ◌<◌, ◌≤◌, ◌+◌, ℕ, suc, zero, pos, cond, inl, inr, ◌⊎◌, true, false, Bool, List, [], ◌∷◌, ◌++◌, length, drop, get_or, Option, Some, None, refl, sym, ap, subst}
-use Rattle.std.proofs.Common.{◌∙◌, arith, rules}
+use Rattle.std.proofs.Common.{◌≡◌, ◌≢◌, ◌<◌, ◌≤◌, ◌+◌, ℕ, suc, zero, pos, inl, inr, ◌⊎◌, true, false, List}
+use Rattle.std.proofs.Common.{[], ◌∷◌, ◌++◌, length, drop, get_or, Option, Some, None, refl, sym, ap, subst, ◌∙◌, arith, rules}
 use Rattle.std.specs.Bool.{Decides}
-use Rattle.std.specs.Prelude.{IfSome, unwrap_or, Result, Ok, Err, OnOk, OnErr, IfOk}
+use Rattle.std.specs.Prelude.{unwrap_or, Result, Ok, Err, OnOk, IfOk}
 use Rattle.std.specs.Map.{lookup}
 use Rattle.std.proofs.lemmas.Bool.{cases_Bool, cases_lt, false≢true}
 use Rattle.std.proofs.lemmas.Bool.Decides.{eqb_tells}
@@ -12,7 +12,7 @@ use Rattle.ceal_base.specs.declared.word.Place.{Place}
 use Rattle.ceal_base.specs.declared.word.Word.{Word}
 use Rattle.ceal_base.specs.declared.word.Word.TheVariants.{Num}
 use Rattle.ceal_order.proofs.Places.{in_head, in_tail, not_in, below_of}
-use Rattle.ceal_order.specs.Stamps.{is_in, NotIn, Distinct, AllBelow}
+use Rattle.ceal_order.specs.Stamps.{is_in, NotIn, Distinct}
 use Rattle.ceal_mods.specs.Cell.{untouched, latest_value}
 use Rattle.ceal_mods.specs.Index.{cell_in}
 use Rattle.ceal_mods.specs.Marks.{Marked, SamePlaces, Apart, Watches, end_in, ends_of, held_in, times, told_of, told_at, told, told_new}
@@ -340,7 +340,7 @@ pub renewed-held : {A E : Type 0} (r : Result A E) (new : Marked) (cells : List 
 renewed-held (Ok x) new cells is = λ p. ap (λ (m : Marked). held_in m.ends p) is ∙ held-now cells p
 renewed-held (Err x) new cells is = tt
 
--- where the places are these, that is how often each of them is there
+-- what is true of an answer that has these places
 pub if-listed : {A E : Type 0} (r : Result A E) (items : A → List Place) (xs : List Place) (P : A → Type 0) → IfOk r (λ v. items v ≡ xs) → ((v : A) → items v ≡ xs → P v) → IfOk r P
 if-listed (Ok x) items xs P h f = f x h
 if-listed (Err x) items xs P h f = tt

@@ -1,14 +1,13 @@
 -- What is marked of cells, and which of it may be otherwise.
-use Rattle.std.proofs.Common.{◌≡◌, ◌≢◌, ◌<◌, ◌≤◌, ◌+◌, ◌-◌, ℕ, suc, zero, pos, cond, nat_lt, inl, inr, ◌⊎◌, true, false, Bool, List, [], ◌∷◌, ◌++◌, length, drop, Option, Some, None, refl, sym, ap}
-use Rattle.std.proofs.Common.{subst, ◌∙◌, arith}
-use Rattle.std.specs.Prelude.{IfSome, unwrap_or, Result, Ok, Err, OnOk, OnErr, IfOk}
+use Rattle.std.proofs.Common.{◌≡◌, ◌≢◌, ◌<◌, ◌≤◌, ℕ, suc, zero, nat_lt, inl, inr, true, false, List, [], ◌∷◌, ◌++◌, length, Option, Some, None, refl, sym, ap, subst, ◌∙◌, arith}
+use Rattle.std.specs.Prelude.{IfSome, Result, Ok, Err, OnOk, OnErr}
 use Rattle.std.specs.Map.{lookup}
 use Rattle.std.proofs.lemmas.Bool.{cases_Bool, eq-eqb}
 use Rattle.std.proofs.lemmas.Bool.Decides.{eqb_tells}
 use Rattle.ceal_base.specs.contracts.word.PlacePartialEq.TheImpl.{ghosts}
 use Rattle.ceal_base.specs.declared.word.Place.{Place}
 use Rattle.ceal_base.specs.declared.word.Word.{Word}
-use Rattle.ceal_order.proofs.Places.{NotIn-of, AllBelow-more, in_tail}
+use Rattle.ceal_order.proofs.Places.{in_tail}
 use Rattle.ceal_order.specs.Stamps.{is_in, NotIn, Distinct, AllBelow}
 use Rattle.ceal_mods.specs.Cell.{latest_value}
 use Rattle.ceal_mods.specs.Index.{cell_in, with_cell, Indexes}
@@ -154,8 +153,8 @@ watches-changed m es k c w =
       within = l.within w.within;
       distinct = l.distinct w.distinct;
       same = λ s less none. elim (eqb_tells k s) [
-        | inl e ↦ absurd (let there : is_in s (with_slot (length m.ends) k m.slots)
-            ≡ true = subst (λ (n : ℕ). is_in n (with_slot (length m.ends) k m.slots) ≡ true) e.1 (l.there (subst (λ (n : ℕ). n < length m.ends) (sym e.1) less)) in cc)
+        | inl e ↦ absurd (let there : is_in s (with_slot (length m.ends) k m.slots) ≡ true = subst (λ (n : ℕ). is_in n (with_slot (length m.ends) k m.slots) ≡ true) e.1 (l.there (subst (λ
+        (n : ℕ). n < length m.ends) (sym e.1) less)) in cc)
         | inr e ↦ w.same s less (l.before s none) ∙ ap latest_value (sym (cell-other es k s c e.1))
       ];
     }
@@ -196,8 +195,8 @@ watched-changed : (marks : Option Marked) (es : List (Place × Cell)) (k : ℕ) 
 watched-changed None es k c w = tt
 watched-changed (Some m) es k c w = watches-changed m es k c w
 
-watched-same : (marks : Option Marked) (es : List (Place × Cell)) (k : ℕ) (c : Cell) → latest_value c ≡ latest_value (cell_in es k) → IfSome marks (λ m. Watches m es)
-    → IfSome marks (λ m. Watches m (with_cell k c es))
+watched-same : (marks : Option Marked) (es : List (Place × Cell)) (k : ℕ) (c : Cell) → latest_value c ≡ latest_value (cell_in es k) → IfSome marks (λ m. Watches m es) → IfSome marks (λ m.
+    Watches m (with_cell k c es))
 watched-same None es k c ends w = tt
 watched-same (Some m) es k c ends w = watches-same m es k c ends w
 
@@ -225,16 +224,13 @@ module _ (index : Index) (cells : List (Place × Cell)) (marks : Option Marked) 
     watched = watched-same marks cells slot cell ends w.watched;
   })
 
-  pub whole-added : (new : Index) (p : Place) (cell : Cell) (after : List (Place × Cell)) → lookup (ghosts.eq p) cells ≡ None → after ≡ cells ++ (p, cell) ∷ [] → Indexes new after
-      → IsWhole new after marks
+  pub whole-added : (new : Index) (p : Place) (cell : Cell) (after : List (Place × Cell)) → lookup (ghosts.eq p) cells ≡ None → after ≡ cells ++ (p, cell) ∷ [] → Indexes new after → IsWhole
+  new after marks
   whole-added new p cell after none now indexes = record {
     indexes = indexes;
     apart = rw now (apart-added p cell cells none w.apart);
     watched = rw now (watched-added marks cells (p, cell) w.watched);
   }
-
-  pub whole-kept : (new : Index) (after : List (Place × Cell)) → after ≡ cells → Indexes new after → IsWhole new after marks
-  whole-kept new after now indexes = record { indexes = indexes; apart = rw now w.apart; watched = rw now w.watched }
 
 -- a place is marked as it was
 pub ends-noted : (slot : ℕ) (marks : Option Marked) → ends_in (noted slot marks) ≡ ends_in marks
@@ -255,11 +251,8 @@ end-now (e ∷ es) (suc s) less = end-now es s (omega arith)
 pub watches-now : (es : List (Place × Cell)) → Watches (record { ends = ends_of es; slots = [] }) es
 watches-now es = record { places = same-ends es; within = tt; distinct = tt; same = λ s less none. end-now es s less }
 
-pub watches-none : (es : List (Place × Cell)) → Watches (record { ends = []; slots = [] }) es
-watches-none es = record { places = tt; within = tt; distinct = tt; same = λ s less none. absurd (omega (arith, less)) }
-
-pub whole-marked : (index : Index) (cells : List (Place × Cell)) (marks : Option Marked) → IsWhole index cells marks → (m : Marked) → m ≡ record { ends = ends_of cells; slots = [] }
-    → IsWhole index cells (Some m)
+pub whole-marked : (index : Index) (cells : List (Place × Cell)) (marks : Option Marked) → IsWhole index cells marks → (m : Marked) → m ≡ record { ends = ends_of cells; slots = [] } →
+    IsWhole index cells (Some m)
 whole-marked index cells marks w m is = record { indexes = w.indexes; apart = w.apart; watched = subst (λ (n : Marked). Watches n cells) (sym is) (watches-now cells) }
 
 -- marked again, or left as it was where there was no memory

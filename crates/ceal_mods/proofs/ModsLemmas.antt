@@ -12,7 +12,7 @@ use Rattle.ceal_mods.specs.declared.index.Index.{Index}
 use Rattle.ceal_mods.specs.Index.{cell_in, with_cell, slot_of, where_from, Indexes}
 use Rattle.ceal_mods.specs.Mods.{Changes}
 use Rattle.ceal_mods.specs.Slots.{no_slot}
-use Rattle.ceal_mods.proofs.IndexLemmas.{same_place, Held, held, none_held, not_found, lookup_stands, lookup_with, lookup_pushed, still_indexes}
+use Rattle.ceal_mods.proofs.IndexLemmas.{same_place, Held, held, none_held, not_found, lookup_stands, lookup_with, lookup_pushed}
 
 -- the cells of each place rise along an order
 abbrev pub AllRise : List ℕ → List (Place × Cell) → Type 0
@@ -91,9 +91,6 @@ module _ (index : Index) (cells : List (Place × Cell)) (p : Place) (slot : ℕ)
 
     pub touched_too : (cell : Cell) (after : List (Place × Cell)) → after ≡ with_cell slot cell cells → (q : Place) → IsSome (lookup (ghosts.eq q) cells) → IsSome (lookup (ghosts.eq q) after)
     touched_too cell after now = rw now (touched_still cells (with_cell slot cell cells) p cell (λ q. lookup_with p q cells slot cell at.stands))
-
-    pub indexed : (cell : Cell) (after : List (Place × Cell)) → after ≡ with_cell slot cell cells → Indexes index after
-    indexed cell after now = rw now (still_indexes index cells slot cell indexes)
 
   module _ (none : slot ≡ no_slot) where
     pub nowhere : where_from 0 p cells ≡ no_slot

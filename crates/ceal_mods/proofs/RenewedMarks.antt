@@ -1,7 +1,6 @@
 -- What is marked again: the flags of the slots, and the ends of the cells.
-use Rattle.std.proofs.Common.{◌≡◌, ◌≢◌, ◌<◌, ◌≤◌, ◌+◌, ℕ, suc, zero, pos, cond, nat_lt, inl, inr, ◌⊎◌, true, false, Bool, List, [], ◌∷◌, ◌++◌, length, drop, get_or, set, replicate, refl, sym, ap}
-use Rattle.std.proofs.Common.{subst, ◌∙◌, arith}
-use Rattle.std.proofs.lemmas.Bool.{cases_Bool, cases_lt, cases_eq, eq-eqb, false≢true}
+use Rattle.std.proofs.Common.{◌≡◌, ◌≢◌, ◌<◌, ◌≤◌, ◌+◌, ℕ, suc, zero, inl, inr, true, false, Bool, List, [], ◌∷◌, ◌++◌, length, drop, get_or, set, replicate, refl, sym, ap, subst, ◌∙◌, arith}
+use Rattle.std.proofs.lemmas.Bool.{cases_Bool, cases_eq, eq-eqb}
 use Rattle.std.proofs.lemmas.Bool.Decides.{eqb_tells}
 use Rattle.std.proofs.lemmas.List.{length-set, length_push, length-append, length-drop, length-replicate, get_or-set_same, get_or-set_other}
 use Rattle.ceal_base.specs.declared.word.Place.{Place}
@@ -10,28 +9,10 @@ use Rattle.ceal_order.proofs.Places.{in_tail}
 use Rattle.ceal_order.specs.Stamps.{is_in, AllBelow}
 use Rattle.ceal_mods.specs.Cell.{latest_value}
 use Rattle.ceal_mods.specs.Index.{cell_in}
-use Rattle.ceal_mods.specs.Marks.{SamePlaces, IsListed, end_in, with_end, with_slot, ends_of, renewed, unlisted, count_unlisted}
+use Rattle.ceal_mods.specs.Marks.{SamePlaces, IsListed, end_in, with_end, ends_of, renewed, unlisted, count_unlisted}
 use Rattle.ceal_mods.specs.declared.cell.Cell.{Cell}
 
 -- ---- a slot is listed
-
-pub slot-past : (n slot : ℕ) (slots : List ℕ) → n ≤ slot → with_slot n slot slots ≡ slots
-slot-past n slot slots more = elim (cases_Bool (nat_lt slot n)) [
-  | inl less ↦ absurd (grind (arith, less, more))
-  | inr other ↦ rw other refl
-]
-
-pub slot-in : (n slot : ℕ) (slots : List ℕ) → is_in slot slots ≡ true → with_slot n slot slots ≡ slots
-slot-in n slot slots there = elim (cases_Bool (nat_lt slot n)) [
-  | inl less ↦ rw (less, there) refl
-  | inr other ↦ rw other refl
-]
-
-pub slot-new : (n slot : ℕ) (slots : List ℕ) → slot < n → is_in slot slots ≡ false → with_slot n slot slots ≡ slots ++ slot ∷ []
-slot-new n slot slots less none = elim (cases_Bool (nat_lt slot n)) [
-  | inl small ↦ rw (small, none) refl
-  | inr other ↦ absurd (grind (arith, less, other))
-]
 
 in-more : (s t : ℕ) (xs : List ℕ) → t ≢ s → is_in s (xs ++ t ∷ []) ≡ is_in s xs
 in-more s t [] other = elim (eqb_tells t s) [ inl same ↦ absurd (other same.1) | inr differ ↦ rw differ.0 refl ]
@@ -48,8 +29,8 @@ count-set (b ∷ bs) (suc n) less off =
     let rest = count-set bs n (omega arith) off in
     elim (cases_Bool b) [ inl on ↦ rw on rest | inr off' ↦ rw off' (omega (arith, rest)) ]
 
-module _ (ends : List (Place × Word)) (listed : List Bool) (slots : List ℕ) (room at : ℕ) (kept : IsListed ends listed slots room) (within : at < length listed)
-    (off : get_or listed at false ≡ false) where
+module _ (ends : List (Place × Word)) (listed : List Bool) (slots : List ℕ) (room at : ℕ) (kept : IsListed ends listed slots room) (within : at < length listed) (off : get_or listed at
+    false ≡ false) where
   pub has-room : length slots < room
   has-room = (let one = count-set listed at within off in let all = kept.counted in let most = kept.room in omega (arith, one, all, most))
 
@@ -198,5 +179,5 @@ module _ (ends : List (Place × Word)) (listed : List Bool) (slots : List ℕ) (
       let last = length-ends (drop n cells) in
       let all = length-append (renewed cells slots ends) (ends_of (drop n cells)) in
       let left = length-drop n cells in
-      none-listed ends listed slots capacity (length (drop n cells)) (renewed cells slots ends ++ ends_of (drop n cells)) room kept (omega (arith, first, last, all))
-      (omega (arith, left, is, few, enough))
+      none-listed ends listed slots capacity (length (drop n cells)) (renewed cells slots ends ++ ends_of (drop n cells)) room kept (omega (arith, first, last, all)) (omega (arith, left,
+      is, few, enough))

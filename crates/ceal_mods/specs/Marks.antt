@@ -1,7 +1,6 @@
 -- What the places held at the end when they were marked, and where that may be otherwise now.
-use Rattle.std.specs.Prelude.{◌≡◌, ◌<◌, ◌≤◌, ◌+◌, ℕ, pos, suc, zero, true, false, Bool, cond, nat_lt, List, [], ◌∷◌}
-use Rattle.std.specs.Prelude.{◌++◌}
-use Rattle.std.specs.Prelude.{length, drop, get_or, set, unwrap_or, Option, Some, None, IfSome, ⊤}
+use Rattle.std.specs.Prelude.{◌≡◌, ◌<◌, ◌≤◌, ◌+◌, ℕ, pos, suc, zero, false, Bool, cond, nat_lt, List, [], ◌∷◌, ◌++◌}
+use Rattle.std.specs.Prelude.{length, get_or, set, unwrap_or, Option, Some, None, IfSome, ⊤}
 use Rattle.std.specs.Map.{lookup}
 use Rattle.ceal_base.specs.contracts.word.PlacePartialEq.TheImpl.{ghosts}
 use Rattle.ceal_base.specs.contracts.word.WordPartialEq.TheImpl.{ghosts as word_ghosts}

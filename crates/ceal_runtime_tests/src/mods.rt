@@ -50,13 +50,13 @@ const OTHER: Place = Place {
 fn what_has_changed_since_the_mark(rt: HostRuntime) {
     let mut mods = Mods::new(rt.alloc()).expect(&rt, "memory");
     holds(&rt, !mods.is_marked());
-    holds(&rt, mods.set_base(COUNTER, Word::Num(1)).is_ok());
+    mods.set_base(COUNTER, Word::Num(1)).expect(&rt, "memory");
     mods.mark().expect(&rt, "memory");
     holds(&rt, mods.is_marked());
-    holds(&rt, mods.set_base(COUNTER, Word::Num(2)).is_ok());
-    holds(&rt, mods.set_base(OTHER, Word::Num(3)).is_ok());
+    mods.set_base(COUNTER, Word::Num(2)).expect(&rt, "memory");
+    mods.set_base(OTHER, Word::Num(3)).expect(&rt, "memory");
     equal(&rt, mods.changed().expect(&rt, "memory").len(), 2);
-    holds(&rt, mods.set_base(COUNTER, Word::Num(1)).is_ok());
+    mods.set_base(COUNTER, Word::Num(1)).expect(&rt, "memory");
     equal(&rt, mods.changed().expect(&rt, "memory").len(), 1);
     mods.mark().expect(&rt, "memory");
     equal(&rt, mods.changed().expect(&rt, "memory").len(), 0);

@@ -1,4 +1,4 @@
-use Rattle.std.proofs.Common.{◌≡◌, drop, length}
+use Rattle.std.proofs.Common.{◌≡◌, drop}
 use Rattle.ceal_mods.specs.Marks.{renewed, unlisted}
 use Rattle.ceal_mods.proofs.ends.renew_ends.Given as goal
 

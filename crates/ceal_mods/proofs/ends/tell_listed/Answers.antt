@@ -1,10 +1,9 @@
 use Rattle.std.proofs.Common.{◌≡◌, ◌<◌, ◌+◌, ◌++◌, ◌∙◌, List, ℕ, drop, get_or, length, ap, sym, arith, append_assoc}
 use Rattle.std.proofs.lemmas.List.{at_drop_more}
 use Rattle.ceal_base.specs.declared.word.Place.{Place}
-use Rattle.ceal_base.specs.declared.word.Word.{Word}
 use Rattle.ceal_mods.specs.Cell.{latest_value}
 use Rattle.ceal_mods.specs.Index.{cell_in}
-use Rattle.ceal_mods.specs.Marks.{told, told_at, told_of}
+use Rattle.ceal_mods.specs.Marks.{told, told_at}
 use Rattle.ceal_mods.proofs.ChangedPlaces.{told-at-is}
 use Rattle.ceal_mods.proofs.RenewedMarks.{below-at}
 use Rattle.ceal_mods.proofs.ends.tell_listed.Goals as goal

@@ -1,7 +1,6 @@
-use Rattle.std.proofs.Common.{◌≡◌, ◌≤◌, ◌++◌, ◌∙◌, List, drop, length, refl, ap, sym, subst, arith}
-use Rattle.ceal_base.specs.declared.word.Place.{Place}
+use Rattle.std.proofs.Common.{◌≡◌, ◌∙◌, length, refl, arith}
 use Rattle.ceal_order.proofs.Places.{AllBelow-more}
-use Rattle.ceal_mods.specs.Marks.{told, told_new}
+use Rattle.ceal_mods.specs.Marks.{told}
 use Rattle.ceal_mods.proofs.MarksLemmas.{fewer}
 use Rattle.ceal_mods.proofs.marks.Marks.changed.Goals as goal
 

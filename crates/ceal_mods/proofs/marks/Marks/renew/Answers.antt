@@ -1,8 +1,6 @@
-use Rattle.std.proofs.Common.{◌≡◌, ◌≤◌, ◌++◌, ◌∙◌, [], Bool, List, ℕ, false, drop, length, replicate, refl, ap, sym, subst, arith}
+use Rattle.std.proofs.Common.{◌≡◌, ◌≤◌, ◌++◌, ◌∙◌, false, drop, length, replicate, refl, ap, sym, arith}
 use Rattle.std.proofs.lemmas.List.{with_items_is}
 use Rattle.std.specs.Prelude.{vec_capacity}
-use Rattle.ceal_base.specs.declared.word.Place.{Place}
-use Rattle.ceal_base.specs.declared.word.Word.{Word}
 use Rattle.ceal_order.proofs.Places.{AllBelow-more}
 use Rattle.ceal_mods.specs.Marks.{ends_of, renewed, unlisted}
 use Rattle.ceal_mods.proofs.MarksLemmas.{fewer}

@@ -2,7 +2,7 @@ use Rattle.std.proofs.Common.{◌≡◌, length, ap, sym, ◌∙◌}
 use Rattle.std.proofs.lemmas.List.{with_items_is}
 use Rattle.ceal_mods.proofs.IndexLemmas.{length-with, cell_with}
 use Rattle.ceal_mods.proofs.ModsLemmas.{at, cell_here, rises_here, changed, follow, cell_none, no_cell, added, follow_added}
-use Rattle.ceal_mods.proofs.MarksLemmas.{whole-changed, whole-noted, ends-noted, whole-added, whole-kept}
+use Rattle.ceal_mods.proofs.MarksLemmas.{whole-changed, whole-noted, ends-noted, whole-added}
 use Rattle.ceal_mods.proofs.mods.Mods.add_write.Goals as goal
 
 pub add_write_at-requires-clause-there : goal.add_write_at-requires-clause-there

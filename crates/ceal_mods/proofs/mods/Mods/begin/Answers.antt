@@ -1,6 +1,6 @@
 use Rattle.std.proofs.Common.{arith}
 use Rattle.ceal_mods.proofs.ModsLemmas.{rise_same, has_cell, no_cell, cell_none, added, added_touched, added_too, follow_added}
-use Rattle.ceal_mods.proofs.MarksLemmas.{whole-added, whole-kept}
+use Rattle.ceal_mods.proofs.MarksLemmas.{whole-added}
 use Rattle.ceal_mods.proofs.mods.Mods.begin.Goals as goal
 
 pub returns-in_err-enter_base-clause-follows : goal.returns-in_err-enter_base-clause-follows

@@ -1,5 +1,4 @@
-use Rattle.std.proofs.Common.{◌≡◌, ◌≢◌, ◌∙◌, ap}
-use Rattle.ceal_base.specs.declared.word.Place.{Place}
+use Rattle.std.proofs.Common.{◌∙◌, ap}
 use Rattle.ceal_mods.specs.Marks.{times}
 use Rattle.ceal_mods.proofs.ChangedPlaces.{if-listed, told-not, told-once}
 use Rattle.ceal_mods.proofs.mods.Mods.changed.Goals as goal

@@ -2,7 +2,7 @@ use Rattle.std.proofs.Common.{◌≡◌, length, sym, ◌∙◌}
 use Rattle.std.proofs.lemmas.List.{with_items_is}
 use Rattle.ceal_mods.proofs.IndexLemmas.{length-with, cell_with}
 use Rattle.ceal_mods.proofs.ModsLemmas.{at, cell_here, rises_here, changed, follow, cell_none}
-use Rattle.ceal_mods.proofs.MarksLemmas.{whole-changed, whole-noted, ends-noted}
+use Rattle.ceal_mods.proofs.MarksLemmas.{whole-changed, ends-noted}
 use Rattle.ceal_mods.proofs.mods.Mods.remove_write.Goals as goal
 
 pub remove_write_at-requires-clause-there : goal.remove_write_at-requires-clause-there

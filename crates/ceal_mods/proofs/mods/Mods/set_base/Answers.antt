@@ -2,7 +2,7 @@ use Rattle.std.proofs.Common.{◌≡◌, length, sym, ◌∙◌, arith}
 use Rattle.std.proofs.lemmas.List.{with_items_is}
 use Rattle.ceal_mods.proofs.IndexLemmas.{length-with}
 use Rattle.ceal_mods.proofs.ModsLemmas.{rise_same, at, cell_here, rises_here, changed, follow, cell_none, no_cell, touched, touched_too, added, added_touched, added_too, follow_added}
-use Rattle.ceal_mods.proofs.MarksLemmas.{whole-changed, whole-noted, ends-noted, whole-added, whole-kept}
+use Rattle.ceal_mods.proofs.MarksLemmas.{whole-changed, ends-noted, whole-added}
 use Rattle.ceal_mods.proofs.mods.Mods.set_base.Goals as goal
 
 pub set_base_at-requires : goal.set_base_at-requires
