@@ -17,10 +17,22 @@ use slab::Slab;
 #[derive(Drop)]
 pub enum Held {
     Root,
-    Alloc { block: BlockId, apart: Halves },
-    Write { place: Place, value: Packed },
-    Read { value: Packed, var: u32, apart: Halves },
-    End { read: Stamp },
+    Alloc {
+        block: BlockId,
+        apart: Halves,
+    },
+    Write {
+        place: Place,
+        value: Packed,
+    },
+    Read {
+        value: Packed,
+        var: u32,
+        apart: Halves,
+    },
+    End {
+        read: Stamp,
+    },
 }
 
 /// The second part: the key of an allocation, or the closure of a read but for its variable. The place of a read is in
