@@ -96,6 +96,7 @@ impl Stamps {
     }
 
     /// Where a stamp is among rising ones; where it is not there, the number of those before it.
+    #[inline(never)]
     pub fn search(&self, order: &Order, stamp: Stamp) -> Result<usize, usize>
         requires here { IsTrue (is_in stamp.0 order.now.stamps) }
         requires rising { IsRising order.now.stamps (numbers self.now.items) }
@@ -133,6 +134,7 @@ impl Stamps {
     }
 
     /// Puts a stamp in at an index. No memory is taken.
+    #[inline(never)]
     pub fn insert(&mut self, index: usize, stamp: Stamp)
         requires within { index ≤ length self.old.items }
         requires room { length self.old.items < self.old.capacity }
@@ -149,6 +151,7 @@ impl Stamps {
     }
 
     /// Takes the stamp at an index out.
+    #[inline(never)]
     pub fn remove(&mut self, index: usize)
         requires { index < length self.old.items }
         ensures items { self.new.items ≡ remove self.old.items index }
