@@ -1,8 +1,8 @@
 //! The tests, by public calls, of what runs and repairs: repair over whole traces (`adjust`, with `edits`), the run
-//! over nodes (`nodes`), the engine. The engine is tested with `drive`, beside `adjust` in `side_by_side`, in slices in
-//! `in_slices` and `known`, after edits that change nothing in `idle`, and where memory is refused in `recovered`.
-//! Sessions are tested where memory is refused (`refused`), and by values without text (`values`). Dumps and saves are
-//! tested by rows. No crate uses this one.
+//! over nodes (`nodes`), the engine, the recorded traces (`dumps`). The engine is tested with `drive`, beside `adjust`
+//! in `side_by_side`, in slices in `in_slices` and `known`, after edits that change nothing in `idle`, and where memory
+//! is refused in `recovered`. Sessions are tested where memory is refused (`refused`), saved (`saves`), and by values
+//! without text (`values`). No crate uses this one.
 #![tactic(auto)]
 
 #[cfg(test)]
@@ -11,6 +11,8 @@ mod adjust;
 mod asserts;
 #[cfg(test)]
 mod drive;
+#[cfg(test)]
+mod dumps;
 #[cfg(test)]
 mod edits;
 #[cfg(test)]
@@ -27,6 +29,8 @@ mod nodes;
 mod recovered;
 #[cfg(test)]
 mod refused;
+#[cfg(test)]
+mod saves;
 #[cfg(test)]
 mod side_by_side;
 #[cfg(test)]

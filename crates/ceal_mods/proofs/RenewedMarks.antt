@@ -179,5 +179,10 @@ module _ (ends : List (Place × Word)) (listed : List Bool) (slots : List ℕ) (
       let last = length-ends (drop n cells) in
       let all = length-append (renewed cells slots ends) (ends_of (drop n cells)) in
       let left = length-drop n cells in
-      none-listed ends listed slots capacity (length (drop n cells)) (renewed cells slots ends ++ ends_of (drop n cells)) room kept (omega (arith, first, last, all)) (omega (arith, left,
-      is, few, enough))
+      none-listed ends listed slots capacity (length (drop n cells)) (renewed cells slots ends ++ ends_of (drop n cells)) room kept (omega (arith, first, last, all)) (omega (
+        arith,
+        left,
+        is,
+        few,
+        enough,
+      ))
