@@ -26,16 +26,16 @@ use Rattle.ceal_adjust.specs.declared.complete.Limit.TheVariants.{Written}
 use Rattle.ceal_theory.specs.Computed.{adjusted, first_of}
 use Rattle.ceal_theory.specs.Laws.{Edited}
 use Rattle.ceal_theory.specs.Repair.{State, own, begins}
-use Rattle.ceal_theory.specs.Turns.{Machine, Turn, Fixing, Running, Bottom, Ended, Went, turn, Resumes, Finishes, BecomesBy}
+use Rattle.ceal_theory.specs.Moves.{Machine, Move, Fixing, Running, Bottom, Ended, Went, next_move, Resumes, Finishes, BecomesBy}
 use Rattle.ceal_adjust.specs.declared.adjust.Adjusted.{Adjusted}
 use Rattle.ceal_adjust.specs.declared.adjust.Adjusted.TheVariants.{Done, OutOfFuel}
 
 -- a turn of the same code
-pub turned : (code now : Code) (m : Machine) (t : Turn) → now ≡ code → turn now own m ≡ t → turn code own m ≡ t
-turned code now m t e h = subst (λ k. turn k own m ≡ t) e h
+pub turned : (code now : Code) (m : Machine) (t : Move) → now ≡ code → next_move now own m ≡ t → next_move code own m ≡ t
+turned code now m t e h = subst (λ k. next_move k own m ≡ t) e h
 
 -- after one turn more
-pub leads-more : (code : Code) (start m m' : Machine) (out written : List Item) → BecomesBy code own start m out → turn code own m ≡ Went written m' → BecomesBy code own start m' (out ++ written)
+pub leads-more : (code : Code) (start m m' : Machine) (out written : List Item) → BecomesBy code own start m out → next_move code own m ≡ Went written m' → BecomesBy code own start m' (out ++ written)
 leads-more code start m m' out written h e = leads-then code own start m m' out written h (leads-turn code own m m' written e)
 
 -- where it is beyond the limit
@@ -52,7 +52,7 @@ is-beyond code limit start m out steps work h e k l = record {
 -- where it has ended, within the limit
 pub ends-at : (code : Code) (limit : Limit) (start m : Machine) (out : List Item) (steps work : ℕ) (s : State)
     → BecomesBy code own start m out → steps ≡ steps_in out → m.state.work ≡ work → Keeps limit steps work
-    → turn code own m ≡ Ended → m.state ≡ s → EndsAt code limit start out s
+    → next_move code own m ≡ Ended → m.state ≡ s → EndsAt code limit start out s
 ends-at code limit start m out steps work s h e k l t n = record {
   ended = record { machine = m; leads = h; ended = t; within = subst (λ n. Keeps limit n m.state.work) e (subst (λ w. Keeps limit steps w) (sym k) l) };
   state = n;

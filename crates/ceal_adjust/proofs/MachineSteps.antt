@@ -17,7 +17,7 @@ use Rattle.ceal_code.specs.declared.stack.Stack.{Stack as CodeStack}
 use Rattle.ceal_theory.proofs.Reuse.FlatTake.{loose-one, skipped-levels, take-found, take-found-read, found-beyond, found-beyond-read}
 use Rattle.ceal_theory.specs.Levels.{first, around, levels, loose, beyond, FoundAlloc, find_alloc, FoundRead, taken_alloc, taken_read}
 use Rattle.ceal_theory.specs.Repair.{State, own, clears, works, resumed}
-use Rattle.ceal_theory.specs.Turns.{Frames, Bottom, Running as MachineRunning, Machine, Turn, Went, opened, making, reading, acting}
+use Rattle.ceal_theory.specs.Moves.{Frames, Bottom, Running as MachineRunning, Machine, Move, Went, mode_inside, alloc_move, read_move, act_move}
 use Rattle.ceal_adjust.specs.Closures.{find_closure}
 use Rattle.ceal_adjust.specs.Machines.{code_of, state_in, frames_in, after, left_over, machine_of, machine_in}
 use Rattle.ceal_adjust.specs.declared.frame.Frame.{Frame}
@@ -41,7 +41,7 @@ resumed-in code stack under c now e l = e ∙ ap (entered code c.unit.0 (words_a
 pub open-stale : (code : Code) (s : State) (fs : List Frame) (is : List Item) (stack under : CodeStack) (same : Bool) (c : Closure) (now : Word)
     → same ≡ false → stack_in stack ≡ entered code c.unit.0 (words_after_read code c.unit.0 c.var c.args now) (stack_in under) → stack_in under ≡ Empty
     → machine_of IsRunning s stack 1 fs is
-    ≡ record { state = s; mode = opened code same c.unit c.var c.args now (first (levels is)); frames = frames_in (reverse fs) (around (levels is)) }
+    ≡ record { state = s; mode = mode_inside code same c.unit c.var c.args now (first (levels is)); frames = frames_in (reverse fs) (around (levels is)) }
 unfolding machine_of
 open-stale code s fs is stack under same c now e l n = rw (e, resumed-in code stack under c now l n, loose-one (levels is)) refl
 
@@ -58,7 +58,7 @@ pub make-taken : (code : Code) (s t : State) (fs : List Frame) (is : List Item) 
     (f : FoundAlloc) (stack : CodeStack)
     → find_alloc key n is ≡ Some f → stack_in stack ≡ Run u i (set env v (pointer key f.block)) below → t ≡ clears code (works s) f.block key
     → Went (Step ∷ Alloc f.block key ∷ []) (machine_of IsRunning t stack f.levels fs f.rest)
-    ≡ making code own s (frames_in (reverse fs) (beyond n (levels is))) key v u i env below (loose n (levels is)) (taken_alloc (find_alloc key n is))
+    ≡ alloc_move code own s (frames_in (reverse fs) (beyond n (levels is))) key v u i env below (loose n (levels is)) (taken_alloc (find_alloc key n is))
 unfolding machine_of
 make-taken code s t fs is n key v u i env below f stack e k a = rw (e, k, a, found-beyond key is n f e) refl
 
@@ -66,21 +66,21 @@ make-taken code s t fs is n key v u i env below f stack e k a = rw (e, k, a, fou
 pub read-taken : (code : Code) (s t : State) (fs gs : List Frame) (is : List Item) (n : ℕ) (c : Closure)
     (below : CodeStack) (f : FoundRead) (same : Bool) (now : Word) (m : Machine)
     → now ≡ s.store c.place → t ≡ works s → find_closure c n is ≡ Some f → gs ≡ fs ++ Mend below f.levels ∷ [] → same ≡ same_word now f.value
-    → m ≡ record { state = t; mode = opened code same c.unit c.var c.args now (first (levels f.rest)); frames = frames_in (reverse gs) (around (levels f.rest)) }
+    → m ≡ record { state = t; mode = mode_inside code same c.unit c.var c.args now (first (levels f.rest)); frames = frames_in (reverse gs) (around (levels f.rest)) }
     → Went (Step ∷ Read c.place now c.unit c.var c.args ∷ []) m
-    ≡ reading code s (frames_in (reverse fs) (beyond n (levels is))) c.place c.unit c.var c.args (stack_in below) (loose n (levels is)) (taken_read (find_closure c n is))
+    ≡ read_move code s (frames_in (reverse fs) (beyond n (levels is))) c.place c.unit c.var c.args (stack_in below) (loose n (levels is)) (taken_read (find_closure c n is))
 read-taken code s t fs gs is n c below f same now m a b e g h k =
     rw (k, e, h, a, b, g, frames-push fs (Mend below f.levels), found-beyond-read c.place c.unit c.var c.args is n f e) refl
 
 -- what is taken is what is found
-pub acts-makes : (code : Code) (s : State) (fs : Frames) (is : List Item) (n : ℕ) (key : Key) (v u i : ℕ) (env : Variables) (below : Stack) (t : Turn) (a : Act)
+pub acts-makes : (code : Code) (s : State) (fs : Frames) (is : List Item) (n : ℕ) (key : Key) (v u i : ℕ) (env : Variables) (below : Stack) (t : Move) (a : Act)
     → a ≡ Makes key v u i env below
-    → t ≡ making code own s fs key v u i env below (loose n (levels is)) (taken_alloc (find_alloc key n is)) → t ≡ acting code own s fs (loose n (levels is)) a
+    → t ≡ alloc_move code own s fs key v u i env below (loose n (levels is)) (taken_alloc (find_alloc key n is)) → t ≡ act_move code own s fs (loose n (levels is)) a
 acts-makes code s fs is n key v u i env below t a e k = rw (e, take-found key is n) k
 
-pub acts-reads : (code : Code) (s : State) (fs : Frames) (is : List Item) (n : ℕ) (c : Closure) (below : Stack) (t : Turn) (a : Act)
+pub acts-reads : (code : Code) (s : State) (fs : Frames) (is : List Item) (n : ℕ) (c : Closure) (below : Stack) (t : Move) (a : Act)
     → a ≡ Reads c.place c.unit c.var c.args below
-    → t ≡ reading code s fs c.place c.unit c.var c.args below (loose n (levels is)) (taken_read (find_closure c n is)) → t ≡ acting code own s fs (loose n (levels is)) a
+    → t ≡ read_move code s fs c.place c.unit c.var c.args below (loose n (levels is)) (taken_read (find_closure c n is)) → t ≡ act_move code own s fs (loose n (levels is)) a
 acts-reads code s fs is n c below t a e k = rw (e, take-found-read c.place c.unit c.var c.args is n) k
 
 -- the machine, part by part
@@ -94,7 +94,7 @@ make-bare : (old new : Repair) (key : Key) (v u i : ℕ) (env : Variables) (bloc
     → stack_in new.stack ≡ Run u i (set env v (pointer key block)) (stack_in old.stack)
     → find_alloc key old.levels (drop old.rest old.items) ≡ Some (record { block = block; rest = drop at old.items; levels = n })
     → Went (Step ∷ Alloc block key ∷ []) (machine_in new)
-    ≡ making (code_of old) own (state_in old) (after old old.levels) key v u i env (stack_in old.stack) (left_over old) (taken_alloc (find_alloc key old.levels (drop old.rest old.items)))
+    ≡ alloc_move (code_of old) own (state_in old) (after old old.levels) key v u i env (stack_in old.stack) (left_over old) (taken_alloc (find_alloc key old.levels (drop old.rest old.items)))
 make-bare old new key v u i env block at n m rest state stack find =
     ap (Went (Step ∷ Alloc block key ∷ []))
     (machine-by new IsRunning (clears (code_of old) (works (state_in old)) block key) new.stack n old.frames.items (drop at old.items)
@@ -110,7 +110,7 @@ pub make-some : (old stepped new : Repair) (key : Key) (v u i : ℕ) (env : Vari
     → stack_in new.stack ≡ Run u i (set env v (pointer key block)) (stack_in stepped.stack)
     → find_alloc key stepped.levels (drop stepped.rest stepped.items) ≡ Some (record { block = block; rest = drop at stepped.items; levels = n })
     → Went (Step ∷ Alloc block key ∷ []) (machine_in new)
-    ≡ making (code_of old) own (state_in old) (after old old.levels) key v u i env (stack_in old.stack) (left_over old) (taken_alloc (find_alloc key old.levels (drop old.rest old.items)))
+    ≡ alloc_move (code_of old) own (state_in old) (after old old.levels) key v u i env (stack_in old.stack) (left_over old) (taken_alloc (find_alloc key old.levels (drop old.rest old.items)))
 make-some old stepped new key v u i env block at n m e rest state stack find =
     make-bare old new key v u i env block at n m (rw e at rest) (rw e at state) (rw e at stack) (rw e at find)
 

@@ -21,13 +21,13 @@ use Rattle.ceal_adjust.specs.Slicing.{Comes}
 use Rattle.ceal_adjust.specs.declared.adjust.Adjusted.TheVariants.{Done as IsDone, OutOfFuel}
 use Rattle.ceal_adjust.specs.declared.mark.Mark.TheVariants.{Closed}
 use Rattle.ceal_adjust.specs.declared.slices.Sliced.TheVariants.{Done as Ends, Spent}
-use Rattle.ceal_theory.specs.Computed.{anew, adjusted}
+use Rattle.ceal_theory.specs.Computed.{rerun, adjusted}
 use Rattle.ceal_theory.specs.Levels.{find_read}
 use Rattle.ceal_theory.specs.Slices.{beginning, sliced, is_done, with_inputs, starting}
 
 -- the trace of a run on 4 is repaired where a is 9: one step is re-executed
 repaired : IsAnswer (adjusted inc (inputs 9 0) 0 2 (items 4 5)) (fresh inc 0 args (inputs 9 0) 2) (IsDone (flat (items 9 10)) 1)
-unfolding adjusted anew fresh run next stack_after_quiet chosen bound woven set unset expr_value values bases input_plain
+unfolding adjusted rerun fresh run next stack_after_quiet chosen bound woven set unset expr_value values bases input_plain
     plain_of stored hidden-the_row-CodeExpr-0 shape-the_row-CodeExpr-0 denote.Hole.Carrier.hidden
 repaired = record {
   items = items 9 10;
@@ -39,7 +39,7 @@ repaired = record {
 
 -- nothing has changed: nothing is re-executed
 unchanged : IsAnswer (adjusted inc (inputs 4 7) 0 2 (items 4 5)) (fresh inc 0 args (inputs 4 7) 2) (IsDone (flat (items 4 5)) 0)
-unfolding adjusted anew fresh run next stack_after_quiet chosen bound woven set unset expr_value values bases input_plain
+unfolding adjusted rerun fresh run next stack_after_quiet chosen bound woven set unset expr_value values bases input_plain
     plain_of stored hidden-the_row-CodeExpr-0 shape-the_row-CodeExpr-0 denote.Hole.Carrier.hidden
 unchanged = record {
   items = items 4 5;
@@ -51,13 +51,13 @@ unchanged = record {
 
 -- a run from scratch takes two steps, and with fuel for one there is no repair
 out_of_fuel : IsAnswer (adjusted inc (inputs 9 0) 0 1 (items 4 5)) (fresh inc 0 args (inputs 9 0) 1) OutOfFuel
-unfolding adjusted anew fresh run next stack_after_quiet chosen bound woven set unset expr_value values bases input_plain
+unfolding adjusted rerun fresh run next stack_after_quiet chosen bound woven set unset expr_value values bases input_plain
     plain_of stored hidden-the_row-CodeExpr-0 shape-the_row-CodeExpr-0 denote.Hole.Carrier.hidden
 out_of_fuel = refl
 
 -- the same in a slice of one read, after which none is stale
 in_a_slice : Comes inc (inputs 9 0) (Some 1) 2 (beginning inc (inputs 9 0) (items 4 5) 0) (Ends (record { forest = flat (items 9 10); known = []; next = 0; spent = 1 }))
-unfolding sliced is_done with_inputs starting anew knowing next stack_after_quiet chosen bound woven set unset expr_value
+unfolding sliced is_done with_inputs starting rerun knowing next stack_after_quiet chosen bound woven set unset expr_value
     values bases input_plain plain_of stored hidden-the_row-CodeExpr-0 shape-the_row-CodeExpr-0
     denote.Hole.Carrier.hidden
 in_a_slice = record {
@@ -69,7 +69,7 @@ in_a_slice = record {
 
 -- without a step no slice is there
 no_slice : Comes inc (inputs 9 0) (Some 1) 0 (beginning inc (inputs 9 0) (items 4 5) 0) Spent
-unfolding sliced with_inputs starting anew next stack_after_quiet chosen bound woven set unset expr_value values bases
+unfolding sliced with_inputs starting rerun next stack_after_quiet chosen bound woven set unset expr_value values bases
     input_plain plain_of stored hidden-the_row-CodeExpr-0 shape-the_row-CodeExpr-0 denote.Hole.Carrier.hidden
 no_slice = refl
 

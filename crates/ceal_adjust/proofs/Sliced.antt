@@ -40,7 +40,7 @@ use Rattle.ceal_theory.specs.Laws.{Edited}
 use Rattle.ceal_theory.specs.Repair.{State, own, resumed}
 use Rattle.ceal_theory.specs.SliceLaws.{FirstStale, Turned, Turns, unit_alone}
 use Rattle.ceal_theory.specs.Slices.{Repair, Part, Runs, Slices, sliced, repair_at, goes_on, beginning, with_inputs, starting, RepairHolds, is_done}
-use Rattle.ceal_theory.specs.Turns.{Machine, Running, Bottom, BecomesBy}
+use Rattle.ceal_theory.specs.Moves.{Machine, Running, Bottom, BecomesBy}
 use Rattle.ceal_theory.proofs.Store.Walk.{agrees-front}
 use Rattle.ceal_theory.specs.Walk.{store_after, AgreesAll}
 

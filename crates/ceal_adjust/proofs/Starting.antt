@@ -14,7 +14,7 @@ use Rattle.ceal_code.specs.Value.{Plain}
 use Rattle.ceal_code.specs.declared.stack.Stack.{Stack as CodeStack}
 use Rattle.ceal_theory.proofs.Reuse.FlatTake.{first-of-flat}
 use Rattle.ceal_adjust.proofs.Completing.{begin, begin-fix}
-use Rattle.ceal_theory.specs.Turns.{Machine}
+use Rattle.ceal_theory.specs.Moves.{Machine}
 use Rattle.ceal_adjust.specs.Answers.{Answered}
 use Rattle.ceal_adjust.specs.Machines.{machine_of}
 use Rattle.ceal_adjust.specs.declared.adjust.Adjusted.{Adjusted}

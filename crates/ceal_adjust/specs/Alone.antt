@@ -16,7 +16,7 @@ use Rattle.ceal_adjust.specs.declared.turn.Ran.{Ran}
 use Rattle.ceal_theory.specs.Levels.{first, levels}
 use Rattle.ceal_theory.specs.Repair.{State, resumed}
 use Rattle.ceal_theory.specs.Slices.{Repair, with_inputs, starting}
-use Rattle.ceal_theory.specs.Turns.{Machine, Running, Bottom}
+use Rattle.ceal_theory.specs.Moves.{Machine, Running, Bottom}
 use Rattle.ceal_theory.specs.Walk.{store_after}
 
 -- the state in which the unit begins

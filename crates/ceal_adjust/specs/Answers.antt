@@ -6,7 +6,7 @@ use Rattle.ceal_base.specs.declared.forest.Item.{Item}
 use Rattle.ceal_code.specs.Program.{Code}
 use Rattle.ceal_theory.specs.Computed.{Repaired}
 use Rattle.ceal_theory.specs.Repair.{State, own}
-use Rattle.ceal_theory.specs.Turns.{Machine, Ended, turn, Finishes, BecomesBy}
+use Rattle.ceal_theory.specs.Moves.{Machine, Ended, next_move, Finishes, BecomesBy}
 use Rattle.ceal_adjust.specs.declared.adjust.Adjusted.{Adjusted}
 use Rattle.ceal_adjust.specs.declared.adjust.Adjusted.TheVariants.{Done, OutOfFuel}
 use Rattle.ceal_adjust.specs.declared.complete.Limit.{Limit}
@@ -25,7 +25,7 @@ Keeps (Work n) steps work = work ≤ n
 pub record HasEnded (code : Code) (limit : Limit) (start : Machine) (out : List Item) : Type 0 where
   pub machine : Machine
   pub leads : BecomesBy code own start machine out
-  pub ended : turn code own machine ≡ Ended
+  pub ended : next_move code own machine ≡ Ended
   pub within : Keeps limit (steps_in out) machine.state.work
 
 -- and its state is this one

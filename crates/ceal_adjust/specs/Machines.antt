@@ -9,8 +9,8 @@ use Rattle.ceal_code.specs.Tables.{code_in, plain_in, store_in}
 use Rattle.ceal_code.specs.declared.stack.Stack.{Stack as CodeStack}
 use Rattle.ceal_theory.specs.Levels.{first, around, levels, loose, beyond}
 use Rattle.ceal_theory.specs.Repair.{State}
-use Rattle.ceal_theory.specs.Turns.{Fixing, Running, Frames, Bottom, AfterFix, AfterMend, AfterRun, Machine, Turn}
-use Rattle.ceal_theory.specs.Turns.{Ended, Went}
+use Rattle.ceal_theory.specs.Moves.{Fixing, Running, Frames, Bottom, AfterFix, AfterMend, AfterRun, Machine, Move}
+use Rattle.ceal_theory.specs.Moves.{Ended, Went}
 use Rattle.ceal_adjust.specs.declared.frame.Frame.{Frame}
 use Rattle.ceal_adjust.specs.declared.frame.Frame.TheVariants.{Fix, Mend, Run}
 use Rattle.ceal_adjust.specs.declared.frame.Mode.{Mode as CodeMode}
@@ -76,6 +76,6 @@ written true i = Step ∷ item_list i
 written false i = item_list i
 
 -- a turn, where the machine after it is this one
-abbrev pub turn_in : CodeTurn → Machine → Turn
+abbrev pub turn_in : CodeTurn → Machine → Move
 turn_in HasEnded m = Ended
 turn_in (HasGone stepped i) m = Went (written stepped i) m

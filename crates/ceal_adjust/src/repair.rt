@@ -7,7 +7,7 @@ ghost use Rattle.ceal_code.specs.Stacks.{stack_in};
 ghost use Rattle.ceal_code.specs.Tables.{code_in, plain_in, store_in};
 ghost use Rattle.ceal_theory.specs.Levels.{first, around};
 ghost use Rattle.ceal_theory.specs.Repair.{own};
-ghost use Rattle.ceal_theory.specs.Turns.{closed, opened, turn};
+ghost use Rattle.ceal_theory.specs.Moves.{closing_move, mode_inside, next_move};
 ghost use Rattle.ceal_adjust.specs.Machines.{code_of, state_in, frames_in, ahead, after, left_over, machine_of};
 ghost use Rattle.ceal_adjust.specs.Machines.{machine_in, turn_in};
 
@@ -169,7 +169,8 @@ impl<'a> Repair<'a> {
     fn close(&mut self) -> Turn
         ensures code { code_of self.new ≡ code_of self.old }
         ensures turn { turn_in result (machine_in self.new)
-            ≡ closed (state_in self.old) (left_over self.old) (after self.old self.old.levels) }
+            ≡ closing_move (state_in self.old) (left_over self.old)
+            (after self.old self.old.levels) }
         ensures state { state_in self.new ≡ state_in self.old }
     {
         match self.frames.pop() {
@@ -198,8 +199,8 @@ impl<'a> Repair<'a> {
         ensures code { OnOk result (code_of self.new ≡ code_of self.old) }
         ensures machine { OnOk result (machine_in self.new ≡ record {
           state = state_in self.old;
-          mode = opened (code_of self.old) same closure.now.unit closure.now.var closure.now.args
-              now (first (ahead self.old));
+          mode = mode_inside (code_of self.old) same closure.now.unit closure.now.var
+              closure.now.args now (first (ahead self.old));
           frames = frames_in (reverse self.old.frames.items) (around (ahead self.old));
         }) }
     {
@@ -217,10 +218,10 @@ impl<'a> Repair<'a> {
 
     /// One turn: it writes a step, moves on in the old items, or ends a read. After running out of memory the repair
     /// must not be used any more.
-    #[tactic(auto, unfolding(crate::specs::Machines::machine_of, ceal_theory::specs::Turns::turn))]
+    #[tactic(auto, unfolding(crate::specs::Machines::machine_of, ceal_theory::specs::Moves::next_move))]
     pub fn turn(&mut self) -> Result<Turn, NoMemory>
         ensures code { OnOk result (code_of self.new ≡ code_of self.old) }
-        ensures turn { IfOk result (λ t. turn (code_of self.old) own (machine_in self.old)
+        ensures turn { IfOk result (λ t. next_move (code_of self.old) own (machine_in self.old)
             ≡ turn_in t (machine_in self.new)) }
         ensures still { IfOk result
             (λ t. t ≡ Turn.Ended → state_in self.new ≡ state_in self.old) }

@@ -1,6 +1,6 @@
 -- Blocks at their defaults, and reads and writes of them.
 use Rattle.std.proofs.Common.{◌≡◌, pos, List, [], ◌∷◌, refl}
-use Rattle.ceal_base.specs.Access.{field_of, address_of, content_of, written}
+use Rattle.ceal_base.specs.Access.{field_of, address_of, content_of, memory_after_write}
 use Rattle.ceal_base.specs.Block.{Block, Blocks}
 use Rattle.ceal_base.specs.Shapes.{default_block}
 use Rattle.ceal_base.specs.declared.kind.FieldKind.TheVariants.{Plain, CellPtr}
@@ -37,11 +37,11 @@ a_head_through_null = refl
 its_tail : address_of (one Null) 0 (BlockWord (Core 0)) 1 ≡ tail
 its_tail = refl
 
-a_write : written (one Null) tail (BlockWord (Core 0)) ≡ one (BlockWord (Core 0))
+a_write : memory_after_write (one Null) tail (BlockWord (Core 0)) ≡ one (BlockWord (Core 0))
 a_write = refl
 
 a_read : content_of (one (BlockWord (Core 0))) tail Null ≡ BlockWord (Core 0)
 a_read = refl
 
-a_write_through_null : written (one Null) Null (Num (pos 1)) ≡ one Null
+a_write_through_null : memory_after_write (one Null) Null (Num (pos 1)) ≡ one Null
 a_write_through_null = refl

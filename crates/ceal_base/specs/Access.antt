@@ -54,11 +54,11 @@ content_of m Null default = default
 content_of m (BlockWord b) default = default
 
 -- `write`: the memory with another content of the modifiable; through null, the same memory
-abbrev pub written : Blocks → Word → Word → Blocks
-written m (At p) word = written_at m p.block p.field word
-written m (Num n) word = m
-written m Null word = m
-written m (BlockWord b) word = m
+abbrev pub memory_after_write : Blocks → Word → Word → Blocks
+memory_after_write m (At p) word = written_at m p.block p.field word
+memory_after_write m (Num n) word = m
+memory_after_write m Null word = m
+memory_after_write m (BlockWord b) word = m
 
 -- a condition: a number is true where it is not 0, and no other word is
 abbrev pub holds : Word → Bool

@@ -25,14 +25,14 @@ block_at m (Input n) = slice_get m.inputs n
 block_at m (Core n) = slice_get m.made n
 
 -- the blocks with another word at a field of one of them; where there is no such field they are the same
-abbrev pub changed : List Block → Option Block → ℕ → ℕ → Word → List Block
-changed blocks None at field word = blocks
-changed blocks (Some block) at field word =
+abbrev pub with_field : List Block → Option Block → ℕ → ℕ → Word → List Block
+with_field blocks None at field word = blocks
+with_field blocks (Some block) at field word =
     slice_set blocks at (record block { words = slice_set block.words field word })
 
 -- blocks with another word at a field of one
 abbrev pub with_word : List Block → ℕ → ℕ → Word → List Block
-with_word blocks at field word = changed blocks (slice_get blocks at) at field word
+with_word blocks at field word = with_field blocks (slice_get blocks at) at field word
 
 -- a memory with another word at a field of one block
 abbrev pub written_at : Blocks → BlockId → ℕ → Word → Blocks

@@ -6,10 +6,10 @@ abbrev pub is_digit : ℕ → Bool
 is_digit b = nat_le 48 b && nat_le b 57
 
 -- a number n with the digits after it
-unfoldable pub continued : ℕ → List ℕ → ℕ
-continued n [] = n
-continued n (b ∷ bs) = continued (10 * n + (b - 48)) bs
+unfoldable pub number_with_digits : ℕ → List ℕ → ℕ
+number_with_digits n [] = n
+number_with_digits n (b ∷ bs) = number_with_digits (10 * n + (b - 48)) bs
 
 -- the decimal number that digits spell
 abbrev pub number_of : List ℕ → ℕ
-number_of digits = continued 0 digits
+number_of digits = number_with_digits 0 digits

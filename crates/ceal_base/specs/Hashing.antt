@@ -40,6 +40,6 @@ abbrev pub mixed : ℕ → ℕ → ℕ
 mixed digest number = scrambled ((digest + number) % 2 ^ 64)
 
 -- a digest with words after it
-unfoldable pub digest_behind : ℕ → List Word → ℕ
-digest_behind digest [] = digest
-digest_behind digest (w ∷ ws) = digest_behind (mixed digest (word_digest w)) ws
+unfoldable pub digest_after : ℕ → List Word → ℕ
+digest_after digest [] = digest
+digest_after digest (w ∷ ws) = digest_after (mixed digest (word_digest w)) ws

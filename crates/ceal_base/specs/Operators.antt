@@ -87,13 +87,13 @@ element row p (pos i) =
 element row p (negsuc i) = Null
 
 -- the element of a row at an index; null, where the words are no address and no number
-abbrev pub picked : ℕ → Word → Word → Word
-picked row (At p) (Num i) = element row p i
-picked row _ _ = Null
+abbrev pub picked_element : ℕ → Word → Word → Word
+picked_element row (At p) (Num i) = element row p i
+picked_element row _ _ = Null
 
 -- what an operator on two words gives
 abbrev pub binary_value : Binary → Word → Word → Word
 binary_value Same a b = truth (same_word a b)
 binary_value Differ a b = truth (not (same_word a b))
-binary_value (Pick row) a b = picked row a b
+binary_value (Pick row) a b = picked_element row a b
 binary_value op a b = numbers_value op (number_of a) (number_of b)

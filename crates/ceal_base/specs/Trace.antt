@@ -67,12 +67,13 @@ abbrev pub trace_of : List Item → Option Trace
 trace_of is = only (traces is)
 
 -- the items of the one, and then those of the other
-abbrev pub followed : Trace → Trace → Trace
-followed Nothing t = t
-followed (Stepped rest) t = Stepped (followed rest t)
-followed (Allocated block key rest) t = Allocated block key (followed rest t)
-followed (Wrote place value rest) t = Wrote place value (followed rest t)
-followed (WasRead place value unit var args inside rest) t = WasRead place value unit var args inside (followed rest t)
+abbrev pub trace_then : Trace → Trace → Trace
+trace_then Nothing t = t
+trace_then (Stepped rest) t = Stepped (trace_then rest t)
+trace_then (Allocated block key rest) t = Allocated block key (trace_then rest t)
+trace_then (Wrote place value rest) t = Wrote place value (trace_then rest t)
+trace_then (WasRead place value unit var args inside rest) t = WasRead place value unit var args inside
+    (trace_then rest t)
 
 -- how many steps are among the items
 abbrev pub steps_in : List Item → ℕ

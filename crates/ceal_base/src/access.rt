@@ -3,7 +3,8 @@
 ghost use Rattle.std.specs.Prelude.{◌≡◌, ◌==◌, Option, Some, None};
 ghost use Rattle.std.specs.Option.{option_map};
 ghost use Rattle.ceal_base.specs.Block.{block_at};
-ghost use Rattle.ceal_base.specs.Access.{pointed, of_struct, word_in, field_of, address_of, content_of, written, holds};
+ghost use Rattle.ceal_base.specs.Access.{pointed, of_struct, word_in, field_of, address_of, content_of};
+ghost use Rattle.ceal_base.specs.Access.{memory_after_write, holds};
 
 use crate::memory::{BlockWords, Memory};
 use crate::operators::number;
@@ -86,7 +87,7 @@ pub fn content(memory: &Memory, word: Word, default: Word) -> Word
 
 /// Gives a modifiable another content; through null it does nothing.
 pub fn write(memory: &mut Memory, at: Word, word: Word)
-    ensures state { memory.new ≡ written memory.old at word }
+    ensures state { memory.new ≡ memory_after_write memory.old at word }
 {
     if let Word::At(place) = at {
         memory.set(place, word);

@@ -1,7 +1,7 @@
 // The operators of the language, which are total. Numbers have 64 bits and wrap, as C's unsigned arithmetic does.
 
 ghost use Rattle.std.specs.Prelude.{◌≡◌};
-ghost use Rattle.ceal_base.specs.Operators.{number_of, truth, unary_value, binary_value, element, picked};
+ghost use Rattle.ceal_base.specs.Operators.{number_of, truth, unary_value, binary_value, element, picked_element};
 
 use crate::word::{Place, Word};
 
@@ -81,7 +81,7 @@ fn row_element(row: u32, first: Place, index: i64) -> Word
 }
 
 fn picked_word(row: u32, first: Word, index: Word) -> Word
-    ensures value { result ≡ picked row first index }
+    ensures value { result ≡ picked_element row first index }
 {
     match (first, index) {
         (Word::At(first), Word::Num(index)) => row_element(row, first, index),

@@ -5,7 +5,7 @@ ghost use Rattle.std.specs.Cmp.Lexicographic.{pointwise, lists_per, lists_equiv}
 ghost use Rattle.std.specs.Hash as fed;
 ghost use Rattle.ceal_base.specs.contracts.word.WordPartialEq.TheImpl.Laws as word_eq;
 ghost use Rattle.ceal_base.specs.contracts.word.WordEq.TheImpl.Laws as word_equal;
-ghost use Rattle.ceal_base.specs.Hashing.{digest_behind};
+ghost use Rattle.ceal_base.specs.Hashing.{digest_after};
 ghost use Rattle.std.proofs.Common.{rules};
 ghost use Rattle.std.proofs.Common.{refl};
 ghost use Rattle.std.proofs.lemmas.Slice.Eq.{slice_eq-Decides};
@@ -152,7 +152,7 @@ impl Eq for Words {
 
 // Many words as one number, so that a hasher is fed once.
 fn digest(words: &[Word]) -> u64
-    ensures digest { result ≡ digest_behind 0 words.now }
+    ensures digest { result ≡ digest_after 0 words.now }
 {
     let mut digest = 0;
     for word in words {
@@ -162,9 +162,9 @@ fn digest(words: &[Word]) -> u64
 }
 
 impl Hash for Words {
-    ghost hash_input = { λ v. fed.u64 (digest_behind 0 v) };
+    ghost hash_input = { λ v. fed.u64 (digest_after 0 v) };
 
-    ghost respects_eq = { (same_Alike (λ v. fed.u64 (digest_behind 0 v))
+    ghost respects_eq = { (same_Alike (λ v. fed.u64 (digest_after 0 v))
         (λ v w. slice_eq-Decides (λ a b. Prim.search rules) v w _ refl)).fed };
 
     fn hash<H: Hasher>(&self, state: &mut H) {

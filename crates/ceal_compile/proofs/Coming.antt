@@ -6,16 +6,16 @@ use Rattle.ceal_lex.specs.declared.parts.Split.{Split}
 use Rattle.ceal_lex.specs.declared.token.Token.{Token}
 use Rattle.ceal_lex.specs.Faults.{IsFirstFault as IsFirstMisspelling}
 use Rattle.ceal_lex.specs.Parts.{IsSplit, source_of}
-use Rattle.ceal_lex.specs.Tokens.{AreTokens, IsEnded, ending, tokens_from}
+use Rattle.ceal_lex.specs.Tokens.{AreTokens, IsEnded, last_token, tokens_from}
 use Rattle.ceal_grammar.specs.Faults.{Accepts, IsFirstFault}
 use Rattle.ceal_compile.specs.Phases.{settled, TokensCome}
 use Rattle.ceal_compile.specs.Source.{PartComes, Comes}
 use Rattle.ceal_compile.proofs.Answering.{Answer}
 
 -- the last token of a source is an end
-last_ends : (marked : Bool) (n : ℕ) (tokens before : List Token) → tokens ≡ before ++ ending marked n ∷ [] → IsEnded tokens
-last_ends true n tokens before e = record { before = before; last = ending true n; whole = e; kind = inl refl }
-last_ends false n tokens before e = record { before = before; last = ending false n; whole = e; kind = inr refl }
+last_ends : (marked : Bool) (n : ℕ) (tokens before : List Token) → tokens ≡ before ++ last_token marked n ∷ [] → IsEnded tokens
+last_ends true n tokens before e = record { before = before; last = last_token true n; whole = e; kind = inl refl }
+last_ends false n tokens before e = record { before = before; last = last_token false n; whole = e; kind = inr refl }
 
 module _ (split : (input : List ℕ) → length input < 2 ^ 32 → (p : Split) × IsSplit input p)
     (lexed : (source : List ℕ) (marked : Bool) → ((ts : List Token) × AreTokens source marked ts) ⊎ ((f : Fault) × IsFirstMisspelling source f))

@@ -16,7 +16,7 @@ use Rattle.ceal_grammar.specs.Grammar.{MembersProper, Part, structure, function,
 use Rattle.ceal_grammar.specs.Spelled.{Mark, spelled, spelled_type, spelled_more, spelled_arguments, spelled_given}
 use Rattle.ceal_grammar.specs.Spelled.{spelled_statement, spelled_branch, spelled_otherwise, spelled_block}
 use Rattle.ceal_grammar.specs.Spelled.{spelled_statements, spelled_others, spelled_parameters, spelled_signature}
-use Rattle.ceal_grammar.specs.Spelled.{counted, spelled_size, spelled_members, spelled_part, spelled_parts}
+use Rattle.ceal_grammar.specs.Spelled.{fields_up_to, spelled_size, spelled_members, spelled_part, spelled_parts}
 use Rattle.ceal_grammar.specs.Trees.{type_form, sized_form, member_trees, other_trees, parameter_trees, part_tree, part_trees}
 use Rattle.ceal_types.specs.Heads.{row_of}
 use Rattle.ceal_types.specs.Limits.{width, fields_in, IsShort, HasShortLists}
@@ -103,7 +103,7 @@ mutual
   after_statements d (followed s ss) rest h = after_statements d ss rest (after_statement d s _ h)
 
 -- a member is one field, or as many as its row is long
-width_is : (w : Written) (s : Size) (c : ℕ) → SizeProper w s → counted c s ≡ c + width (row_of (sized_form (type_form w) s))
+width_is : (w : Written) (s : Size) (c : ℕ) → SizeProper w s → fields_up_to c s ≡ c + width (row_of (sized_form (type_form w) s))
 width_is (int s) single c h = omega arith
 width_is (pointer s x t) single c h = omega arith
 width_is (mod_int s k t) single c h = omega arith
@@ -123,7 +123,7 @@ after_size c single rest h = h
 after_size c (row l n a r) rest h = h.1.1.1
 
 -- the last of them is an item
-size_item : (c : ℕ) (s : Size) (rest : List Mark) → suc c ≤ 255 → AllWithin (spelled_size c s rest) → counted c s ≤ 255
+size_item : (c : ℕ) (s : Size) (rest : List Mark) → suc c ≤ 255 → AllWithin (spelled_size c s rest) → fields_up_to c s ≤ 255
 unfolding AllWithin
 size_item c single rest few h = few
 size_item c (row l n a r) rest few h = let here = h.1.0 in here.item
@@ -137,13 +137,13 @@ members_short c (m ∷ ms) rest proper few h =
     let named = after_type 1 (suc c) m.type _ h in
     let item = size_item c m.size _ (type_item 1 (suc c) m.type _ h) named.1 in
     let wide = width_is m.type m.size c proper.0 in
-    let more = members_short (counted c m.size) ms rest proper.1 item (after_size c m.size _ named.1).1 in omega (arith, more, wide)
+    let more = members_short (fields_up_to c m.size) ms rest proper.1 item (after_size c m.size _ named.1).1 in omega (arith, more, wide)
 
 after_members : (c : ℕ) (ms : List Member) (rest : List Mark) → AllWithin (spelled_members c ms rest) → AllWithin rest
 unfolding AllWithin spelled_members
 after_members c [] rest h = h
 after_members c (m ∷ ms) rest h =
-    let named = after_type 1 (suc c) m.type _ h in after_members (counted c m.size) ms rest (after_size c m.size _ named.1).1
+    let named = after_type 1 (suc c) m.type _ h in after_members (fields_up_to c m.size) ms rest (after_size c m.size _ named.1).1
 
 -- so are parameters
 others_short : (i : ℕ) (more : List (Span × Parameter)) (rest : List Mark) → i ≤ 256 → AllWithin (spelled_others i more rest) → i + length (other_trees more) ≤ 256

@@ -17,25 +17,25 @@ use Rattle.ceal_cost.specs.Along.{along}
 use Rattle.ceal_cost.specs.Side.{steps_inside}
 use Rattle.ceal_cost.specs.Ways.{way_of, with_items}
 use Rattle.ceal_cost.specs.declared.aligned.Way.TheVariants.{On, Over, Apart}
-use Rattle.ceal_theory.specs.Computed.{anew, adjusted, first_of}
+use Rattle.ceal_theory.specs.Computed.{rerun, adjusted, first_of}
 use Rattle.ceal_theory.specs.Cost.{cost_from}
 use Rattle.ceal_theory.specs.Take.{take_read}
 
 -- where a is 4 on the one side and 9 on the other the reads differ, and the step inside the second one counts
 other_value : first_cost inc 2 (inputs 4 0) (inputs 9 0) 0 args ≡ 1
-unfolding first_of anew cost_from next stack_after_quiet chosen bound woven set unset expr_value values bases input_plain
+unfolding first_of rerun cost_from next stack_after_quiet chosen bound woven set unset expr_value values bases input_plain
     stored take_read hidden-the_row-CodeExpr-0 shape-the_row-CodeExpr-0 denote.Hole.Carrier.hidden
 other_value = refl
 
 -- so much work is the repair
 its_work : adjusted inc (inputs 9 0) 0 2 (items 4 5) ≡ Some (record { items = items 9 10; work = 1 })
-unfolding adjusted anew next stack_after_quiet chosen bound woven set unset expr_value values bases input_plain
+unfolding adjusted rerun next stack_after_quiet chosen bound woven set unset expr_value values bases input_plain
     plain_of stored hidden-the_row-CodeExpr-0 shape-the_row-CodeExpr-0 denote.Hole.Carrier.hidden
 its_work = refl
 
 -- the value of b is not read, and costs nothing
 same_value : first_cost inc 2 (inputs 4 0) (inputs 4 7) 0 args ≡ 0
-unfolding first_of anew cost_from next stack_after_quiet chosen bound woven set unset expr_value values bases input_plain
+unfolding first_of rerun cost_from next stack_after_quiet chosen bound woven set unset expr_value values bases input_plain
     stored take_read hidden-the_row-CodeExpr-0 shape-the_row-CodeExpr-0 denote.Hole.Carrier.hidden
 same_value = refl
 

@@ -47,10 +47,10 @@ use Rattle.ceal_theory.proofs.SlicedRepair.CarriedLaws.{alike, carried-begin-law
 use Rattle.ceal_theory.proofs.Renaming.RenamedSlice.{slice-renamed}
 use Rattle.ceal_theory.proofs.SlicedRepair.SliceLaws.{begin-law, other-names-law, slice-law, slices-law, whole-law, is-done-law}
 use Rattle.ceal_theory.specs.Adjust.{Above}
-use Rattle.ceal_theory.specs.Carried.{Carried, CarriedSlices, counted_anew}
+use Rattle.ceal_theory.specs.Carried.{Carried, CarriedSlices, numbered_from_zero}
 use Rattle.ceal_theory.specs.Laws.{Edited}
 use Rattle.ceal_theory.specs.Repair.{own}
-use Rattle.ceal_theory.specs.Slices.{Repair, beginning, sliced, is_done, RepairHolds, Slices, ComesBehind, RenamedSlices}
+use Rattle.ceal_theory.specs.Slices.{Repair, beginning, sliced, is_done, RepairHolds, Slices, IsOldOrNewPair, RenamedSlices}
 
 -- ---- a new repair begins
 
@@ -168,19 +168,19 @@ module _ (code : Code) (inputs : List Block) (f : ℕ) (args : List Word) (fuel 
 
   -- the slice with the heap's numbers
   module _ (z : Repair) (s : IsSliceOf code inputs k fuel q (Some z)) where
-    anew-sound : RepairHolds code s.names inputs f args (counted_anew q)
+    anew-sound : RepairHolds code s.names inputs f args (numbered_from_zero q)
     anew-sound = other-names-law code part.stands.names s.names inputs f args q part.stands.sound s.single 0 (λ j h. s.off j)
 
-    by-rules : Slices code s.names inputs k (counted_anew q) z
-    by-rules = ((slices-law code s.names inputs k fuel (counted_anew q) z).0 s.is).0
+    by-rules : Slices code s.names inputs k (numbered_from_zero q) z
+    by-rules = ((slices-law code s.names inputs k fuel (numbered_from_zero q) z).0 s.is).0
 
     -- what was known is known still
     pub still-known : (b : ℕ) (block : Block) → q.known (Core b) ≡ Some block → z.known (Core b) ≡ Some block
-    still-known = (slice-law code s.names inputs f args part.fits (counted_anew q) anew-sound k z by-rules).kept
+    still-known = (slice-law code s.names inputs f args part.fits (numbered_from_zero q) anew-sound k z by-rules).kept
 
     -- without a number of reads it is done
     pub whole-done : k ≡ None → IsHonest code inputs z.items
-    whole-done e = whole-law code s.names inputs f args part.fits (counted_anew q) anew-sound z (subst (λ o. Slices code s.names inputs o (counted_anew q) z) e by-rules)
+    whole-done e = whole-law code s.names inputs f args part.fits (numbered_from_zero q) anew-sound z (subst (λ o. Slices code s.names inputs o (numbered_from_zero q) z) e by-rules)
 
 -- The slice is the definition's with its blocks renamed: a block that was known before has the number that it had, and
 -- a new one a number that no block had.
@@ -194,30 +194,30 @@ pub record Renames (code : Code) (next' : ℕ) (before now : Repair) (l m : Trac
 module _ (code : Code) (inputs : List Block) (f : ℕ) (args : List Word) (fuel : ℕ) (q : Repair) (run : Running) (part : IsPartRun code inputs f args fuel q run) (k : Option ℕ) (next' : ℕ) (r : Repair)
     (sound : RepairHolds code own inputs f args r) (carried : Carried code inputs next' r q) (z z' : Repair) (s : IsSliceOf code inputs k fuel q (Some z))
     (is : sliced code own inputs k fuel r ≡ Some z') where
-  names-sound : RepairHolds code s.names inputs f args (counted_anew q)
+  names-sound : RepairHolds code s.names inputs f args (numbered_from_zero q)
   names-sound = anew-sound code inputs f args fuel q run part k z s
 
-  same-carried : Carried code inputs next' r (counted_anew q)
-  same-carried = carried-same-law code inputs next' r q (counted_anew q) carried refl (λ b. refl) refl
+  same-carried : Carried code inputs next' r (numbered_from_zero q)
+  same-carried = carried-same-law code inputs next' r q (numbered_from_zero q) carried refl (λ b. refl) refl
 
   known-none : (b : ℕ) (block : Block) → r.known (Core b) ≡ Some block → r.known (Core b) ≡ None → ⊥
   known-none b block e none = none-some block (sym none ∙ e)
 
-  old-number : (b c : ℕ) → ComesBehind own s.names same-carried.pairs r (counted_anew q) b c → b < next' → b ≡ c
-  old-number b c (ComesBehind.old i) l = same-carried.kept b c i l
-  old-number b c (ComesBehind.new j e e') l = absurd (omega (arith, e, l, same-carried.above))
+  old-number : (b c : ℕ) → IsOldOrNewPair own s.names same-carried.pairs r (numbered_from_zero q) b c → b < next' → b ≡ c
+  old-number b c (IsOldOrNewPair.old i) l = same-carried.kept b c i l
+  old-number b c (IsOldOrNewPair.new j e e') l = absurd (omega (arith, e, l, same-carried.above))
 
-  new-number : (b c : ℕ) → ComesBehind own s.names same-carried.pairs r (counted_anew q) b c → r.known (Core b) ≡ None → q.known (Core c) ≡ None
-  new-number b c (ComesBehind.old i) none = let w = same-carried.left b c i in absurd (known-none b w.0 w.1 none)
-  new-number b c (ComesBehind.new j e e') none = subst (λ d. q.known (Core d) ≡ None) (sym e') (s.off (0 + j))
+  new-number : (b c : ℕ) → IsOldOrNewPair own s.names same-carried.pairs r (numbered_from_zero q) b c → r.known (Core b) ≡ None → q.known (Core c) ≡ None
+  new-number b c (IsOldOrNewPair.old i) none = let w = same-carried.left b c i in absurd (known-none b w.0 w.1 none)
+  new-number b c (IsOldOrNewPair.new j e e') none = subst (λ d. q.known (Core d) ≡ None) (sym e') (s.off (0 + j))
 
   pub renames : Renames code next' r q z'.items z.items
-  renames = of (subst (λ o. RenamedSlices code own s.names inputs same-carried.pairs r (counted_anew q) o (Some z)) is
-      (subst (λ o. RenamedSlices code own s.names inputs same-carried.pairs r (counted_anew q) (sliced code own inputs k fuel r) o) s.is
-      (slice-renamed code inputs part.fits.blocks own s.names own-single s.single same-carried.pairs r (counted_anew q)
-      (alike code s.names inputs f args part.fits r (counted_anew q) sound names-sound next' same-carried) k fuel)))
+  renames = of (subst (λ o. RenamedSlices code own s.names inputs same-carried.pairs r (numbered_from_zero q) o (Some z)) is
+      (subst (λ o. RenamedSlices code own s.names inputs same-carried.pairs r (numbered_from_zero q) (sliced code own inputs k fuel r) o) s.is
+      (slice-renamed code inputs part.fits.blocks own s.names own-single s.single same-carried.pairs r (numbered_from_zero q)
+      (alike code s.names inputs f args part.fits r (numbered_from_zero q) sound names-sound next' same-carried) k fuel)))
     where
-      of : RenamedSlices code own s.names inputs same-carried.pairs r (counted_anew q) (Some z') (Some z) → Renames code next' r q z'.items z.items
+      of : RenamedSlices code own s.names inputs same-carried.pairs r (numbered_from_zero q) (Some z') (Some z) → Renames code next' r q z'.items z.items
       of (RenamedSlices.some qs wide a from) = record {
         pairs = qs;
         one = a.one;

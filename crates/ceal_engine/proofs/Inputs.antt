@@ -3,7 +3,7 @@ use Rattle.std.proofs.Common.{◌≡◌, ℕ, zero, suc, ◌==◌, ◌&&◌, Boo
 use Rattle.std.specs.List.{list_all}
 use Rattle.std.specs.Option.{option_map}
 use Rattle.std.specs.Prelude.{IfSome}
-use Rattle.ceal_base.specs.Block.{Block, block_at, changed, alone}
+use Rattle.ceal_base.specs.Block.{Block, block_at, with_field, alone}
 use Rattle.ceal_base.specs.Fitting.{kind_in, kind_at, fits_field, block_fits, inputs_fit}
 use Rattle.ceal_base.specs.Shapes.{kinds_of_shape, default_of_field}
 use Rattle.ceal_base.specs.declared.kind.FieldKind.{FieldKind}
@@ -93,7 +93,7 @@ module _ (structs : List StructInfo) where
 
   base-is : (inputs : List Block) (n f : ℕ) (w : Word) (block : Block) → slice_get inputs n ≡ Some block
       → with_base inputs (record { block = Input n; field = f }) w ≡ slice_set inputs n (altered block f w)
-  base-is inputs n f w block e = ap (λ o. changed inputs o n f w) e
+  base-is inputs n f w block e = ap (λ o. with_field inputs o n f w) e
 
   length-set : (xs : List Block) (n : ℕ) (x : Block) → length (slice_set xs n x) ≡ length xs
   length-set [] n x = refl
@@ -172,7 +172,7 @@ extended-edit code inputs p w t = of-block p.block t
         → Extended code inputs (with_base inputs (record { block = Input n; field = p.field }) w)
     of-input n None e g = absurd (grind (arith, g))
     of-input n (Some block) e g =
-        subst (λ ys. Extended code inputs ys) (sym (ap (λ o. changed inputs o n p.field w) e)) (extended-set code inputs n p.field w block e g)
+        subst (λ ys. Extended code inputs ys) (sym (ap (λ o. with_field inputs o n p.field w) e)) (extended-set code inputs n p.field w block e g)
 
     of-block : (b : BlockId) → is_cell (kind_in code.structs (block_at (alone inputs) b) p.field) ≡ true → Extended code inputs (with_base inputs (record { block = b; field = p.field }) w)
     of-block (Input n) g = of-input n (slice_get inputs n) refl g

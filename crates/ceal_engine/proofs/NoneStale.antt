@@ -29,7 +29,7 @@ use Rattle.ceal_repair.specs.Propagation.{KeepsFront as KeepsNodes}
 use Rattle.ceal_repair.specs.Slicing.{IsPartRun, IsSliceOf}
 use Rattle.ceal_repair.specs.declared.running.Running.{Running}
 use Rattle.ceal_theory.proofs.SlicedRepair.SliceLaws.{other-names-law, slices-law, turns-law}
-use Rattle.ceal_theory.specs.Carried.{counted_anew}
+use Rattle.ceal_theory.specs.Carried.{numbered_from_zero}
 use Rattle.ceal_theory.specs.SliceLaws.{Turned, Turns}
 use Rattle.ceal_theory.specs.Slices.{Repair, sliced, goes_on, repair_at}
 use Rattle.ceal_trace.specs.Items.{forest_of}
@@ -42,19 +42,19 @@ module _ (code : Code) (inputs : List Block) (f : ℕ) (args : List Word) (fuel 
   few : q.spent ≤ fuel
   few = omega (arith, part.few, part.stands.spent)
 
-  module _ (names : ℕ → ℕ) (turned : Turned code names inputs 0 (counted_anew q) (counted_anew q)) where
+  module _ (names : ℕ → ℕ) (turned : Turned code names inputs 0 (numbered_from_zero q) (numbered_from_zero q)) where
     abbrev same : Repair
-    same = repair_at (goes_on code inputs (counted_anew q)) q.items
+    same = repair_at (goes_on code inputs (numbered_from_zero q)) q.items
 
-    there : (k : Option ℕ) → k ≢ Some 0 → sliced code names inputs k fuel (counted_anew q) ≡ Some same
-    there None some = (slices-law code names inputs None fuel (counted_anew q) same).1 (turned.whole honest, few)
+    there : (k : Option ℕ) → k ≢ Some 0 → sliced code names inputs k fuel (numbered_from_zero q) ≡ Some same
+    there None some = (slices-law code names inputs None fuel (numbered_from_zero q) same).1 (turned.whole honest, few)
     there (Some zero) some = absurd (some refl)
-    there (Some (suc n)) some = (slices-law code names inputs (Some (suc n)) fuel (counted_anew q) same).1 (turned.ended honest (suc n) (omega arith), few)
+    there (Some (suc n)) some = (slices-law code names inputs (Some (suc n)) fuel (numbered_from_zero q) same).1 (turned.ended honest (suc n) (omega arith), few)
 
   pub done-within : (k : Option ℕ) → k ≢ Some 0 → IsSliceOf code inputs k fuel q None → ⊥
   done-within k some s =
       let sound = other-names-law code part.stands.names s.names inputs f args q part.stands.sound s.single 0 (λ j h. s.off j) in
-      let turned = turns-law code s.names inputs f args part.fits (counted_anew q) sound 0 (counted_anew q) Turns.none in
+      let turned = turns-law code s.names inputs f args part.fits (numbered_from_zero q) sound 0 (numbered_from_zero q) Turns.none in
       none-some _ (sym s.is ∙ there s.names turned k some)
 
 -- ---- the run with which a repair is in progress

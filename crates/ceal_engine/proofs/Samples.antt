@@ -18,7 +18,7 @@ use Rattle.ceal_engine.specs.Engine.{EngineState, trace, core, IsRun, IsPresent,
 use Rattle.ceal_engine.specs.Repaired.{first_trace}
 use Rattle.ceal_engine.specs.declared.phase.Phase.{Phase}
 use Rattle.ceal_engine.specs.declared.phase.Phase.TheVariants.{Finished as IsFinished, Pending}
-use Rattle.ceal_theory.specs.Computed.{anew, adjusted, first_of}
+use Rattle.ceal_theory.specs.Computed.{rerun, adjusted, first_of}
 use Rattle.ceal_theory.specs.Take.{take_read}
 
 -- it has run INC where a was 4, and allocated nothing
@@ -56,7 +56,7 @@ unfolding input_plain plain_of bases stored block_after
 a_after = refl
 
 first : first_trace (engine IsFinished 4) ≡ Some (record { items = items 4 5; work = 2 })
-unfolding first_of anew next stack_after_quiet chosen bound woven set unset expr_value values bases input_plain stored take_read hidden-the_row-CodeExpr-0 shape-the_row-CodeExpr-0
+unfolding first_of rerun next stack_after_quiet chosen bound woven set unset expr_value values bases input_plain stored take_read hidden-the_row-CodeExpr-0 shape-the_row-CodeExpr-0
     denote.Hole.Carrier.hidden
 first = refl
 
@@ -101,6 +101,6 @@ is_pending = refl
 
 -- the trace after a propagation: one step is re-executed
 repaired : adjusted inc (engine Pending 9).inputs 0 2 (items 4 5) ≡ Some (record { items = items 9 10; work = 1 })
-unfolding adjusted anew next stack_after_quiet chosen bound woven set unset expr_value values bases input_plain plain_of stored hidden-the_row-CodeExpr-0 shape-the_row-CodeExpr-0
+unfolding adjusted rerun next stack_after_quiet chosen bound woven set unset expr_value values bases input_plain plain_of stored hidden-the_row-CodeExpr-0 shape-the_row-CodeExpr-0
     denote.Hole.Carrier.hidden
 repaired = refl

@@ -24,16 +24,16 @@ use Rattle.ceal_base.specs.declared.typed.TypedStmt.TheViews.{If, While}
 use Rattle.ceal_base.specs.declared.typed.TypedValue.{TypedValue}
 use Rattle.ceal_base.specs.declared.typed.TypedValue.TheVariants.{Plain, Read, Alloc, ModrefInt, Modref}
 use Rattle.ceal_base.specs.declared.word.Word.{Word}
-use Rattle.ceal_mean.specs.Exec.{taken, first_env, entered, given, effect, is_over, settled, stepped, new_block}
+use Rattle.ceal_mean.specs.Exec.{value_given, first_env, frames_at_entry, state_given, effect, is_over, frames_to_run, state_after_item, new_block}
 use Rattle.ceal_mean.specs.Frame.{Item, Do, Again, statement_of, Frame, State}
 use Rattle.ceal_mean.specs.Fresh.{run_settled}
 use Rattle.ceal_mean.specs.Init.{made_by}
 use Rattle.ceal_mean.specs.Jumps.{ready}
 use Rattle.ceal_mean.specs.Value.{value_of, values_of}
 use Rattle.ceal_flow.specs.Blocks.{sizes, all_may_continue, no_loop, in_loop, target, entry, blocks_of, all_blocks}
-use Rattle.ceal_flow.specs.Fresh.{Point, State as GraphState, initialiser_in, taken as graph_taken}
-use Rattle.ceal_flow.specs.Fresh.{entered as graph_entered, given as graph_given, is_over as block_is_over}
-use Rattle.ceal_flow.specs.Fresh.{settled as graph_settled, stepped as graph_stepped, run_settled as graph_run_settled}
+use Rattle.ceal_flow.specs.Fresh.{Point, State as GraphState, initialiser_in, value_given as graph_taken}
+use Rattle.ceal_flow.specs.Fresh.{points_at_entry as graph_entered, state_given as graph_given, is_over as block_is_over}
+use Rattle.ceal_flow.specs.Fresh.{points_to_run as graph_settled, state_after_block as graph_stepped, run_settled as graph_run_settled}
 use Rattle.ceal_flow.specs.Laws.{RunsAs}
 use Rattle.ceal_flow.specs.Lowering.{end_of, first_of, core_blocks, function_at, function_in, blocks_at, graph_of}
 use Rattle.ceal_flow.specs.Program.{Graph}
@@ -130,7 +130,7 @@ module _ (p : Typed) (kept : KeepsUsage p) where
   initialiser-same k u =
       let h = found (slice_get p.functions k) (λ x. IsSome x.initialiser) u in initialiser-of k h.function h.is h.holds
 
-  taken-same : (env : List Word) (m : Blocks) (v : TypedValue) → ValueUsage p.functions v → taken p env m v ≡ graph_taken g env m v
+  taken-same : (env : List Word) (m : Blocks) (v : TypedValue) → ValueUsage p.functions v → value_given p env m v ≡ graph_taken g env m v
   taken-same env m (Plain e) u = refl
   taken-same env m (Read at e) u = refl
   taken-same env m (Alloc at shape f name args) u = ap (λ o. new_block m (made_by p.structs o (values_of env m args) m)) (sym (initialiser-same f u))
@@ -155,16 +155,16 @@ module _ (p : Typed) (kept : KeepsUsage p) where
       }
 
   call-made : (k : ℕ) (f : TypedFunction) (n : ℕ) (args : List Word) → slice_get p.functions k ≡ Some f → f.initialiser ≡ None
-      → slice_get g.functions k ≡ Some (function_at f n) → Placed g.blocks n (blocks_at f n) → AllAlong (entered p k args) (graph_entered g k args)
+      → slice_get g.functions k ≡ Some (function_at f n) → Placed g.blocks n (blocks_at f n) → AllAlong (frames_at_entry p k args) (graph_entered g k args)
   call-made k f n args is none made placed =
       let usage = usage-of p.functions f none (all-at (FunctionUsage p.functions) p.functions k f kept is) in
       let core : Placed g.blocks n (core_blocks f.body n) = rw none at placed in
       rw (is, made, none) (core-along f n args none usage core, tt)
 
-  call-of : (k : ℕ) (f : TypedFunction) (args : List Word) → slice_get p.functions k ≡ Some f → f.initialiser ≡ None → AllAlong (entered p k args) (graph_entered g k args)
+  call-of : (k : ℕ) (f : TypedFunction) (args : List Word) → slice_get p.functions k ≡ Some f → f.initialiser ≡ None → AllAlong (frames_at_entry p k args) (graph_entered g k args)
   call-of k f args is none = let made = made-at p.functions k f is in call-made k f made.start args is none made.function made.placed
 
-  call-along : (k : ℕ) (args : List Word) → IsCore (slice_get p.functions k) → AllAlong (entered p k args) (graph_entered g k args)
+  call-along : (k : ℕ) (args : List Word) → IsCore (slice_get p.functions k) → AllAlong (frames_at_entry p k args) (graph_entered g k args)
   call-along k args u =
       let h = found (slice_get p.functions k) (λ x. IsNone x.initialiser) u in call-of k h.function args h.is (none-is h.function.initialiser h.holds)
 
@@ -271,7 +271,7 @@ module _ (p : Typed) (kept : KeepsUsage p) where
       while-along exits inside false body s n k within one ar two = next-along exits rest k env two ar
 
       given-along : (exits : Exits) (v : ℕ) (value : TypedValue) (after : ℕ) → ValueUsage p.functions value → Stand exits rest after → Surround exits rest
-          → StatesAlong (given (taken p env m value) v rest env below) (graph_given (graph_taken g env m value) v after env points)
+          → StatesAlong (state_given (value_given p env m value) v rest env below) (graph_given (graph_taken g env m value) v after env points)
       given-along exits v value after u st ar =
           rw (taken-same env m value u) (record { memory = refl; frames = next-along exits rest after (slice_set env v (graph_taken g env m value).word) st ar })
 
@@ -297,7 +297,7 @@ module _ (p : Typed) (kept : KeepsUsage p) where
           let st = fr.stands in
           record {
             memory = refl;
-            frames = along-append (entered p f (values_of env m args)) _ (graph_entered g f (values_of env m args)) _
+            frames = along-append (frames_at_entry p f (values_of env m args)) _ (graph_entered g f (values_of env m args)) _
                 (call-along f (values_of env m args) (rw is at st.usage)) (next-along fr.exits rest fr.after env (fr.next (rw is (on-call sp f args))) fr.around);
           }
       step-of s (OpenIf sp test first second) at e r fr =
@@ -346,7 +346,7 @@ module _ (p : Typed) (kept : KeepsUsage p) where
 
   step-along : (m : Blocks) (item : Item) (rest : List Item) (env : List Word) (below : List Frame) (q : Point) (points : List Point) → ReadyAlong (item ∷ rest) env q
       → AllAlong below points
-      → StatesAlong (stepped p m (record { todo = item ∷ rest; env = env }) (item ∷ rest) below) (graph_stepped g m q.env points (slice_get g.blocks q.block))
+      → StatesAlong (state_after_item p m (record { todo = item ∷ rest; env = env }) (item ∷ rest) below) (graph_stepped g m q.env points (slice_get g.blocks q.block))
   step-along m item rest env below q points a along =
       let s = statement_of item in
       let r = a.ready in
@@ -362,18 +362,18 @@ module _ (p : Typed) (kept : KeepsUsage p) where
     pub below : List Frame
     pub point : Point
     pub points : List Point
-    pub frames_are : settled fs ≡ record { todo = item ∷ rest; env = env } ∷ below
+    pub frames_are : frames_to_run fs ≡ record { todo = item ∷ rest; env = env } ∷ below
     pub points_are : graph_settled g qs ≡ point ∷ points
     pub along : ReadyAlong (item ∷ rest) env point
     pub others : AllAlong below points
 
   abbrev Settled : List Frame → List Point → Type 0
-  Settled fs qs = ((settled fs ≡ []) × (graph_settled g qs ≡ [])) ⊎ Running fs qs
+  Settled fs qs = ((frames_to_run fs ≡ []) × (graph_settled g qs ≡ [])) ⊎ Running fs qs
 
   settle-first : (f : Frame) (fs : List Frame) (q : Point) (qs : List Point) → AllAlong fs qs → Settled fs qs → (items : List Item) → ready f.todo ≡ items
       → ReadyAlong items f.env q → block_is_over (slice_get g.blocks q.block) ≡ is_over items → Settled (f ∷ fs) (q ∷ qs)
   settle-first f fs q qs h later [] e a o =
-      let s : settled (f ∷ fs) ≡ settled fs = rw e refl in
+      let s : frames_to_run (f ∷ fs) ≡ frames_to_run fs = rw e refl in
       let t : graph_settled g (q ∷ qs) ≡ graph_settled g qs = rw o refl in
       elim later [
         | inl n ↦ inl (s ∙ n.0, t ∙ n.1)
@@ -412,7 +412,7 @@ module _ (p : Typed) (kept : KeepsUsage p) where
       settle-first f fs q qs h.1 (settle fs qs h.1) (ready f.todo) refl a (sym (over-same a.done a.over (ready f.todo) q.block a.ready))
 
   run-same : (fuel steps : ℕ) (m : Blocks) (fs : List Frame) (qs : List Point) → AllAlong fs qs
-      → graph_run_settled g fuel steps m (graph_settled g qs) ≡ run_settled p fuel steps m (settled fs)
+      → graph_run_settled g fuel steps m (graph_settled g qs) ≡ run_settled p fuel steps m (frames_to_run fs)
   unfolding run_settled graph_run_settled
   run-same zero steps m fs qs h =
       elim (settle fs qs h) [ inl n ↦ rw (n.0, n.1) refl | inr r ↦ rw (r.frames_are, r.points_are) refl ]
@@ -420,11 +420,11 @@ module _ (p : Typed) (kept : KeepsUsage p) where
     | inl n ↦ rw (n.0, n.1) refl
     | inr r ↦
         let t = graph_stepped g m r.point.env r.points (slice_get g.blocks r.point.block) in
-        let s = stepped p m (record { todo = r.item ∷ r.rest; env = r.env }) (r.item ∷ r.rest) r.below in
+        let s = state_after_item p m (record { todo = r.item ∷ r.rest; env = r.env }) (r.item ∷ r.rest) r.below in
         let a = step-along m r.item r.rest r.env r.below r.point r.points r.along r.others in
         rw (r.frames_are, r.points_are)
         (ap (λ mm. graph_run_settled g fuel (steps + 1) mm (graph_settled g t.points)) (sym a.memory) ∙ run-same fuel (steps + 1) s.memory s.frames t.points a.frames)
   ]
 
   pub runs-as : RunsAs g p
-  runs-as f args inputs fuel core = run-same fuel 0 (record { inputs = inputs; made = [] }) (entered p f args) (graph_entered g f args) (call-along f args core)
+  runs-as f args inputs fuel core = run-same fuel 0 (record { inputs = inputs; made = [] }) (frames_at_entry p f args) (graph_entered g f args) (call-along f args core)

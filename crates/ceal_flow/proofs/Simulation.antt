@@ -6,7 +6,7 @@ use Rattle.ceal_base.specs.Usage.{CoreUsage}
 use Rattle.ceal_base.specs.declared.typed.TypedFunction.{TypedFunction}
 use Rattle.ceal_base.specs.declared.typed.TypedStmt.{TypedStmt, Declare, Assign, SetField, Write, Call, If', While', Return, Break, Continue}
 use Rattle.ceal_mean.specs.Frame.{Item, Do, Again, statement_of}
-use Rattle.ceal_mean.specs.Jumps.{next_turn, ready, ready_behind}
+use Rattle.ceal_mean.specs.Jumps.{next_turn, ready, ready_after_turn}
 use Rattle.ceal_flow.specs.Blocks.{size, may_continue, all_may_continue, no_loop, target, entry, blocks_of, all_blocks}
 use Rattle.ceal_flow.specs.declared.block.GraphBlock.{GraphBlock}
 use Rattle.ceal_flow.specs.declared.exits.Exits.{Exits}
@@ -108,7 +108,7 @@ module _ (fs : List TypedFunction) (blocks : List GraphBlock) (done : ℕ) where
     pub all-ready : (exits : Exits) (items : List Item) (at : ℕ) → Stands exits items at → Around exits items → Ready (ready items) at
     all-ready exits [] at st h = ended at st
     all-ready exits (Do (Return sp) ∷ rest) at st h = ended at (st.2 ∙ around-done exits rest h)
-    all-ready exits (Do (Break sp) ∷ rest) at st h = subst (λ b. Ready (ready_behind rest) b) (sym st.2) (behind-ready exits rest h)
+    all-ready exits (Do (Break sp) ∷ rest) at st h = subst (λ b. Ready (ready_after_turn rest) b) (sym st.2) (behind-ready exits rest h)
     all-ready exits (Do (Continue sp) ∷ rest) at st h = subst (λ b. Ready (next_turn rest) b) (sym st.2) (turn-ready exits rest h)
     all-ready exits (Do (Declare sp v kind value) ∷ rest) at st h = record { exits = exits; stands = st; around = h; first = refl }
     all-ready exits (Do (Assign sp v value) ∷ rest) at st h = record { exits = exits; stands = st; around = h; first = refl }
@@ -119,7 +119,7 @@ module _ (fs : List TypedFunction) (blocks : List GraphBlock) (done : ℕ) where
     all-ready exits (Do (While' sp test _ body) ∷ rest) at st h = record { exits = exits; stands = st; around = h; first = refl }
     all-ready exits (Again w ∷ rest) at st h = let l = h.1 in record { exits = exits; stands = st; around = h; first = l.steps }
 
-    behind-ready : (exits : Exits) (items : List Item) → Around exits items → Ready (ready_behind items) exits.behind
+    behind-ready : (exits : Exits) (items : List Item) → Around exits items → Ready (ready_after_turn items) exits.behind
     behind-ready exits [] h = ended exits.behind (ap (λ (e : Exits). e.behind) h)
     behind-ready exits (Do s ∷ rest) h = behind-ready exits rest h
     behind-ready exits (Again w ∷ rest) h = all-ready h.0 rest exits.behind h.2 h.3

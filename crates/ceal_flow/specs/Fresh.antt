@@ -1,7 +1,7 @@
 -- The run of a graph from scratch: that of the source, with a block in place of the statements still to do.
 use Rattle.std.specs.Prelude.{ℕ, zero, suc, ◌+◌, ◌-◌, Bool, true, false, Option, Some, None, List, [], ◌∷◌, ◌++◌}
 use Rattle.std.specs.Prelude.{length, replicate, slice_get, slice_set, if◌then◌else◌}
-use Rattle.ceal_base.specs.Access.{content_of, written, holds}
+use Rattle.ceal_base.specs.Access.{content_of, memory_after_write, holds}
 use Rattle.ceal_base.specs.Block.{Block, Blocks}
 use Rattle.ceal_base.specs.Shapes.{default_block}
 use Rattle.ceal_base.specs.declared.kind.Shape.TheVariants.{ModInt as OneInt, ModPtr as OnePtr}
@@ -11,7 +11,7 @@ use Rattle.ceal_base.specs.declared.typed.TypedValue.{TypedValue}
 use Rattle.ceal_base.specs.declared.typed.TypedValue.TheVariants.{Plain, Read, Alloc, ModrefInt, Modref}
 use Rattle.ceal_base.specs.declared.word.Word.{Word}
 use Rattle.ceal_base.specs.declared.word.Word.TheVariants.{Null}
-use Rattle.ceal_mean.specs.Exec.{Taken, content_default, new_block, new_modifiable}
+use Rattle.ceal_mean.specs.Exec.{WordAndMemory, content_default, new_block, new_modifiable}
 use Rattle.ceal_base.specs.Finished.{Finished}
 use Rattle.ceal_mean.specs.Init.{made_by}
 use Rattle.ceal_mean.specs.Value.{value_of, values_of}
@@ -45,38 +45,38 @@ point_in (Some (Core name first params kinds)) args =
 point_in (Some (Init f)) args = []
 
 -- the points that a run of the function begins with
-abbrev pub entered : Graph → ℕ → List Word → List Point
-entered g function args = point_in (slice_get g.functions function) args
+abbrev pub points_at_entry : Graph → ℕ → List Word → List Point
+points_at_entry g function args = point_in (slice_get g.functions function) args
 
 -- what a variable is given
-abbrev pub taken : Graph → List Word → Blocks → TypedValue → Taken
-taken g env m (Plain e) = record { memory = m; word = value_of env m e }
-taken g env m (Read at e) = record { memory = m; word = content_of m (value_of env m e) (content_default e.kind) }
-taken g env m (Alloc at shape function name args) =
+abbrev pub value_given : Graph → List Word → Blocks → TypedValue → WordAndMemory
+value_given g env m (Plain e) = record { memory = m; word = value_of env m e }
+value_given g env m (Read at e) = record { memory = m; word = content_of m (value_of env m e) (content_default e.kind) }
+value_given g env m (Alloc at shape function name args) =
     new_block m (made_by g.structs (initialiser_in (slice_get g.functions function)) (values_of env m args) m)
-taken g env m (ModrefInt at) = new_modifiable m (default_block g.structs OneInt)
-taken g env m (Modref at s) = new_modifiable m (default_block g.structs (OnePtr s))
+value_given g env m (ModrefInt at) = new_modifiable m (default_block g.structs OneInt)
+value_given g env m (Modref at s) = new_modifiable m (default_block g.structs (OnePtr s))
 
 -- the state after an assignment of what was taken to variable `n`
-abbrev pub given : Taken → ℕ → ℕ → List Word → List Point → State
-given t n next env below = record {
+abbrev pub state_given : WordAndMemory → ℕ → ℕ → List Word → List Point → State
+state_given t n next env below = record {
   memory = t.memory;
   points = record { block = next; env = slice_set env n t.word } ∷ below;
 }
 
 -- the state after the statement of a block, from which a jump leads to `next`
-abbrev pub acted : Graph → Blocks → ℕ → List Word → List Point → TypedStmt → State
-acted g m next env below (Declare at n kind value) = given (taken g env m value) n next env below
-acted g m next env below (Assign at n value) = given (taken g env m value) n next env below
-acted g m next env below (Write at place value) = record {
-  memory = written m (value_of env m place) (value_of env m value);
+abbrev pub state_after_act : Graph → Blocks → ℕ → List Word → List Point → TypedStmt → State
+state_after_act g m next env below (Declare at n kind value) = state_given (value_given g env m value) n next env below
+state_after_act g m next env below (Assign at n value) = state_given (value_given g env m value) n next env below
+state_after_act g m next env below (Write at place value) = record {
+  memory = memory_after_write m (value_of env m place) (value_of env m value);
   points = record { block = next; env = env } ∷ below;
 }
-acted g m next env below (Call at function args) = record {
+state_after_act g m next env below (Call at function args) = record {
   memory = m;
-  points = entered g function (values_of env m args) ++ record { block = next; env = env } ∷ below;
+  points = points_at_entry g function (values_of env m args) ++ record { block = next; env = env } ∷ below;
 }
-acted g m next env below _ = record { memory = m; points = record { block = next; env = env } ∷ below }
+state_after_act g m next env below _ = record { memory = m; points = record { block = next; env = env } ∷ below }
 
 -- the end of a function takes no step, and nor does a block that is not there
 abbrev pub is_over : Option GraphBlock → Bool
@@ -85,18 +85,18 @@ is_over (Some (Act s next)) = false
 is_over _ = true
 
 -- the points without those in front that are over
-abbrev pub settled : Graph → List Point → List Point
-settled g [] = []
-settled g (p ∷ below) = if is_over (slice_get g.blocks p.block) then settled g below else p ∷ below
+abbrev pub points_to_run : Graph → List Point → List Point
+points_to_run g [] = []
+points_to_run g (p ∷ below) = if is_over (slice_get g.blocks p.block) then points_to_run g below else p ∷ below
 
 -- the state after the block of the first point
-abbrev pub stepped : Graph → Blocks → List Word → List Point → Option GraphBlock → State
-stepped g m env below (Some (Test test first second)) = record {
+abbrev pub state_after_block : Graph → Blocks → List Word → List Point → Option GraphBlock → State
+state_after_block g m env below (Some (Test test first second)) = record {
   memory = m;
   points = record { block = (if holds (value_of env m test) then first else second); env = env } ∷ below;
 }
-stepped g m env below (Some (Act s next)) = acted g m next env below s
-stepped g m env below _ = record { memory = m; points = below }
+state_after_block g m env below (Some (Act s next)) = state_after_act g m next env below s
+state_after_block g m env below _ = record { memory = m; points = below }
 
 -- a run from points of which the first is not over, with fuel for the given number of steps more, after the
 -- steps so far
@@ -104,18 +104,18 @@ unfoldable pub run_settled : Graph → ℕ → ℕ → Blocks → List Point →
 run_settled g fuel steps m [] = Some (record { memory = m; steps = steps; blocks = length m.made })
 run_settled g zero steps m (p ∷ below) = None
 run_settled g (suc fuel) steps m (p ∷ below) =
-    let s = stepped g m p.env below (slice_get g.blocks p.block) in
-    run_settled g fuel (steps + 1) s.memory (settled g s.points)
+    let s = state_after_block g m p.env below (slice_get g.blocks p.block) in
+    run_settled g fuel (steps + 1) s.memory (points_to_run g s.points)
 
 -- a run from a state: it is finished where no point is left
 abbrev pub run : Graph → ℕ → ℕ → State → Option Finished
-run g fuel steps s = run_settled g fuel steps s.memory (settled g s.points)
+run g fuel steps s = run_settled g fuel steps s.memory (points_to_run g s.points)
 
 -- the state in which a function begins on these inputs
 abbrev pub start : Graph → ℕ → List Word → List Block → State
 start g function args inputs = record {
   memory = record { inputs = inputs; made = [] };
-  points = entered g function args;
+  points = points_at_entry g function args;
 }
 
 -- the run of a function from nothing but its inputs, where it is finished after at most `fuel` steps

@@ -2,7 +2,7 @@
 use Rattle.std.proofs.Common.{◌≡◌, ℕ, ℤ, ◌==◌, ◌||◌, ◌&&◌, Bool, true, false, if◌then◌else◌, Option, Some, None, List, [], ◌∷◌, ◌⊎◌, inl, inr, refl, sym, ap, ap₂, subst, slice_get, unwrap_or, arith}
 use Rattle.std.specs.Prelude.{⊤}
 use Rattle.ceal_base.specs.Kinds.{is_pointer}
-use Rattle.ceal_base.specs.Operators.{unary_value, binary_value, picked, truth}
+use Rattle.ceal_base.specs.Operators.{unary_value, binary_value, picked_element, truth}
 use Rattle.ceal_base.specs.Shapes.{row_at}
 use Rattle.ceal_base.specs.declared.kind.FieldKind.{FieldKind}
 use Rattle.ceal_base.specs.declared.kind.FieldKind.TheVariants.{Plain as PlainField, CellInt, CellPtr}
@@ -396,13 +396,13 @@ module _ (structs : List StructInfo) (kinds : List Kind) (known : List Bool) whe
   null-element (Some (Of k)) g = g
 
   pick-folded : (row : ℕ) (q : Bool) (s t : Typing) (a : CodeExpr) (v w : Word) → (q ≡ true → starts_row structs row a ≡ true) → constant a ≡ Some v → Refined s (type_of structs kinds known a)
-      → Refined (if q then (if fits Int t then element_type s else None) else None) (type_of structs kinds known (constant_expr (picked row v w)))
+      → Refined (if q then (if fits Int t then element_type s else None) else None) (type_of structs kinds known (constant_expr (picked_element row v w)))
   unfolding type_of
   pick-folded row false s t a v w l e g = tt
   pick-folded row true s t (NumExpr n) v w l e g = absurd (grind (arith, l refl))
   pick-folded row true s t NullExpr v w l e g =
       let i : Null ≡ v = some-same Null v e in
-      subst (λ v. Refined (if fits Int t then element_type s else None) (type_of structs kinds known (constant_expr (picked row v w)))) i
+      subst (λ v. Refined (if fits Int t then element_type s else None) (type_of structs kinds known (constant_expr (picked_element row v w)))) i
       (if-refined (fits Int t) (element_type s) (Some AnyPointer) (null-element s g))
   pick-folded row true s t (Var v') v w l e g = none-some v e
   pick-folded row true s t (Unary' op _ a) v w l e g = none-some v e

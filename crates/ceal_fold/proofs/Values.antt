@@ -2,7 +2,7 @@
 -- have the same words.
 use Rattle.std.proofs.Common.{◌≡◌, ℕ, ◌==◌, ◌||◌, ◌&&◌, Bool, true, false, if◌then◌else◌, Option, Some, None, List, [], ◌∷◌, refl, sym, ap, ap₂, ◌∙◌, subst, arith}
 use Rattle.std.specs.Prelude.{⊤}
-use Rattle.ceal_base.specs.Operators.{unary_value, binary_value, picked, truth}
+use Rattle.ceal_base.specs.Operators.{unary_value, binary_value, picked_element, truth}
 use Rattle.ceal_base.specs.declared.kind.FieldKind.{FieldKind}
 use Rattle.ceal_base.specs.declared.kind.FieldKind.TheVariants.{Plain as PlainField, CellInt, CellPtr}
 use Rattle.ceal_base.specs.declared.kind.Kind.TheVariants.{Int, Ptr, ModInt, ModPtr}
@@ -100,7 +100,7 @@ module _ (structs : List StructInfo) (x : Plain) where
     constant-plain (Field' _ a s f) w e = none-some w e
     constant-plain (Address' _ a s f) w e = none-some w e
 
-    picked-plain : (row : ℕ) (v w : Word) → Plainly v → Plainly (picked row v w)
+    picked-plain : (row : ℕ) (v w : Word) → Plainly v → Plainly (picked_element row v w)
     picked-plain row (Num n) w p = tt
     picked-plain row Null w p = tt
     picked-plain row (BlockWord b) w p = tt

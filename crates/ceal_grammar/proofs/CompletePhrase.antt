@@ -23,7 +23,7 @@ use Rattle.ceal_grammar.specs.declared.state.Whole.{Whole}
 use Rattle.ceal_grammar.specs.Grammar.{Phrase, number, null, variable, own, parens, arrow, prefix, address, element, binary, level, IsInfix, level_of, Grouped}
 use Rattle.ceal_grammar.specs.Spelled.{sign_of, after, spelled, Mark}
 use Rattle.ceal_grammar.specs.Trees.{first, expression}
-use Rattle.ceal_grammar.specs.Machine.{step, reduced, Reduced, within, element_of, closes, operates, at_place, at_sign_after, operator_of, same_sign, same_word, argument_begun, place_item}
+use Rattle.ceal_grammar.specs.Machine.{step, reduction, Reduction, within, element_of, closes, operates, at_place, at_sign_after, operator_of, same_sign, same_word, argument_begun, place_item}
 use Rattle.ceal_grammar.specs.Follows.{Follows}
 
 abbrev pub piece_of : Phrase → Piece
@@ -43,7 +43,7 @@ held (arrow a s x) p = Have p
 held (address s a) p = held a p
 
 -- what a reading holds after the phrase
-unfoldable pub pending : Phrase → List Frame → Reduced
+unfoldable pub pending : Phrase → List Frame → Reduction
 pending (prefix op s a) fs = pending a (Prefix op s ∷ fs)
 pending (address s a) fs = pending a (AddressOf s ∷ fs)
 pending (binary op a s b) fs = pending b (Left (piece_of a) op s ∷ fs)
@@ -94,8 +94,8 @@ level_low And = omega arith
 level_low Or = omega arith
 level_low (Pick n) = omega arith
 
-pub reduced_stops : (l : ℕ) (p : Piece) (fs : List Frame) → l ≤ 6 → Stops l fs → reduced l p fs ≡ record { piece = p; frames = fs }
-unfolding reduced
+pub reduced_stops : (l : ℕ) (p : Piece) (fs : List Frame) → l ≤ 6 → Stops l fs → reduction l p fs ≡ record { piece = p; frames = fs }
+unfolding reduction
 reduced_stops l p [] h st = refl
 reduced_stops l p (Open s d ∷ fs) h st = refl
 reduced_stops l p (Index s e d ∷ fs) h st = refl
@@ -105,8 +105,8 @@ reduced_stops l p (Left a op s ∷ fs) h st =
     let t : nat_le l (level op) ≡ false = grind (arith, nat_tests) in rw t refl
 
 pub reduced_pending : (l : ℕ) (c : Phrase) (fs : List Frame) → Grouped c → l ≤ 6 → l ≤ level_of c
-    → reduced l (pending c fs).piece (pending c fs).frames ≡ reduced l (piece_of c) fs
-unfolding reduced pending Grouped expression first
+    → reduction l (pending c fs).piece (pending c fs).frames ≡ reduction l (piece_of c) fs
+unfolding reduction pending Grouped expression first
 reduced_pending l (number v s) fs g k h = refl
 reduced_pending l (null s) fs g k h = refl
 reduced_pending l (variable x) fs g k h = refl
@@ -241,28 +241,28 @@ module _ (i : Inside) (r : Receiver) where
   having_high : (d : ℕ) (a : Phrase) (fs : List Frame) (n : ℕ) → 8 ≤ level_of a
       → having i d a fs n r ≡ within i (whole d (after a n) fs r) (Have (piece_of a))
   having_high d a fs n h =
-      ap (λ (q : Reduced). within i (whole d (after a n) q.frames r) (held a q.piece)) (pending_high a fs h)
+      ap (λ (q : Reduction). within i (whole d (after a n) q.frames r) (held a q.piece)) (pending_high a fs h)
       ∙ ap (within i (whole d (after a n) fs r)) (held_high a (piece_of a) h)
 
   closing : (d e : ℕ) (fs : List Frame) (n : ℕ) (o : Span) (a : Phrase) (c : Span) → Grouped a
       → step (having i e a (Open o d ∷ fs) n r) (record { kind = Sign Signs.RightParenthesis; span = c })
       ≡ Some (within i (whole d (after a n) fs r) (Have (record { from = o; expr = expression a })))
-  unfolding reduced same_sign
+  unfolding reduction same_sign
   closing d e fs n o a c g =
       let q = pending a (Open o d ∷ fs) in
       sign_behind i (whole e (after a n) q.frames r) a q.piece c Signs.RightParenthesis refl refl
-      ∙ ap (λ (q : Reduced). closes i (whole e (after a n) (pending a (Open o d ∷ fs)).frames r) Signs.RightParenthesis q.piece q.frames)
+      ∙ ap (λ (q : Reduction). closes i (whole e (after a n) (pending a (Open o d ∷ fs)).frames r) Signs.RightParenthesis q.piece q.frames)
       (reduced_pending 0 a (Open o d ∷ fs) g (omega arith) (omega arith))
 
   -- the `]` of an index b
   closing_index : (d e : ℕ) (fs : List Frame) (n : ℕ) (o : Span) (x : Expr) (b : Phrase) (c : Span) → Grouped b
       → step (having i e b (Index o x d ∷ fs) n r) (record { kind = Sign Signs.RightBracket; span = c })
       ≡ Some (within i (whole d (after b n) fs r) (Element (element_of o x (piece_of b))))
-  unfolding reduced same_sign
+  unfolding reduction same_sign
   closing_index d e fs n o x b c g =
       let q = pending b (Index o x d ∷ fs) in
       sign_behind i (whole e (after b n) q.frames r) b q.piece c Signs.RightBracket refl refl
-      ∙ ap (λ (q : Reduced). closes i (whole e (after b n) (pending b (Index o x d ∷ fs)).frames r) Signs.RightBracket q.piece q.frames)
+      ∙ ap (λ (q : Reduction). closes i (whole e (after b n) (pending b (Index o x d ∷ fs)).frames r) Signs.RightBracket q.piece q.frames)
       (reduced_pending 0 b (Index o x d ∷ fs) g (omega arith) (omega arith))
 
   accessing : (d : ℕ) (fs : List Frame) (n : ℕ) (a : Phrase) (s : Span) → 8 ≤ level_of a

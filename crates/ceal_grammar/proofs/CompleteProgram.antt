@@ -21,12 +21,12 @@ use Rattle.ceal_grammar.specs.Grammar.{single, row, Member, Part, structure, fun
 use Rattle.ceal_grammar.specs.Grammar.{BlockProper, MoreProper, ParametersProper, IsCell, SizeProper, MembersProper}
 use Rattle.ceal_grammar.specs.Grammar.{PartProper, PartsProper}
 use Rattle.ceal_grammar.specs.Spelled.{Mark, plain, spelled_statement, spelled_block, spelled_parameter, spelled_others}
-use Rattle.ceal_grammar.specs.Spelled.{spelled_parameters, counted, spelled_size, spelled_members, spelled_part}
+use Rattle.ceal_grammar.specs.Spelled.{spelled_parameters, fields_up_to, spelled_size, spelled_members, spelled_part}
 use Rattle.ceal_grammar.specs.Spelled.{spelled_parts, spelled_program}
 use Rattle.ceal_grammar.specs.Trees.{type_form, type_first, statement_tree, block_trees, other_trees, parameter_tree}
 use Rattle.ceal_grammar.specs.Trees.{parameter_trees, close_of, row_form, sized_form, member_trees, part_tree}
 use Rattle.ceal_grammar.specs.Trees.{part_trees}
-use Rattle.ceal_grammar.specs.Machine.{same_sign, same_word, type_begin, widened, with_member, is_cell, length_of, at_length, begun_struct, with_parameter, step, length_item, item_of}
+use Rattle.ceal_grammar.specs.Machine.{same_sign, same_word, type_begin, fields_with_member, with_member, is_cell, length_of, at_length, begun_struct, with_parameter, step, length_item, item_of}
 use Rattle.ceal_grammar.specs.Follows.{Follows}
 use Rattle.ceal_grammar.proofs.CompleteStatement.{read_type, read_statements}
 
@@ -45,7 +45,7 @@ module _ (tree : List Entry) (es : List Entry) where
   always (cell_pointer s k x) = refl
 
   -- a member of one field
-  one_field : (c : ℕ) (w : Written) → widened c (type_form w) ≡ suc c
+  one_field : (c : ℕ) (w : Written) → fields_with_member c (type_form w) ≡ suc c
   one_field c (int s) = refl
   one_field c (pointer s x t) = refl
   one_field c (mod_int s k t) = refl
@@ -54,7 +54,7 @@ module _ (tree : List Entry) (es : List Entry) where
   one_field c (cell_pointer s k x) = refl
 
   -- a row
-  row_fields : (c : ℕ) (w : Written) (n : ℕ) → IsCell w → widened c (row_form (type_form w) n) ≡ c + n
+  row_fields : (c : ℕ) (w : Written) (n : ℕ) → IsCell w → fields_with_member c (row_form (type_form w) n) ≡ c + n
   row_fields c (cell_int s k) n h = refl
   row_fields c (cell_pointer s k x) n h = refl
   row_fields c (int s) n h = absurd h
@@ -74,7 +74,7 @@ module _ (tree : List Entry) (es : List Entry) where
   length_tells zero h = absurd (omega (arith, h))
   length_tells (suc n) h = refl
 
-  sized_count : (c : ℕ) (w : Written) (z : Size) → SizeProper w z → widened c (sized_form (type_form w) z) ≡ counted c z
+  sized_count : (c : ℕ) (w : Written) (z : Size) → SizeProper w z → fields_with_member c (sized_form (type_form w) z) ≡ fields_up_to c z
   sized_count c w single h = one_field c w
   sized_count c w (row l n s r) h = row_fields c w n h.0
 
@@ -105,7 +105,7 @@ module _ (tree : List Entry) (es : List Entry) where
       (λ p s j. refl) (λ p. refl) (λ form x. refl) (λ p t. refl) (λ p. refl) (λ form x. refl)
       m.type m.x (suc c) (Struct es (Structs.Members l)) _ (always m.type) (λ j p b. member_starts l (type_first m.type) j p b) (λ j p b. ap suc e)
       (rw (← e) (read_size m.size m.type m.x l m.semi _ h.0
-      (read_members ms (with_member l d) (counted l.count m.size) right rest h.1 (sized_count l.count m.type m.size h.0) (rw append_assoc f))))
+      (read_members ms (with_member l d) (fields_up_to l.count m.size) right rest h.1 (sized_count l.count m.type m.size h.0) (rw append_assoc f))))
 
   read_parameter : (p : Parameter) (h : Head) (k : ℕ) (σ : State) (rest : List Mark) → Allowed false p.type
       → ((j : ReservedWord) (q : TypePart) → type_begin j ≡ Some q → step σ (record { kind = Reserved j; span = type_first p.type }) ≡ Some (InHead es (Heads.Typing h q)))

@@ -48,23 +48,23 @@ use Rattle.ceal_grammar.specs.Spelled.{Mark, plain, name, after, spelled, spelle
 use Rattle.ceal_grammar.specs.Spelled.{spelled_given, spelled_statement, spelled_branch, spelled_otherwise}
 use Rattle.ceal_grammar.specs.Spelled.{spelled_block, spelled_statements}
 use Rattle.ceal_grammar.specs.Trees.{first, expression, type_form, type_first, expressions, argument_trees, value_tree, statement_tree, branch_tree, otherwise_trees, block_trees, statement_trees}
-use Rattle.ceal_grammar.specs.Machine.{same_sign, same_word, is_sign, is_word, operator_of, Reduced, reduced, within}
-use Rattle.ceal_grammar.specs.Machine.{begun, placed, at_operand, at_body, at_type, typed, type_begin, given, called}
-use Rattle.ceal_grammar.specs.Machine.{wrapped, with_statement, received, closes, at_sign_after, owned, opened_by}
-use Rattle.ceal_grammar.specs.Machine.{moved, step, nesting_of, item_of, operators_of}
+use Rattle.ceal_grammar.specs.Machine.{same_sign, same_word, is_sign, is_word, operator_of, Reduction, reduction, within}
+use Rattle.ceal_grammar.specs.Machine.{new_whole, state_in, at_operand, at_body, at_type, with_typing, type_begin, value_statement, call_statement}
+use Rattle.ceal_grammar.specs.Machine.{chain_statement, with_statement, at_expression_end, closes, at_sign_after, mode_after_block, opened_by}
+use Rattle.ceal_grammar.specs.Machine.{at_mode, step, nesting_of, item_of, operators_of}
 use Rattle.ceal_grammar.specs.Follows.{Follows}
 use Rattle.ceal_grammar.proofs.CompletePhrase.{having, whole, pending, complete, reduced_pending, no_item, sign_behind}
 use Rattle.ceal_grammar.proofs.Telling.{sign_tells, word_tells}
 
 -- the token after a whole expression
 pub received_at : (i : Inside) (d : ℕ) (c : Phrase) (n : ℕ) (r : Receiver) (k : SignOf) (s : Span) → same_sign k Signs.Arrow ≡ false → same_sign k Signs.LeftBracket ≡ false
-    → operator_of k ≡ None → Grouped c → step (having i d c [] n r) (record { kind = Sign k; span = s }) ≡ received i d r (expression c) k
-unfolding reduced
+    → operator_of k ≡ None → Grouped c → step (having i d c [] n r) (record { kind = Sign k; span = s }) ≡ at_expression_end i d r (expression c) k
+unfolding reduction
 received_at i d c n r k s a b o g =
     let q = pending c [] in let w = whole d (after c n) q.frames r in
     sign_behind i w c q.piece s k a b
     ∙ (ap (at_sign_after i w q.piece s k) o
-    ∙ ap (λ (q : Reduced). closes i (whole d (after c n) q.frames r) k q.piece q.frames) (reduced_pending 0 c [] g (omega arith) (omega arith)))
+    ∙ ap (λ (q : Reduction). closes i (whole d (after c n) q.frames r) k q.piece q.frames) (reduced_pending 0 c [] g (omega arith) (omega arith)))
 
 -- the first token of a statement is no `else`
 not_else : (i : Inside) (s : Span) (w : ReservedWord) (σ : State) → at_body i s (Reserved w) ≡ Some σ → same_word w Words.Else ≡ false
@@ -75,7 +75,7 @@ not_else i s w σ h = elim (word_tells w Words.Else) [ inl p ↦ absurd (wrong (
     wrong e = cc
 
 closed_step : (i : Inside) (at : Span) (e : Expr) (first : List Stmt) (s : Span) (k : TokenKind) (σ : State)
-    → at_body (with_statement i (If at e first [])) s k ≡ Some σ → moved i (Modes.Closed at e first) s k ≡ Some σ
+    → at_body (with_statement i (If at e first [])) s k ≡ Some σ → at_mode i (Modes.Closed at e first) s k ≡ Some σ
 closed_step i at e first s (Name x) σ h = h
 closed_step i at e first s (Number v) σ h = h
 closed_step i at e first s (Reserved w) σ h = rw (not_else (with_statement i (If at e first [])) s w σ h) h
@@ -85,13 +85,13 @@ closed_step i at e first s Cut σ h = h
 
 -- what one more token makes of a type in a body
 typed_in : (i : Inside) (on : TypePart → Mode) (done : TypeForm → Ident → Mode) (o : Option Typing)
-    → placed i (typed on done o) ≡ typed (λ p. In i (on p)) (λ form x. In i (done form x)) o
+    → state_in i (with_typing on done o) ≡ with_typing (λ p. In i (on p)) (λ form x. In i (done form x)) o
 typed_in i on done None = refl
 typed_in i on done (Some (MoreType p)) = refl
 typed_in i on done (Some (NamedType form x)) = refl
 
 -- no operand begins with `)`
-operand_open : (i : Inside) (w : Whole) (s : Span) (k : TokenKind) (σ : State) → placed i (at_operand w s k) ≡ Some σ → is_sign Signs.RightParenthesis k ≡ false
+operand_open : (i : Inside) (w : Whole) (s : Span) (k : TokenKind) (σ : State) → state_in i (at_operand w s k) ≡ Some σ → is_sign Signs.RightParenthesis k ≡ false
 unfolding same_sign
 operand_open i w s (Name y) σ h = refl
 operand_open i w s (Number v) σ h = refl
@@ -107,7 +107,7 @@ operand_open i w s Cut σ h = refl
 abbrev NoValueWord : TokenKind → Type 0
 NoValueWord k = (is_word Words.Read k ≡ false) × (is_word Words.Alloc k ≡ false) × (is_word Words.Modref k ≡ false)
 
-operand_word : (i : Inside) (w : Whole) (s : Span) (k : TokenKind) (σ : State) → placed i (at_operand w s k) ≡ Some σ → NoValueWord k
+operand_word : (i : Inside) (w : Whole) (s : Span) (k : TokenKind) (σ : State) → state_in i (at_operand w s k) ≡ Some σ → NoValueWord k
 unfolding same_word
 operand_word i w s (Name y) σ h = (refl, refl, refl)
 operand_word i w s (Number v) σ h = (refl, refl, refl)
@@ -145,7 +145,7 @@ reached i _ = In i Modes.Body
 
 -- Types, in a declaration, a parameter or a member.
 module _ (tree : List Entry) (cells : Bool) (d : ℕ) (more : TypePart → State) (done : TypeForm → Ident → State)
-    (moves : (p : TypePart) (s : Span) (k : TokenKind) → step (more p) (record { kind = k; span = s }) ≡ typed more done (at_type cells p s k))
+    (moves : (p : TypePart) (s : Span) (k : TokenKind) → step (more p) (record { kind = k; span = s }) ≡ with_typing more done (at_type cells p s k))
     (deep : (p : TypePart) → nesting_of (more p) ≡ d) (deep_done : (form : TypeForm) (x : Ident) → nesting_of (done form x) ≡ d)
     (item : (p : TypePart) (t : Token) → item_of (more p) t ≡ 0)
     (few : (p : TypePart) → operators_of (more p) ≡ 0) (few_done : (form : TypeForm) (x : Ident) → operators_of (done form x) ≡ 0) where
@@ -287,7 +287,7 @@ module _ (tree : List Entry) where
 
   read_more : (i : Inside) (d : ℕ) (c : Callee) (l : List (Span × Phrase)) (args : List Expr) (e : Phrase) (n k : ℕ) (right : Span) (rest : List Mark)
       → Grouped e → AllGrouped l → suc (length (args ++ expression e ∷ [])) ≡ k
-      → Follows (In i (Modes.Ends (called c (args ++ expression e ∷ expressions l)))) rest tree
+      → Follows (In i (Modes.Ends (call_statement c (args ++ expression e ∷ expressions l)))) rest tree
       → Follows (having i d e [] n (To.Argument c args)) (spelled_more d k l (plain i.nesting (Sign Signs.RightParenthesis) right ∷ rest)) tree
   unfolding Follows spelled_more expressions AllGrouped same_sign
   read_more i d c [] args e n k right rest g gs h f = (_, received_at i d e n (To.Argument c args) Signs.RightParenthesis right refl refl refl g, refl, no_item d e [] n (To.Argument c args), refl, f)
@@ -303,35 +303,35 @@ module _ (tree : List Entry) where
   )
 
   first_argument : (i : Inside) (c : Callee) (ms : List Mark)
-      → Follows (within i (begun (suc i.nesting) (To.Argument c [])) Want) ms tree → Follows (In i (Modes.First c)) ms tree
+      → Follows (within i (new_whole (suc i.nesting) (To.Argument c [])) Want) ms tree → Follows (In i (Modes.First c)) ms tree
   unfolding Follows
   first_argument i c [] f = absurd (cc)
   first_argument i c (m ∷ ms) f =
-      let e = operand_open i (begun (suc i.nesting) (To.Argument c [])) m.token.span m.token.kind f.0 f.1 in
+      let e = operand_open i (new_whole (suc i.nesting) (To.Argument c [])) m.token.span m.token.kind f.0 f.1 in
       (f.0, rw e f.1, f.2, rw e f.3, f.4, f.5)
 
   read_arguments : (i : Inside) (c : Callee) (args : Arguments) (right : Span) (rest : List Mark) → ArgumentsGrouped args
-      → Follows (In i (Modes.Ends (called c (argument_trees args)))) rest tree
+      → Follows (In i (Modes.Ends (call_statement c (argument_trees args)))) rest tree
       → Follows (In i (Modes.First c)) (spelled_arguments (suc i.nesting) args (plain i.nesting (Sign Signs.RightParenthesis) right ∷ rest)) tree
   unfolding Follows same_sign
   read_arguments i c no_arguments right rest g f = (_, refl, refl, refl, refl, f)
   read_arguments i c (arguments e l) right rest g f =
       first_argument i c _ (complete i (To.Argument c []) tree (suc i.nesting) [] 0 e _ g.0 tt (read_more i (suc i.nesting) c l [] e 0 2 right rest g.0 g.1 refl f))
 
-  plain_value : (i : Inside) (t : Target) (ms : List Mark) → Follows (within i (begun i.nesting (To.Value t)) Want) ms tree → Follows (In i (Modes.Value t)) ms tree
+  plain_value : (i : Inside) (t : Target) (ms : List Mark) → Follows (within i (new_whole i.nesting (To.Value t)) Want) ms tree → Follows (In i (Modes.Value t)) ms tree
   unfolding Follows
   plain_value i t [] f = absurd (cc)
   plain_value i t (m ∷ ms) f =
-      let e = operand_word i (begun i.nesting (To.Value t)) m.token.span m.token.kind f.0 f.1 in
+      let e = operand_word i (new_whole i.nesting (To.Value t)) m.token.span m.token.kind f.0 f.1 in
       (f.0, rw (e.0, e.1, e.2) f.1, f.2, f.3, f.4, f.5)
 
   abbrev pub inner : List Entry → Head → List Opened → List Stmt → ℕ → Inside
   inner es h os ds d = record { entries = es; head = h; opened = os; done = ds; chain = []; base = d; nesting = d }
 
   read_given : (g : Given) (es : List Entry) (h : Head) (os : List Opened) (ds : List Stmt) (d : ℕ) (t : Target) (semi : Span) (rest : List Mark) → GivenGrouped g
-      → Follows (In (inner es h os (ds ++ given t (value_tree g) ∷ []) d) Modes.Body) rest tree
+      → Follows (In (inner es h os (ds ++ value_statement t (value_tree g) ∷ []) d) Modes.Body) rest tree
       → Follows (In (inner es h os ds d) (Modes.Value t)) (spelled_given d g (plain d (Sign Signs.Semicolon) semi ∷ rest)) tree
-  unfolding Follows same_sign same_word wrapped
+  unfolding Follows same_sign same_word chain_statement
   read_given (plainly e) es h os ds d t semi rest g f =
       let i = inner es h os ds d in
       plain_value i t _ (complete i (To.Value t) tree d [] 0 e _ g tt
@@ -430,12 +430,12 @@ module _ (tree : List Entry) where
   read_path (element at a l b r) i rest h f = absurd h
   read_path (binary op a at b) i rest h f = absurd h
 
-  owned_nesting : (i : Inside) (o : Owner) (ss : List Stmt) → nesting_of (In i (owned o ss)) ≡ i.nesting
+  owned_nesting : (i : Inside) (o : Owner) (ss : List Stmt) → nesting_of (In i (mode_after_block o ss)) ≡ i.nesting
   owned_nesting i (OfWhile s e) ss = refl
   owned_nesting i (OfThen s e) ss = refl
   owned_nesting i (OfElse s e first) ss = refl
 
-  owned_operators : (i : Inside) (o : Owner) (ss : List Stmt) → operators_of (In i (owned o ss)) ≡ 0
+  owned_operators : (i : Inside) (o : Owner) (ss : List Stmt) → operators_of (In i (mode_after_block o ss)) ≡ 0
   owned_operators i (OfWhile s e) ss = refl
   owned_operators i (OfThen s e) ss = refl
   owned_operators i (OfElse s e first) ss = refl
@@ -445,7 +445,7 @@ module _ (tree : List Entry) where
   word_starts i s k p e = rw e refl
 
   mutual
-    unfolding Follows spelled_statement statement_tree StatementProper wrapped same_sign same_word
+    unfolding Follows spelled_statement statement_tree StatementProper chain_statement same_sign same_word
 
     read_statement : (s : Statement) (es : List Entry) (h : Head) (os : List Opened) (ds : List Stmt) (d : ℕ) (rest : List Mark) → StatementProper s
         → Follows (In (inner es h os (ds ++ statement_tree s ∷ []) d) Modes.Body) rest tree
@@ -611,7 +611,7 @@ module _ (tree : List Entry) where
     read_block : (b : Block) (i : Inside) (o : Owner) (σ : State) (rest : List Mark)
         → ((s : Span) → step σ (record { kind = Sign Signs.LeftBrace; span = s }) ≡ Some (opened_by i o)) → ((t : Token) → item_of σ t ≡ 0)
         → BlockProper b
-        → Follows (In i (owned o (block_trees b))) rest tree
+        → Follows (In i (mode_after_block o (block_trees b))) rest tree
         → Follows σ (spelled_block i.nesting b rest) tree
     read_block (block l ss r) i o σ rest st it g f = (
       _,

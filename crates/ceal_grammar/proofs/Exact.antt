@@ -33,8 +33,8 @@ use Rattle.ceal_grammar.specs.declared.state.Whole.{Whole}
 use Rattle.ceal_grammar.specs.Faults.{Begins, IsWithin, AllWithin, Accepts, IsClean, StandsAt, IsFirstFault}
 use Rattle.ceal_grammar.specs.Follows.{Follows}
 use Rattle.ceal_grammar.specs.Grammar.{Program}
-use Rattle.ceal_grammar.specs.Judged.{code_at, fault_at, finished, tested, advanced, judged}
-use Rattle.ceal_grammar.specs.Machine.{moved, at_type, typed, with_parameter, placed, at_making, at_place, is_cell, at_struct, at_head, step, nesting_of, item_of, operators_of}
+use Rattle.ceal_grammar.specs.Judged.{code_at, fault_at, tree_at_end, within_limits, next_state, tree_or_fault}
+use Rattle.ceal_grammar.specs.Machine.{at_mode, at_type, with_typing, with_parameter, state_in, at_making, at_place, is_cell, at_struct, at_head, step, nesting_of, item_of, operators_of}
 use Rattle.ceal_grammar.specs.Spelled.{Mark, spelled_program, tokens_of}
 use Rattle.ceal_grammar.specs.Trees.{part_trees}
 use Rattle.ceal_grammar.proofs.CompleteProgram.{read_program}
@@ -128,7 +128,7 @@ Passes s t next = (step s t ≡ Some next) × (nesting_of next ≤ 64) × (item_
 
 -- One step: it passes, or it fails.
 tell_next : (s : State) (t : Token) (next : State) → step s t ≡ Some next
-    → (Passes s t next × (tested (item_of s t) t next ≡ Ok next)) ⊎ ((f : Fault) × Fails s t f × (tested (item_of s t) t next ≡ Err f))
+    → (Passes s t next × (within_limits (item_of s t) t next ≡ Ok next)) ⊎ ((f : Fault) × Fails s t f × (within_limits (item_of s t) t next ≡ Err f))
 tell_next s t next e = elim (leb_tells 65 (nesting_of next)) [
   | inl p ↦ inr (fault_at S4 t, inr (inl (next, e, p.1, refl)), rw p.0 refl)
   | inr p ↦ elim (leb_tells 256 (item_of s t)) [
@@ -141,14 +141,14 @@ tell_next s t next e = elim (leb_tells 65 (nesting_of next)) [
 ]
 
 pub tell : (s : State) (t : Token)
-    → ((next : State) × Passes s t next × (advanced s t (step s t) ≡ Ok next)) ⊎ ((f : Fault) × Fails s t f × (advanced s t (step s t) ≡ Err f))
+    → ((next : State) × Passes s t next × (next_state s t (step s t) ≡ Ok next)) ⊎ ((f : Fault) × Fails s t f × (next_state s t (step s t) ≡ Err f))
 tell s t = go (step s t) refl
   where
     go : (o : Option State) → step s t ≡ o
-        → ((next : State) × Passes s t next × (advanced s t (step s t) ≡ Ok next)) ⊎ ((f : Fault) × Fails s t f × (advanced s t (step s t) ≡ Err f))
-    go None e = inr (fault_at (code_at t.kind) t, inl (e, refl), ap (advanced s t) e)
+        → ((next : State) × Passes s t next × (next_state s t (step s t) ≡ Ok next)) ⊎ ((f : Fault) × Fails s t f × (next_state s t (step s t) ≡ Err f))
+    go None e = inr (fault_at (code_at t.kind) t, inl (e, refl), ap (next_state s t) e)
     go (Some next) e = elim (tell_next s t next e)
-        [ inl a ↦ inl (next, a.0, ap (advanced s t) e ∙ a.1) | inr b ↦ inr (b.0, b.1, ap (advanced s t) e ∙ b.2) ]
+        [ inl a ↦ inl (next, a.0, ap (next_state s t) e ∙ a.1) | inr b ↦ inr (b.0, b.1, ap (next_state s t) e ∙ b.2) ]
 
 abbrev ok : Tree → Result Tree Fault
 ok tree = Ok tree
@@ -156,7 +156,7 @@ ok tree = Ok tree
 same_ok : (a b : Tree) → ok a ≡ ok b → a ≡ b
 same_ok a b h = cc
 
-finished_ok : (s : State) (tree : Tree) → finished s ≡ Ok tree → s ≡ Finished tree.entries
+finished_ok : (s : State) (tree : Tree) → tree_at_end s ≡ Ok tree → s ≡ Finished tree.entries
 finished_ok (Finished es) tree h = ap (λ (t : Tree). Finished t.entries) (same_ok (record { entries = es }) tree h)
 finished_ok (Top es) tree h = absurd (cc)
 finished_ok (Struct es p) tree h = absurd (cc)
@@ -166,19 +166,19 @@ finished_ok (In i m) tree h = absurd (cc)
 abbrev err : Fault → Result Tree Fault
 err f = Err f
 
-pub judged_on : (s : State) (t : Token) (ts : List Token) (next : State) → advanced s t (step s t) ≡ Ok next → judged s (t ∷ ts) ≡ judged next ts
-unfolding judged
-judged_on s t ts next e = let J : Result State Fault → Result Tree Fault = λ r. elim r [ Ok z ↦ judged z ts | Err f ↦ Err f ] in ap J e
+pub judged_on : (s : State) (t : Token) (ts : List Token) (next : State) → next_state s t (step s t) ≡ Ok next → tree_or_fault s (t ∷ ts) ≡ tree_or_fault next ts
+unfolding tree_or_fault
+judged_on s t ts next e = let J : Result State Fault → Result Tree Fault = λ r. elim r [ Ok z ↦ tree_or_fault z ts | Err f ↦ Err f ] in ap J e
 
-pub judged_off : (s : State) (t : Token) (ts : List Token) (f : Fault) → advanced s t (step s t) ≡ Err f → judged s (t ∷ ts) ≡ Err f
-unfolding judged
-judged_off s t ts f e = let J : Result State Fault → Result Tree Fault = λ r. elim r [ Ok z ↦ judged z ts | Err f ↦ Err f ] in ap J e
+pub judged_off : (s : State) (t : Token) (ts : List Token) (f : Fault) → next_state s t (step s t) ≡ Err f → tree_or_fault s (t ∷ ts) ≡ Err f
+unfolding tree_or_fault
+judged_off s t ts f e = let J : Result State Fault → Result Tree Fault = λ r. elim r [ Ok z ↦ tree_or_fault z ts | Err f ↦ Err f ] in ap J e
 
 not_ok : {P : Type 0} (f : Fault) (tree : Tree) → Err f ≡ Ok tree → P
 not_ok f tree h = absurd (cc)
 
-judged_ok : (ts : List Token) (s : State) (tree : Tree) → judged s ts ≡ Ok tree → Quiet s ts (Finished tree.entries)
-unfolding judged Quiet
+judged_ok : (ts : List Token) (s : State) (tree : Tree) → tree_or_fault s ts ≡ Ok tree → Quiet s ts (Finished tree.entries)
+unfolding tree_or_fault Quiet
 judged_ok [] s tree h = finished_ok s tree h
 judged_ok (t ∷ ts) s tree h = elim (tell s t) [
   | inl a ↦ (a.0, a.1.0, a.1.1, a.1.2, a.1.3, judged_ok ts a.0 tree (sym (judged_on s t ts a.0 a.2) ∙ h))
@@ -188,10 +188,10 @@ judged_ok (t ∷ ts) s tree h = elim (tell s t) [
 same_fault : (f g : Fault) → err f ≡ err g → f ≡ g
 same_fault f g h = cc
 
-judged_err : (ts : List Token) (s : State) (f : Fault) → judged s ts ≡ Err f
+judged_err : (ts : List Token) (s : State) (f : Fault) → tree_or_fault s ts ≡ Err f
     → ((a : List Token) × (t : Token) × (b : List Token) × (z : State) × (ts ≡ a ++ t ∷ b) × Quiet s a z × Fails z t f)
-    ⊎ ((z : State) × Quiet s ts z × (finished z ≡ Err f))
-unfolding judged Quiet
+    ⊎ ((z : State) × Quiet s ts z × (tree_at_end z ≡ Err f))
+unfolding tree_or_fault Quiet
 judged_err [] s f h = inr (s, refl, h)
 judged_err (t ∷ ts) s f h = elim (tell s t) [
   | inl a ↦ elim (judged_err ts a.0 f (sym (judged_on s t ts a.0 a.2) ∙ h)) [
@@ -223,7 +223,7 @@ same_tree : (a b : List Entry) → Finished a ≡ Finished b → a ≡ b
 same_tree a b h = cc
 
 -- What is accepted is a program within the limits.
-pub accepted : (ts : List Token) (tree : Tree) → judged (Top []) ts ≡ Ok tree → Accepts ts tree
+pub accepted : (ts : List Token) (tree : Tree) → tree_or_fault (Top []) ts ≡ Ok tree → Accepts ts tree
 accepted ts tree h =
     let end = Finished tree.entries in
     let q = judged_ok ts (Top []) tree h in
@@ -234,8 +234,8 @@ accepted ts tree h =
     record { program = d; proper = f.2; within = w.0; tokens = e; same = ap tree_of (same_tree _ tree.entries (sym w.1)) }
 
 passes : (s : State) (m : Mark) (next : State) → step s m.token ≡ Some next → nesting_of next ≡ m.nesting → item_of s m.token ≡ m.item → operators_of next ≡ m.operators
-    → IsWithin m → advanced s m.token (step s m.token) ≡ Ok next
-passes s m next h a b c w = ap (advanced s m.token) h ∙ elim (leb_tells 65 (nesting_of next)) [
+    → IsWithin m → next_state s m.token (step s m.token) ≡ Ok next
+passes s m next h a b c w = ap (next_state s m.token) h ∙ elim (leb_tells 65 (nesting_of next)) [
   | inl p ↦ absurd (omega (arith, w.nesting))
   | inr p ↦ elim (leb_tells 256 (item_of s m.token)) [
     | inl q ↦ absurd (omega (arith, w.item))
@@ -244,15 +244,15 @@ passes s m next h a b c w = ap (advanced s m.token) h ∙ elim (leb_tells 65 (ne
   ]
 ]
 
-within_judged : (ms : List Mark) (s : State) (tree : List Entry) → Follows s ms tree → AllWithin ms → judged s (tokens_of ms) ≡ Ok (record { entries = tree })
-unfolding Follows tokens_of AllWithin judged
-within_judged [] s tree f w = ap finished f
+within_judged : (ms : List Mark) (s : State) (tree : List Entry) → Follows s ms tree → AllWithin ms → tree_or_fault s (tokens_of ms) ≡ Ok (record { entries = tree })
+unfolding Follows tokens_of AllWithin tree_or_fault
+within_judged [] s tree f w = ap tree_at_end f
 within_judged (m ∷ ms) s tree f w = judged_on s m.token (tokens_of ms) f.0 (passes s m f.0 f.1 f.2 f.3 f.4 w.0) ∙ within_judged ms f.0 tree f.5 w.1
 
 -- Each program within the limits is accepted, with its tree and no other.
-pub complete : (ts : List Token) (tree : Tree) → Accepts ts tree → judged (Top []) ts ≡ Ok tree
+pub complete : (ts : List Token) (tree : Tree) → Accepts ts tree → tree_or_fault (Top []) ts ≡ Ok tree
 complete ts tree a =
-    ap (judged (Top [])) (sym a.tokens) ∙ (within_judged (spelled_program a.program) (Top []) _ (read_program a.program a.proper) a.within ∙ ap Ok a.same)
+    ap (tree_or_fault (Top [])) (sym a.tokens) ∙ (within_judged (spelled_program a.program) (Top []) _ (read_program a.program a.proper) a.within ∙ ap Ok a.same)
 
 -- The first fault.
 module _ (s : Span) (z : State) where
@@ -267,14 +267,14 @@ module _ (s : Span) (z : State) where
   place_end i w (Element p) h = absurd (cc)
   place_end i w (Access p) h = absurd (cc)
 
-  making_end : (i : Inside) (m : Making) → placed i (at_making m s End) ≡ Some z → ⊥
+  making_end : (i : Inside) (m : Making) → state_in i (at_making m s End) ≡ Some z → ⊥
   making_end i (Makings.Alloc t at) h = absurd (cc)
   making_end i (Makings.Shape t at y) h = absurd (cc)
   making_end i (Makings.Modref t at) h = absurd (cc)
   making_end i (Makings.Typed st) h = absurd (cc)
   making_end i (Makings.Opened st) h = absurd (cc)
 
-  type_end : (on : TypePart → State) (done : TypeForm → Ident → State) (cells : Bool) (p : TypePart) → typed on done (at_type cells p s End) ≡ Some z → ⊥
+  type_end : (on : TypePart → State) (done : TypeForm → Ident → State) (cells : Bool) (p : TypePart) → with_typing on done (at_type cells p s End) ≡ Some z → ⊥
   type_end on done cells Types.Struct h = absurd (cc)
   type_end on done cells (Types.StructNamed y) h = absurd (cc)
   type_end on done cells Types.Mod h = absurd (cc)
@@ -285,7 +285,7 @@ module _ (s : Span) (z : State) where
   type_end on done false (Types.ModNamed y) h = absurd (cc)
   type_end on done cells (Types.Done form) h = absurd (cc)
 
-  mode_end : (i : Inside) (m : Mode) → moved i m s End ≡ Some z → ⊥
+  mode_end : (i : Inside) (m : Mode) → at_mode i m s End ≡ Some z → ⊥
   mode_end i Modes.Body h = absurd (cc)
   mode_end i (Modes.Typing at p) h = type_end (λ q. In i (Modes.Typing at q))
       (λ form x. In i (Modes.Declared at form x)) false p
@@ -340,14 +340,14 @@ module _ (s : Span) (z : State) where
   place_cut i w (Element p) h = absurd (cc)
   place_cut i w (Access p) h = absurd (cc)
 
-  making_cut : (i : Inside) (m : Making) → placed i (at_making m s Cut) ≡ Some z → ⊥
+  making_cut : (i : Inside) (m : Making) → state_in i (at_making m s Cut) ≡ Some z → ⊥
   making_cut i (Makings.Alloc t at) h = absurd (cc)
   making_cut i (Makings.Shape t at y) h = absurd (cc)
   making_cut i (Makings.Modref t at) h = absurd (cc)
   making_cut i (Makings.Typed st) h = absurd (cc)
   making_cut i (Makings.Opened st) h = absurd (cc)
 
-  type_cut : (on : TypePart → State) (done : TypeForm → Ident → State) (cells : Bool) (p : TypePart) → typed on done (at_type cells p s Cut) ≡ Some z → ⊥
+  type_cut : (on : TypePart → State) (done : TypeForm → Ident → State) (cells : Bool) (p : TypePart) → with_typing on done (at_type cells p s Cut) ≡ Some z → ⊥
   type_cut on done cells Types.Struct h = absurd (cc)
   type_cut on done cells (Types.StructNamed y) h = absurd (cc)
   type_cut on done cells Types.Mod h = absurd (cc)
@@ -358,7 +358,7 @@ module _ (s : Span) (z : State) where
   type_cut on done false (Types.ModNamed y) h = absurd (cc)
   type_cut on done cells (Types.Done form) h = absurd (cc)
 
-  mode_cut : (i : Inside) (m : Mode) → moved i m s Cut ≡ Some z → ⊥
+  mode_cut : (i : Inside) (m : Mode) → at_mode i m s Cut ≡ Some z → ⊥
   mode_cut i Modes.Body h = absurd (cc)
   mode_cut i (Modes.Typing at p) h = type_cut (λ q. In i (Modes.Typing at q))
       (λ form x. In i (Modes.Declared at form x)) false p
@@ -420,10 +420,10 @@ module _ (s : Span) (z : State) where
   step_cut (In i m) h = mode_cut i m h
   step_cut (Finished es) h = absurd (cc)
 
-ended_finished : (m z : State) (t : Token) (f : Fault) → (t.kind ≡ End) ⊎ (t.kind ≡ Cut) → step m t ≡ Some z → finished z ≡ Err f → ⊥
+ended_finished : (m z : State) (t : Token) (f : Fault) → (t.kind ≡ End) ⊎ (t.kind ≡ Cut) → step m t ≡ Some z → tree_at_end z ≡ Err f → ⊥
 ended_finished m z t f (inl e) h g =
     let r = step_end t.span z m (ap (λ k. step m (record { kind = k; span = t.span })) (sym e) ∙ h) in
-    not_ok f (tree_of r.0) (sym g ∙ ap finished r.1)
+    not_ok f (tree_of r.0) (sym g ∙ ap tree_at_end r.1)
 ended_finished m z t f (inr e) h g = step_cut t.span z m (ap (λ k. step m (record { kind = k; span = t.span })) (sym e) ∙ h)
 
 cleaned : (a : List Token) (t : Token) (b : List Token) (z : State) → Quiet (Top []) (a ++ t ∷ b) z → IsClean a t
@@ -474,13 +474,13 @@ module _ (ts before : List Token) (t : Token) (later : List Token) (z : State) (
       (record { before = before; at = t; later = later; tokens = e; clean = λ a x b p. cleaned a x b z (rw p at q); span = refl; stands = (b, low, many) })
 
 -- The fault that a reading gives is the first one.
-pub faulty : (ts : List Token) (f : Fault) → IsEnded ts → judged (Top []) ts ≡ Err f → IsFirstFault ts f
+pub faulty : (ts : List Token) (f : Fault) → IsEnded ts → tree_or_fault (Top []) ts ≡ Err f → IsFirstFault ts f
 unfolding Quiet
 faulty ts f ended h = elim (judged_err ts (Top []) f h) [
   | inl c ↦ fails_first ts c.0 c.1 c.2 c.3 c.4 c.5 f c.6
   | inr c ↦
       let r = quiet_front ended.before (ended.last ∷ []) (Top []) c.0 (rw ended.whole at c.1) in
-      absurd (ended_finished r.0 r.2.0 ended.last f ended.kind r.2.1 (ap finished r.2.5 ∙ c.2))
+      absurd (ended_finished r.0 r.2.0 ended.last f ended.kind r.2.1 (ap tree_at_end r.2.5 ∙ c.2))
 ]
 
 -- No other fault is the first.
@@ -514,9 +514,9 @@ clean_quiet (t ∷ rest) done s st c =
     let o : operators_of g.0 ≤ 255 = omega (arith, g.4, b.1.operators) in
     (r.0, (g.0, g.1, n, i, o, r.1))
 
-judged_append : (a b : List Token) (s z : State) → Quiet s a z → judged s (a ++ b) ≡ judged z b
+judged_append : (a b : List Token) (s z : State) → Quiet s a z → tree_or_fault s (a ++ b) ≡ tree_or_fault z b
 unfolding Quiet
-judged_append [] b s z q = ap (λ (ρ : State). judged ρ b) q
+judged_append [] b s z q = ap (λ (ρ : State). tree_or_fault ρ b) q
 judged_append (t ∷ a) b s z q =
     judged_on s t (a ++ b) q.0 (passes s (record { token = t; nesting = nesting_of q.0; item = item_of s t; operators = operators_of q.0 }) q.0 q.1 refl refl refl
     (record { nesting = q.2; item = q.3; operators = q.4 })) ∙ judged_append a b q.0 z q.5
@@ -540,12 +540,12 @@ last_code : (k : TokenKind) → (k ≡ End) ⊎ (k ≡ Cut) → code_at k ≡ S5
 last_code k (inl e) = ap code_at e
 last_code k (inr e) = ap code_at e
 
-deep_fails : (s next : State) (t : Token) → step s t ≡ Some next → 65 ≤ nesting_of next → advanced s t (step s t) ≡ Err (fault_at S4 t)
-deep_fails s next t e h = ap (advanced s t) e ∙ elim (leb_tells 65 (nesting_of next)) [ inl p ↦ rw p.0 refl | inr p ↦ absurd (omega arith) ]
+deep_fails : (s next : State) (t : Token) → step s t ≡ Some next → 65 ≤ nesting_of next → next_state s t (step s t) ≡ Err (fault_at S4 t)
+deep_fails s next t e h = ap (next_state s t) e ∙ elim (leb_tells 65 (nesting_of next)) [ inl p ↦ rw p.0 refl | inr p ↦ absurd (omega arith) ]
 
 many_fails : (s next : State) (t : Token) → step s t ≡ Some next → nesting_of next ≤ 64 → (256 ≤ item_of s t) ⊎ (256 ≤ operators_of next)
-    → advanced s t (step s t) ≡ Err (fault_at S6 t)
-many_fails s next t e h c = ap (advanced s t) e ∙ elim (leb_tells 65 (nesting_of next)) [
+    → next_state s t (step s t) ≡ Err (fault_at S6 t)
+many_fails s next t e h c = ap (next_state s t) e ∙ elim (leb_tells 65 (nesting_of next)) [
   | inl p ↦ absurd (omega arith)
   | inr p ↦ elim (leb_tells 256 (item_of s t)) [
     | inl q ↦ rw (p.0, q.0) refl
@@ -557,14 +557,14 @@ many_fails s next t e h c = ap (advanced s t) e ∙ elim (leb_tells 65 (nesting_
 ]
 
 stands_fails : (before : List Token) (t : Token) (s : State) → Steps (Top []) before s → (code : FaultCode) → StandsAt before t code
-    → advanced s t (step s t) ≡ Err (fault_at code t)
+    → next_state s t (step s t) ≡ Err (fault_at code t)
 stands_fails before t s st S3 h =
-    ap (advanced s t) (stuck_at before t s st h.2) ∙ ap (λ (c : FaultCode). advanced_err c) (not_code t.kind h.0 h.1)
+    ap (next_state s t) (stuck_at before t s st h.2) ∙ ap (λ (c : FaultCode). advanced_err c) (not_code t.kind h.0 h.1)
   where
     advanced_err : FaultCode → Result State Fault
     advanced_err c = Err (fault_at c t)
 stands_fails before t s st S5 h =
-    ap (advanced s t) (stuck_at before t s st h.1) ∙ ap (λ (c : FaultCode). advanced_err c) (last_code t.kind h.0)
+    ap (next_state s t) (stuck_at before t s st h.1) ∙ ap (λ (c : FaultCode). advanced_err c) (last_code t.kind h.0)
   where
     advanced_err : FaultCode → Result State Fault
     advanced_err c = Err (fault_at c t)
@@ -593,11 +593,11 @@ stands_fails before t s st S6 h =
     let m : (256 ≤ item_of s t) ⊎ (256 ≤ operators_of g.0) = elim h.2 [ inl c ↦ inl (omega (arith, g.3, c)) | inr c ↦ inr (omega (arith, g.4, c)) ] in
     many_fails s g.0 t g.1 n m
 
-pub first_given : (ts : List Token) (f : Fault) → IsFirstFault ts f → judged (Top []) ts ≡ Err f
+pub first_given : (ts : List Token) (f : Fault) → IsFirstFault ts f → tree_or_fault (Top []) ts ≡ Err f
 unfolding Steps
 first_given ts f h =
     let q = clean_quiet h.before [] (Top []) refl h.clean in
     let st = quiet_steps h.before (Top []) q.0 q.1 in
-    ap (judged (Top [])) h.tokens ∙ (judged_append h.before (h.at ∷ h.later) (Top []) q.0 q.1
+    ap (tree_or_fault (Top [])) h.tokens ∙ (judged_append h.before (h.at ∷ h.later) (Top []) q.0 q.1
     ∙ (judged_off q.0 h.at h.later (fault_at f.code h.at) (stands_fails h.before h.at q.0 st f.code h.stands)
     ∙ ap (λ (s : Span). err (record { code = f.code; span = s })) (sym h.span)))

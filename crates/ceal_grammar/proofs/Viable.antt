@@ -73,12 +73,12 @@ use Rattle.ceal_base.specs.declared.syntax.ExprForm.{Null, Own}
 use Rattle.ceal_base.specs.declared.syntax.TypeForm.TheVariants as Forms
 use Rattle.ceal_base.specs.declared.syntax.Value.TheVariants as Values
 use Rattle.ceal_grammar.specs.Machine.{same_sign, same_word, is_sign, is_word, wants, operator_of, at_name, single}
-use Rattle.ceal_grammar.specs.Machine.{prefixed, addressed, joined, accessed, reduced, within, begun, operated, placed}
-use Rattle.ceal_grammar.specs.Machine.{at_prim, at_operand, with_statement, given, called, received, closes}
-use Rattle.ceal_grammar.specs.Machine.{at_sign_after, accesses, at_index, at_after, at_element, at_place, type_begin}
-use Rattle.ceal_grammar.specs.Machine.{type_starts, star_or, at_type, owned, block_closed, opened_by, at_statement}
-use Rattle.ceal_grammar.specs.Machine.{at_word, at_body, typed, path_of, field_of, at_value, at_modref, at_making}
-use Rattle.ceal_grammar.specs.Machine.{at_reached, chained_in, moved, begun_type, with_member, is_cell, length_of}
+use Rattle.ceal_grammar.specs.Machine.{prefix_piece, address_piece, infix_piece, arrow_piece, reduction, within, new_whole, with_operator, state_in}
+use Rattle.ceal_grammar.specs.Machine.{at_prim, at_operand, with_statement, value_statement, call_statement, at_expression_end, closes}
+use Rattle.ceal_grammar.specs.Machine.{at_sign_after, with_arrow, at_index, at_after, at_element, at_place, type_begin}
+use Rattle.ceal_grammar.specs.Machine.{type_starts, star_or, at_type, mode_after_block, block_closed, opened_by, at_statement}
+use Rattle.ceal_grammar.specs.Machine.{at_word, at_body, with_typing, path_of, field_of, at_value, at_modref, at_making}
+use Rattle.ceal_grammar.specs.Machine.{at_reached, chained_in, at_mode, begun_type, with_member, is_cell, length_of}
 use Rattle.ceal_grammar.specs.Machine.{at_member_end, at_length, begun_struct, at_struct, with_parameter, at_head}
 use Rattle.ceal_grammar.specs.Machine.{at_part, at_top, step}
 use Rattle.ceal_grammar.proofs.Telling.{sign_true, word_true, sign_is, word_is}
@@ -112,15 +112,15 @@ pub at_wanted : (u : List Token) (b : Bool) (σ τ : State) → wants b σ ≡ S
 at_wanted u b σ τ h f = subst (λ (ρ : State). Future ρ u) (sym ((wanted b σ τ h).1)) f
 
 -- the same at a place within a body
-pub chosen_in : (i : Inside) (b : Bool) (x y : Option Mode) (τ : State) → placed i (if b then x else y) ≡ Some τ → ((b ≡ true) × (placed i x ≡ Some τ)) ⊎ ((b ≡ false) × (placed i y ≡ Some τ))
+pub chosen_in : (i : Inside) (b : Bool) (x y : Option Mode) (τ : State) → state_in i (if b then x else y) ≡ Some τ → ((b ≡ true) × (state_in i x ≡ Some τ)) ⊎ ((b ≡ false) × (state_in i y ≡ Some τ))
 chosen_in i true x y τ h = inl (refl, h)
 chosen_in i false x y τ h = inr (refl, h)
 
-pub wanted_in : (i : Inside) (b : Bool) (m : Mode) (τ : State) → placed i (wants b m) ≡ Some τ → wants b (In i m) ≡ Some τ
+pub wanted_in : (i : Inside) (b : Bool) (m : Mode) (τ : State) → state_in i (wants b m) ≡ Some τ → wants b (In i m) ≡ Some τ
 wanted_in i true m τ h = h
 wanted_in i false m τ h = h
 
-pub name_in : (i : Inside) (g : Ident → Mode) (s : Span) (k : TokenKind) (τ : State) → placed i (at_name g s k) ≡ Some τ → at_name (λ x. In i (g x)) s k ≡ Some τ
+pub name_in : (i : Inside) (g : Ident → Mode) (s : Span) (k : TokenKind) (τ : State) → state_in i (at_name g s k) ≡ Some τ → at_name (λ x. In i (g x)) s k ≡ Some τ
 name_in i g s (Name x) τ h = h
 name_in i g s (Number x) τ h = h
 name_in i g s (Reserved x) τ h = h
@@ -129,7 +129,7 @@ name_in i g s End τ h = h
 name_in i g s Cut τ h = h
 
 pub typed_in : (i : Inside) (on : TypePart → Mode) (done : TypeForm → Ident → Mode) (o : Option Typing) (τ : State)
-    → placed i (typed on done o) ≡ Some τ → typed (λ p. In i (on p)) (λ form x. In i (done form x)) o ≡ Some τ
+    → state_in i (with_typing on done o) ≡ Some τ → with_typing (λ p. In i (on p)) (λ form x. In i (done form x)) o ≡ Some τ
 typed_in i on done None τ h = h
 typed_in i on done (Some (MoreType p)) τ h = h
 typed_in i on done (Some (NamedType form x)) τ h = h
@@ -160,7 +160,7 @@ closed_back i h ds [] s u f = f
 closed_back i h ds (o ∷ os) s u f = owner_back o.owner f
   where
     owner_back : (w : Owner)
-        → Future (In (record { entries = i.entries; head = h; opened = os; done = o.before; chain = o.chain; base = o.base; nesting = o.nesting }) (owned w ds)) u
+        → Future (In (record { entries = i.entries; head = h; opened = os; done = o.before; chain = o.chain; base = o.base; nesting = o.nesting }) (mode_after_block w ds)) u
         → OwnedFuture w (BodyFuture (CloseFuture os)) u
     owner_back (OfWhile at e) f = f
     owner_back (OfThen at e) f = f
@@ -244,7 +244,7 @@ module _ (cells : Bool) (next : Bool → List Token → Type 0) (s : Span) (u : 
 module _ (cells : Bool) (next : Bool → List Token → Type 0) (s : Span) (τ : State) (u : List Token) (on : TypePart → State) (done : TypeForm → Ident → State)
     (from_on : (p : TypePart) → Future (on p) u → TypeFuture cells next p u) (from_done : (form : TypeForm) (x : Ident) → Future (done form x) u → next (is_cell form) u) where
   abbrev Typed : Option Typing → Type 0
-  Typed o = typed on done o ≡ Some τ
+  Typed o = with_typing on done o ≡ Some τ
 
   choose : (b : Bool) (x y : Option Typing) → Typed (if b then x else y) → ((b ≡ true) × Typed x) ⊎ ((b ≡ false) × Typed y)
   choose true x y h = inl (refl, h)
@@ -403,7 +403,7 @@ module _ (i : Inside) (s : Span) (τ : State) (u : List Token) where
   backed : (k l : ReservedWord) → same_word k l ≡ true → Backed l → Backed k
   backed k l e b = subst Backed (sym (word_true k l e)) b
 
-  statement_back : (k : ReservedWord) → placed i (at_statement s k) ≡ Some τ → Future τ u → Backed k
+  statement_back : (k : ReservedWord) → state_in i (at_statement s k) ≡ Some τ → Future τ u → Backed k
   unfolding statement StatementProper phrase
   statement_back k h f = elim (chosen_in i (same_word k Words.If) (Some (Modes.Before (To.If s))) (at_word_2 k) τ h) [
     | inl q ↦ backed k Words.If q.0 (let b = if_rest (at_next u _ τ q.1 f) in put _ (branch b.0) _ b.1 b.2 b.3 b.4)
@@ -425,7 +425,7 @@ module _ (i : Inside) (s : Span) (τ : State) (u : List Token) where
     ]
   ]
 
-  word_back : (k : ReservedWord) (o : Option TypePart) → type_begin k ≡ o → placed i (at_word s k o) ≡ Some τ → Future τ u → Backed k
+  word_back : (k : ReservedWord) (o : Option TypePart) → type_begin k ≡ o → state_in i (at_word s k o) ≡ Some τ → Future τ u → Backed k
   word_back k (Some p) e h f = typing_back k p e (at_next u _ τ h f)
   word_back k None e h f = statement_back k h f
 
@@ -496,28 +496,28 @@ operator_infix Signs.RightBracket op h = absurd (cc)
 
 -- operators that take a piece leave the future as it is
 kept : (i : Inside) (r : Receiver) (l : ℕ) (p : Piece) (fs : List Frame) (u : List Token)
-    → FramesFuture i r (reduced l p fs).frames u → FramesFuture i r fs u
-unfolding reduced FramesFuture
+    → FramesFuture i r (reduction l p fs).frames u → FramesFuture i r fs u
+unfolding reduction FramesFuture
 kept i r l p [] u f = f
 kept i r l p (Open s d ∷ fs) u f = f
 kept i r l p (Index s e d ∷ fs) u f = f
-kept i r l p (Prefix op s ∷ fs) u f = kept i r l (prefixed op s p) fs u f
-kept i r l p (AddressOf s ∷ fs) u f = kept i r l (addressed s p) fs u f
+kept i r l p (Prefix op s ∷ fs) u f = kept i r l (prefix_piece op s p) fs u f
+kept i r l p (AddressOf s ∷ fs) u f = kept i r l (address_piece s p) fs u f
 kept i r l p (Left a op s ∷ fs) u f = elim (leb_tells l (level op))
-    [ inl t ↦ kept i r l (joined a op s p) fs u (rw t.0 at f) | inr t ↦ rw t.0 at f ]
+    [ inl t ↦ kept i r l (infix_piece a op s p) fs u (rw t.0 at f) | inr t ↦ rw t.0 at f ]
 
 module _ (i : Inside) (s : Span) (τ : State) (u : List Token) where
   ended_at : (c l : SignOf) (ρ : State) → wants (same_sign c l) ρ ≡ Some τ → (next : List Token → Type 0) → (Future ρ u → next u) → Future τ u → AfterSign l next (word (Sign c) s ∷ u)
   ended_at c l ρ h next g f = (s, u, same_kind _ _ s u (ap Sign (sign_true c l (wanted _ _ τ h).0)), g (at_wanted u _ _ τ h f))
 
-  receiver_back : (r : Receiver) (d : ℕ) (e : Expr) (c : SignOf) → received i d r e c ≡ Some τ → Future τ u → ReceiverFuture i r (word (Sign c) s ∷ u)
+  receiver_back : (r : Receiver) (d : ℕ) (e : Expr) (c : SignOf) → at_expression_end i d r e c ≡ Some τ → Future τ u → ReceiverFuture i r (word (Sign c) s ∷ u)
   unfolding FramesFuture items AllGrouped
-  receiver_back (To.Value t) d e c h f = ended_at c Signs.Semicolon (In (with_statement i (given t (Values.Plain e))) Modes.Body) h (InBody i) (λ g. g) f
-  receiver_back (To.Read t at) d e c h f = ended_at c Signs.RightParenthesis (In i (Modes.Ends (given t (Values.Read at e)))) (wanted_in i _ _ τ h) (SemiFuture i) (λ g. g) f
+  receiver_back (To.Value t) d e c h f = ended_at c Signs.Semicolon (In (with_statement i (value_statement t (Values.Plain e))) Modes.Body) h (InBody i) (λ g. g) f
+  receiver_back (To.Read t at) d e c h f = ended_at c Signs.RightParenthesis (In i (Modes.Ends (value_statement t (Values.Read at e)))) (wanted_in i _ _ τ h) (SemiFuture i) (λ g. g) f
   receiver_back (To.Argument x args) d e c h f =
       elim (chosen_in i (same_sign c Signs.Comma)
-      (Some (Modes.Within (begun d (To.Argument x (args ++ e ∷ []))) Want))
-      (wants (same_sign c Signs.RightParenthesis) (Modes.Ends (called x (args ++ e ∷ [])))) τ h) [
+      (Some (Modes.Within (new_whole d (To.Argument x (args ++ e ∷ []))) Want))
+      (wants (same_sign c Signs.RightParenthesis) (Modes.Ends (call_statement x (args ++ e ∷ [])))) τ h) [
         | inl p ↦ let w = at_next u _ τ p.1 f in let a = w.4 in
             ((s, w.0) ∷ a.0, a.1, a.2, (w.2, a.3), behind _ _ s _ _ (ap Sign (sign_true c Signs.Comma p.0)) (w.3 ∙ ap (phrase w.0) a.4), a.5)
         | inr p ↦ let q = wanted_in i _ _ τ p.1 in ([], s, u, tt, same_kind _ _ s u (ap Sign (sign_true c Signs.RightParenthesis (wanted _ _ τ q).0)), at_wanted u _ _ τ q f)
@@ -550,7 +550,7 @@ module _ (i : Inside) (s : Span) (τ : State) (u : List Token) where
       let t = at_next u _ τ h f in
       (more op s t.0, t.1, (operator_infix c op e, t.2), behind _ _ s _ _ (ap Sign (operator_is c op e)) t.3, kept i w.receiver (level op) p w.frames _ t.4)
   sign_back w p c None e h f =
-      let q = reduced 0 p w.frames in
+      let q = reduction 0 p w.frames in
       (stop, _, tt, refl, kept i w.receiver 0 p w.frames _ (closes_back w c q.piece q.frames h f))
 
   element_back : (w : Whole) (p : Piece) (k : TokenKind) → at_element i w p s k ≡ Some τ → Future τ u → ElementFuture i w.receiver w.frames (word k s ∷ u)
@@ -576,7 +576,7 @@ module _ (i : Inside) (s : Span) (τ : State) (u : List Token) where
   after_back : (w : Whole) (p : Piece) (k : TokenKind) → at_after i w p s k ≡ Some τ → Future τ u → HaveFuture i w.receiver w.frames (word k s ∷ u)
   unfolding tail_words TailGrouped
   after_back w p (Sign c) h f =
-      elim (chosen (same_sign c Signs.Arrow) (Some (within i (accesses w) (Access p))) (later c) τ h) [
+      elim (chosen (same_sign c Signs.Arrow) (Some (within i (with_arrow w) (Access p))) (later c) τ h) [
         | inl a ↦ let n = at_next u _ τ a.1 f in let t = n.3 in (
           field s n.0 t.0,
           t.1,
@@ -599,7 +599,7 @@ module _ (i : Inside) (s : Span) (τ : State) (u : List Token) where
   after_back w p Cut h f = never τ h
 
   -- an operand, and what follows it
-  prim_back : (w : Whole) (k : TokenKind) → placed i (at_prim w s k) ≡ Some τ → Future τ u → PostFuture i w.receiver w.frames (word k s ∷ u)
+  prim_back : (w : Whole) (k : TokenKind) → state_in i (at_prim w s k) ≡ Some τ → Future τ u → PostFuture i w.receiver w.frames (word k s ∷ u)
   unfolding FramesFuture Grouped phrase
   prim_back w (Name x) h f =
       let t = at_next u _ τ h f in
@@ -636,14 +636,14 @@ module _ (i : Inside) (s : Span) (τ : State) (u : List Token) where
   grow_back r fs (field at x t) c v w h g k e f = grow_back r fs t (arrow c at x) v w (omega arith) (h, g) k e f
   grow_back r fs (index l d q b) c v w h g k e f = (c, _, g, e, indexed_back r fs l d q b v k f)
 
-  operand_back : (w : Whole) (k : TokenKind) → placed i (at_operand w s k) ≡ Some τ → Future τ u → WantFuture i w.receiver w.frames (word k s ∷ u)
+  operand_back : (w : Whole) (k : TokenKind) → state_in i (at_operand w s k) ≡ Some τ → Future τ u → WantFuture i w.receiver w.frames (word k s ∷ u)
   unfolding FramesFuture Grouped phrase
   operand_back w k h f =
-      elim (chosen_in i (is_sign Signs.Minus k) (Some (Modes.Within (operated w (Prefix Neg s) w.frames) Want)) (second k) τ h) [
+      elim (chosen_in i (is_sign Signs.Minus k) (Some (Modes.Within (with_operator w (Prefix Neg s) w.frames) Want)) (second k) τ h) [
         | inl a ↦ prefix_back Neg (sign_is Signs.Minus k a.0) (at_next u _ τ a.1 f)
-        | inr a ↦ elim (chosen_in i (is_sign Signs.Bang k) (Some (Modes.Within (operated w (Prefix Not s) w.frames) Want)) (third k) τ a.1) [
+        | inr a ↦ elim (chosen_in i (is_sign Signs.Bang k) (Some (Modes.Within (with_operator w (Prefix Not s) w.frames) Want)) (third k) τ a.1) [
           | inl b ↦ prefix_back Not (sign_is Signs.Bang k b.0) (at_next u _ τ b.1 f)
-          | inr b ↦ elim (chosen_in i (is_sign Signs.Ampersand k) (Some (Modes.Within (operated w (AddressOf s) w.frames) Post)) (at_prim w s k) τ b.1) [
+          | inr b ↦ elim (chosen_in i (is_sign Signs.Ampersand k) (Some (Modes.Within (with_operator w (AddressOf s) w.frames) Post)) (at_prim w s k) τ b.1) [
             | inl c ↦ let t = at_next u _ τ c.1 f in (
               pointed s t.0 t.1,
               t.2,
@@ -657,10 +657,10 @@ module _ (i : Inside) (s : Span) (τ : State) (u : List Token) where
       ]
     where
       third : TokenKind → Option Mode
-      third k = if is_sign Signs.Ampersand k then Some (Modes.Within (operated w (AddressOf s) w.frames) Post) else at_prim w s k
+      third k = if is_sign Signs.Ampersand k then Some (Modes.Within (with_operator w (AddressOf s) w.frames) Post) else at_prim w s k
 
       second : TokenKind → Option Mode
-      second k = if is_sign Signs.Bang k then Some (Modes.Within (operated w (Prefix Not s) w.frames) Want) else third k
+      second k = if is_sign Signs.Bang k then Some (Modes.Within (with_operator w (Prefix Not s) w.frames) Want) else third k
 
       prefix_back : (o : UnaryOp) → k ≡ Sign (prefix_sign o) → WantFuture i w.receiver (Prefix o s ∷ w.frames) u → WantFuture i w.receiver w.frames (word k s ∷ u)
       prefix_back o e t = (
@@ -676,11 +676,11 @@ module _ (i : Inside) (s : Span) (τ : State) (u : List Token) where
   place_back w Post k h f = prim_back w k h f
   place_back w (Have p) k h f = after_back w p k h f
   place_back w (Element p) k h f = element_back w p k h f
-  place_back w (Access p) k h f = at_name_back s τ u (λ x. within i w (Have (accessed p x)))
+  place_back w (Access p) k h f = at_name_back s τ u (λ x. within i w (Have (arrow_piece p x)))
       (HaveFuture i w.receiver w.frames) (λ x g. g) k
-      (name_in i (λ x. Modes.Within w (Have (accessed p x))) s k τ h) f
+      (name_in i (λ x. Modes.Within w (Have (arrow_piece p x))) s k τ h) f
 
-  value_back : (t : Target) (k : TokenKind) → placed i (at_value i.nesting t s k) ≡ Some τ → Future τ u → ValueFuture i (word k s ∷ u)
+  value_back : (t : Target) (k : TokenKind) → state_in i (at_value i.nesting t s k) ≡ Some τ → Future τ u → ValueFuture i (word k s ∷ u)
   unfolding FramesFuture
   value_back t k h f =
       elim (chosen_in i (is_word Words.Read k) (Some (Modes.Before (To.Read t s))) (second k) τ h) [
@@ -694,15 +694,15 @@ module _ (i : Inside) (s : Span) (τ : State) (u : List Token) where
             behind _ _ s _ _ (word_is Words.Alloc k b.0) (y.2 ∙ ahead (Name y.0.text) y.0.span _ _ (x.2 ∙ ahead (Name x.0.text) x.0.span _ _ (l.2 ∙ ahead (Sign Signs.LeftParenthesis) l.0 _ _ p.4))),
             p.5,
           )
-          | inr b ↦ elim (chosen_in i (is_word Words.Modref k) (Some (Modes.Making (Makings.Modref t s))) (at_operand (begun i.nesting (To.Value t)) s k) τ b.1) [
+          | inr b ↦ elim (chosen_in i (is_word Words.Modref k) (Some (Modes.Making (Makings.Modref t s))) (at_operand (new_whole i.nesting (To.Value t)) s k) τ b.1) [
             | inl c ↦ made_back (word_is Words.Modref k c.0) (at_next u _ τ c.1 f)
-            | inr c ↦ let w = operand_back (begun i.nesting (To.Value t)) k c.1 f in (plainly w.0, w.1, w.2, w.3, w.4)
+            | inr c ↦ let w = operand_back (new_whole i.nesting (To.Value t)) k c.1 f in (plainly w.0, w.1, w.2, w.3, w.4)
           ]
         ]
       ]
     where
       third : TokenKind → Option Mode
-      third k = if is_word Words.Modref k then Some (Modes.Making (Makings.Modref t s)) else at_operand (begun i.nesting (To.Value t)) s k
+      third k = if is_word Words.Modref k then Some (Modes.Making (Makings.Modref t s)) else at_operand (new_whole i.nesting (To.Value t)) s k
 
       second : TokenKind → Option Mode
       second k = if is_word Words.Alloc k then Some (Modes.Making (Makings.Alloc t s)) else third k
@@ -713,7 +713,7 @@ module _ (i : Inside) (s : Span) (τ : State) (u : List Token) where
       made_back e (inr f) = let l = f.3 in let r = l.3 in
           (modref s f.0 l.0 r.0, r.1, tt, behind _ _ s _ _ e (f.2 ∙ ahead (Name f.0.text) f.0.span _ _ (l.2 ∙ ahead (Sign Signs.LeftParenthesis) l.0 _ _ r.2)), r.3)
 
-  modref_back : (t : Target) (at : Span) (k : TokenKind) → placed i (at_modref t at s k) ≡ Some τ → Future τ u → MakingFuture i (Makings.Modref t at) (word k s ∷ u)
+  modref_back : (t : Target) (at : Span) (k : TokenKind) → state_in i (at_modref t at s k) ≡ Some τ → Future τ u → MakingFuture i (Makings.Modref t at) (word k s ∷ u)
   modref_back t at (Name x) h f = inr (record { text = x; span = s }, u, refl, at_next u _ τ h f)
   modref_back t at (Reserved k) h f = let q = wanted_in i _ _ τ h in inl (s, u, same_kind _ _ s u (ap Reserved (word_true k Words.Int (wanted _ _ τ q).0)), at_wanted u _ _ τ q f)
   modref_back t at (Number v) h f = never τ h
@@ -721,7 +721,7 @@ module _ (i : Inside) (s : Span) (τ : State) (u : List Token) where
   modref_back t at End h f = never τ h
   modref_back t at Cut h f = never τ h
 
-  making_back : (m : Making) (k : TokenKind) → placed i (at_making m s k) ≡ Some τ → Future τ u → MakingFuture i m (word k s ∷ u)
+  making_back : (m : Making) (k : TokenKind) → state_in i (at_making m s k) ≡ Some τ → Future τ u → MakingFuture i m (word k s ∷ u)
   making_back (Makings.Alloc t at) k h f =
       at_name_back s τ u (λ y. In i (Modes.Making (Makings.Shape t at y)))
       (AfterName (AfterSign Signs.LeftParenthesis (ArgumentsFuture i))) (λ x g. g) k
@@ -736,10 +736,10 @@ module _ (i : Inside) (s : Span) (τ : State) (u : List Token) where
   unfolding CloseFuture statement StatementProper
   opened_back o k e f = (block s f.0 f.1, f.2, f.3, behind _ _ s _ _ e f.4, f.5)
 
-  reached_back : (e : Expr) (x : Ident) (n : ℕ) (k : TokenKind) → placed i (at_reached i.nesting e x n k) ≡ Some τ → Future τ u → ReachedFuture i (word k s ∷ u)
+  reached_back : (e : Expr) (x : Ident) (n : ℕ) (k : TokenKind) → state_in i (at_reached i.nesting e x n k) ≡ Some τ → Future τ u → ReachedFuture i (word k s ∷ u)
   unfolding hops FramesFuture
   reached_back e x n k h f =
-      elim (chosen_in i (is_sign Signs.Arrow k) (Some (Modes.Path (field_of e x) (suc n))) (wants (is_sign Signs.Equals k) (Modes.Within (begun i.nesting (To.Set e x)) Want)) τ h) [
+      elim (chosen_in i (is_sign Signs.Arrow k) (Some (Modes.Path (field_of e x) (suc n))) (wants (is_sign Signs.Equals k) (Modes.Within (new_whole i.nesting (To.Set e x)) Want)) τ h) [
         | inl a ↦ let y = at_next u _ τ a.1 f in let r = y.3 in
             ((s, y.0) ∷ r.0, r.1, r.2, r.3, r.4, behind _ _ s _ _ (sign_is Signs.Arrow k a.0) (y.2 ∙ ahead (Name y.0.text) y.0.span _ _ r.5), r.6)
         | inr a ↦ let q = wanted_in i _ _ τ a.1 in let w = at_wanted u _ _ τ q f in
@@ -747,7 +747,7 @@ module _ (i : Inside) (s : Span) (τ : State) (u : List Token) where
       ]
 
 module _ (i : Inside) (s : Span) (τ : State) (u : List Token) where
-  mode_back : (m : Mode) (k : TokenKind) → moved i m s k ≡ Some τ → Future τ u → ModeFuture i m (word k s ∷ u)
+  mode_back : (m : Mode) (k : TokenKind) → at_mode i m s k ≡ Some τ → Future τ u → ModeFuture i m (word k s ∷ u)
   unfolding CloseFuture FramesFuture statement StatementProper
   mode_back Modes.Body k h f = body_back i s τ u k h f
   mode_back (Modes.Typing at p) k h f =
@@ -776,12 +776,12 @@ module _ (i : Inside) (s : Span) (τ : State) (u : List Token) where
   mode_back (Modes.Making m) k h f = making_back i s τ u m k h f
   mode_back (Modes.Calls c) k h f = sign_wanted s τ u Signs.LeftParenthesis k (In i (Modes.First c)) (ArgumentsFuture i) (λ g. g) (wanted_in i _ _ τ h) f
   mode_back (Modes.First c) k h f =
-      elim (chosen_in i (is_sign Signs.RightParenthesis k) (Some (Modes.Ends (called c []))) (at_operand (begun (suc i.nesting) (To.Argument c [])) s k) τ h) [
+      elim (chosen_in i (is_sign Signs.RightParenthesis k) (Some (Modes.Ends (call_statement c []))) (at_operand (new_whole (suc i.nesting) (To.Argument c [])) s k) τ h) [
         | inl p ↦ (no_arguments, s, u, tt, same_kind _ _ s u (sign_is Signs.RightParenthesis k p.0), at_next u _ τ p.1 f)
-        | inr p ↦ let w = operand_back i s τ u (begun (suc i.nesting) (To.Argument c [])) k p.1 f in let a = w.4 in
+        | inr p ↦ let w = operand_back i s τ u (new_whole (suc i.nesting) (To.Argument c [])) k p.1 f in let a = w.4 in
             (arguments w.0 a.0, a.1, a.2, (w.2, a.3), w.3 ∙ ap (phrase w.0) a.4, a.5)
       ]
-  mode_back (Modes.Before r) k h f = sign_wanted s τ u Signs.LeftParenthesis k (within i (begun (suc i.nesting) r) Want) (WantFuture i r []) (λ g. g) (wanted_in i _ _ τ h) f
+  mode_back (Modes.Before r) k h f = sign_wanted s τ u Signs.LeftParenthesis k (within i (new_whole (suc i.nesting) r) Want) (WantFuture i r []) (λ g. g) (wanted_in i _ _ τ h) f
   mode_back (Modes.Within w p) k h f = place_back i s τ u w p k h f
   mode_back (Modes.Ends st) k h f = sign_wanted s τ u Signs.Semicolon k (In (with_statement i st) Modes.Body) (InBody i) (λ g. g) h f
   mode_back (Modes.Ended st) k h f = body_back (with_statement i st) s τ u k h f

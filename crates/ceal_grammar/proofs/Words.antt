@@ -18,7 +18,7 @@ use Rattle.ceal_grammar.specs.Grammar.{function, Program}
 use Rattle.ceal_grammar.specs.Spelled.{Mark, mark, plain, sign_of, prefix_sign, after, spelled, spelled_type}
 use Rattle.ceal_grammar.specs.Spelled.{spelled_more, spelled_arguments, spelled_given, spelled_statement}
 use Rattle.ceal_grammar.specs.Spelled.{spelled_branch, spelled_otherwise, spelled_block, spelled_statements}
-use Rattle.ceal_grammar.specs.Spelled.{spelled_others, spelled_parameters, spelled_signature, counted, spelled_size}
+use Rattle.ceal_grammar.specs.Spelled.{spelled_others, spelled_parameters, spelled_signature, fields_up_to, spelled_size}
 use Rattle.ceal_grammar.specs.Spelled.{spelled_members, spelled_part, spelled_parts, spelled_program, tokens_of}
 
 abbrev pub word : TokenKind → Span → Token
@@ -236,7 +236,7 @@ bare_size c (row l n s r) rest = refl
 pub bare_members : (c : ℕ) (ms : List Member) (rest : List Mark) → tokens_of (spelled_members c ms rest) ≡ member_words ms (tokens_of rest)
 unfolding tokens_of spelled_members member_words
 bare_members c [] rest = refl
-bare_members c (m ∷ ms) rest = rw (bare_type, bare_size, bare_members (counted c m.size) ms rest)
+bare_members c (m ∷ ms) rest = rw (bare_type, bare_size, bare_members (fields_up_to c m.size) ms rest)
 
 pub bare_part : (p : Part) (rest : List Mark) → tokens_of (spelled_part p rest) ≡ part_words p (tokens_of rest)
 unfolding tokens_of

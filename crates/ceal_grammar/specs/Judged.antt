@@ -28,24 +28,24 @@ entries_of (Finished es) = Some es
 entries_of _ = None
 
 -- Where no token is left that finishes the program: no list whose last token is End or Cut has this result.
-abbrev pub finished : State → Result Tree Fault
-finished (Finished es) = Ok (record { entries = es })
-finished _ = Err (record { code = S5; span = record { from = 0; to = 0 } })
+abbrev pub tree_at_end : State → Result Tree Fault
+tree_at_end (Finished es) = Ok (record { entries = es })
+tree_at_end _ = Err (record { code = S5; span = record { from = 0; to = 0 } })
 
 -- The state after the token t, which begins the item of this number, if it keeps the limits.
-abbrev pub tested : ℕ → Token → State → Result State Fault
-tested item t next =
+abbrev pub within_limits : ℕ → Token → State → Result State Fault
+within_limits item t next =
     if nat_le 65 (nesting_of next) then Err (fault_at S4 t)
     else if nat_le 256 item then Err (fault_at S6 t)
     else if nat_le 256 (operators_of next) then Err (fault_at S6 t)
     else Ok next
 
 -- where a token leads to, or the fault at it
-abbrev pub advanced : State → Token → Option State → Result State Fault
-advanced s t None = Err (fault_at (code_at t.kind) t)
-advanced s t (Some next) = tested (item_of s t) t next
+abbrev pub next_state : State → Token → Option State → Result State Fault
+next_state s t None = Err (fault_at (code_at t.kind) t)
+next_state s t (Some next) = within_limits (item_of s t) t next
 
 -- the tree of tokens from a state on, or the first fault
-unfoldable pub judged : State → List Token → Result Tree Fault
-judged s [] = finished s
-judged s (t ∷ ts) = elim (advanced s t (step s t)) [ Ok next ↦ judged next ts | Err f ↦ Err f ]
+unfoldable pub tree_or_fault : State → List Token → Result Tree Fault
+tree_or_fault s [] = tree_at_end s
+tree_or_fault s (t ∷ ts) = elim (next_state s t (step s t)) [ Ok next ↦ tree_or_fault next ts | Err f ↦ Err f ]

@@ -157,64 +157,65 @@ ident_of s (Name x) = Some (record { text = x; span = s })
 ident_of s _ = None
 
 -- what is made of a name, if there is one
-abbrev pub named : {A : Type 0} → (Ident → A) → Option Ident → Option A
-named f None = None
-named f (Some x) = Some (f x)
+abbrev pub with_name : {A : Type 0} → (Ident → A) → Option Ident → Option A
+with_name f None = None
+with_name f (Some x) = Some (f x)
 
 -- what is made of a token that is a name
 abbrev pub at_name : {A : Type 0} → (Ident → A) → Span → TokenKind → Option A
-at_name f s k = named f (ident_of s k)
+at_name f s k = with_name f (ident_of s k)
 
 -- Expressions.
 abbrev pub single : Span → ExprForm → Piece
 single s form = record { from = s; expr = record { span = s; form = form } }
 
 -- a piece with an operator before it
-abbrev pub prefixed : UnaryOp → Span → Piece → Piece
-prefixed op s p = record { from = s; expr = record { span = s; form = Unary op p.expr } }
+abbrev pub prefix_piece : UnaryOp → Span → Piece → Piece
+prefix_piece op s p = record { from = s; expr = record { span = s; form = Unary op p.expr } }
 
 -- a piece with `&` before it
-abbrev pub addressed : Span → Piece → Piece
-addressed s p = record { from = s; expr = record { span = s; form = Address p.expr } }
+abbrev pub address_piece : Span → Piece → Piece
+address_piece s p = record { from = s; expr = record { span = s; form = Address p.expr } }
 
 -- the element of a row, the piece being its index
 abbrev pub element_of : Span → Expr → Piece → Piece
 element_of s row p = record { from = s; expr = record { span = s; form = Pick row p.expr } }
 
 -- two pieces with an operator between
-abbrev pub joined : Piece → BinaryOp → Span → Piece → Piece
-joined a op s b = record { from = a.from; expr = record { span = a.from; form = Binary op s a.expr b.expr } }
+abbrev pub infix_piece : Piece → BinaryOp → Span → Piece → Piece
+infix_piece a op s b = record { from = a.from; expr = record { span = a.from; form = Binary op s a.expr b.expr } }
 
 -- a piece with an arrow and a name after it
-abbrev pub accessed : Piece → Ident → Piece
-accessed p x = record { from = p.from; expr = record { span = p.from; form = Field p.expr x } }
+abbrev pub arrow_piece : Piece → Ident → Piece
+arrow_piece p x = record { from = p.from; expr = record { span = p.from; form = Field p.expr x } }
 
 -- a piece, and the frames that still wait
-pub record Reduced : Type 0 where
+pub record Reduction : Type 0 where
   pub piece : Piece
   pub frames : List Frame
 
 -- The operators of level l and above that wait for the piece take it.
-unfoldable pub reduced : ℕ → Piece → List Frame → Reduced
-reduced l p [] = record { piece = p; frames = [] }
-reduced l p (Open s d ∷ fs) = record { piece = p; frames = Open s d ∷ fs }
-reduced l p (Index s row d ∷ fs) = record { piece = p; frames = Index s row d ∷ fs }
-reduced l p (Prefix op s ∷ fs) = reduced l (prefixed op s p) fs
-reduced l p (AddressOf s ∷ fs) = reduced l (addressed s p) fs
-reduced l p (Left a op s ∷ fs) =
-    if nat_le l (level op) then reduced l (joined a op s p) fs else record { piece = p; frames = Left a op s ∷ fs }
+unfoldable pub reduction : ℕ → Piece → List Frame → Reduction
+reduction l p [] = record { piece = p; frames = [] }
+reduction l p (Open s d ∷ fs) = record { piece = p; frames = Open s d ∷ fs }
+reduction l p (Index s row d ∷ fs) = record { piece = p; frames = Index s row d ∷ fs }
+reduction l p (Prefix op s ∷ fs) = reduction l (prefix_piece op s p) fs
+reduction l p (AddressOf s ∷ fs) = reduction l (address_piece s p) fs
+reduction l p (Left a op s ∷ fs) =
+    if nat_le l (level op) then reduction l
+    (infix_piece a op s p) fs else record { piece = p; frames = Left a op s ∷ fs }
 
 -- the state within a whole expression
 abbrev pub within : Inside → Whole → Place → State
 within i w p = In i (Modes.Within w p)
 
 -- a whole expression of which nothing was read
-abbrev pub begun : ℕ → Receiver → Whole
-begun d r = record { nesting = d; operators = 0; frames = []; receiver = r }
+abbrev pub new_whole : ℕ → Receiver → Whole
+new_whole d r = record { nesting = d; operators = 0; frames = []; receiver = r }
 
 -- a whole expression with one more parenthesis open
-abbrev pub opened : Whole → Span → Whole
-opened w s = record {
+abbrev pub with_parenthesis : Whole → Span → Whole
+with_parenthesis w s = record {
   nesting = suc w.nesting;
   operators = w.operators;
   frames = Open s w.nesting ∷ w.frames;
@@ -222,8 +223,8 @@ opened w s = record {
 }
 
 -- an index begins after the piece p, the operand of the `&` at s
-abbrev pub indexed : Whole → Span → Piece → List Frame → Whole
-indexed w s p fs =
+abbrev pub with_index : Whole → Span → Piece → List Frame → Whole
+with_index w s p fs =
     record {
       nesting = suc w.nesting;
       operators = suc w.operators;
@@ -232,13 +233,18 @@ indexed w s p fs =
     }
 
 -- a whole expression with one more operator that waits
-abbrev pub operated : Whole → Frame → List Frame → Whole
-operated w f fs = record { nesting = w.nesting; operators = suc w.operators; frames = f ∷ fs; receiver = w.receiver }
+abbrev pub with_operator : Whole → Frame → List Frame → Whole
+with_operator w f fs = record {
+  nesting = w.nesting;
+  operators = suc w.operators;
+  frames = f ∷ fs;
+  receiver = w.receiver;
+}
 
 -- what a token makes of a place within a statement, in a body
-abbrev pub placed : Inside → Option Mode → Option State
-placed i None = None
-placed i (Some m) = Some (In i m)
+abbrev pub state_in : Inside → Option Mode → Option State
+state_in i None = None
+state_in i (Some m) = Some (In i m)
 
 -- a token that begins an operand without a sign
 abbrev pub at_prim : Whole → Span → TokenKind → Option Mode
@@ -247,21 +253,21 @@ at_prim w s (Number v) = Some (Modes.Within w (Have (single s (Num v))))
 at_prim w s (Reserved k) =
     if same_word k Words.Own then Some (Modes.Within w (Have (single s Own)))
     else wants (same_word k Words.Null) (Modes.Within w (Have (single s Null)))
-at_prim w s (Sign c) = wants (same_sign c Signs.LeftParenthesis) (Modes.Within (opened w s) Want)
+at_prim w s (Sign c) = wants (same_sign c Signs.LeftParenthesis) (Modes.Within (with_parenthesis w s) Want)
 at_prim w s _ = None
 
 -- a token that begins an operand
 abbrev pub at_operand : Whole → Span → TokenKind → Option Mode
 at_operand w s k =
-    if is_sign Signs.Minus k then Some (Modes.Within (operated w (Prefix Neg s) w.frames) Want)
-    else if is_sign Signs.Bang k then Some (Modes.Within (operated w (Prefix Not s) w.frames) Want)
-    else if is_sign Signs.Ampersand k then Some (Modes.Within (operated w (AddressOf s) w.frames) Post)
+    if is_sign Signs.Minus k then Some (Modes.Within (with_operator w (Prefix Neg s) w.frames) Want)
+    else if is_sign Signs.Bang k then Some (Modes.Within (with_operator w (Prefix Not s) w.frames) Want)
+    else if is_sign Signs.Ampersand k then Some (Modes.Within (with_operator w (AddressOf s) w.frames) Post)
     else at_prim w s k
 
 -- A statement ends, and with it each `if` that it is the else part of.
-unfoldable pub wrapped : List Chained → Stmt → Stmt
-wrapped [] st = st
-wrapped (c ∷ cs) st = wrapped cs (If c.span c.test c.first (st ∷ []))
+unfoldable pub chain_statement : List Chained → Stmt → Stmt
+chain_statement [] st = st
+chain_statement (c ∷ cs) st = chain_statement cs (If c.span c.test c.first (st ∷ []))
 
 -- a body with one more statement
 abbrev pub with_statement : Inside → Stmt → Inside
@@ -269,21 +275,21 @@ with_statement i st = record {
   entries = i.entries;
   head = i.head;
   opened = i.opened;
-  done = i.done ++ wrapped i.chain st ∷ [];
+  done = i.done ++ chain_statement i.chain st ∷ [];
   chain = [];
   base = i.base;
   nesting = i.base;
 }
 
 -- the statement whose value has ended
-abbrev pub given : Target → Value → Stmt
-given (ToDeclare s form x) v = Declare s form x v
-given (ToAssign x) v = Assign x v
+abbrev pub value_statement : Target → Value → Stmt
+value_statement (ToDeclare s form x) v = Declare s form x v
+value_statement (ToAssign x) v = Assign x v
 
 -- What a statement becomes once its arguments are there.
-abbrev pub called : Callee → List Expr → Stmt
-called (ToCall x) args = Call x args
-called (ToAlloc t s y x) args = given t (Alloc s y x args)
+abbrev pub call_statement : Callee → List Expr → Stmt
+call_statement (ToCall x) args = Call x args
+call_statement (ToAlloc t s y x) args = value_statement t (Alloc s y x args)
 
 -- a statement ends at `;`
 abbrev pub ends_at : Inside → Stmt → SignOf → Option State
@@ -292,57 +298,62 @@ ends_at i st c = wants (same_sign c Signs.Semicolon) (In (with_statement i st) M
 -- The whole expression e at the sign after it; d is the nesting at it.
 abbrev pub at_argument : ℕ → Callee → List Expr → SignOf → Option Mode
 at_argument d f args c =
-    if same_sign c Signs.Comma then Some (Modes.Within (begun d (To.Argument f args)) Want)
-    else wants (same_sign c Signs.RightParenthesis) (Modes.Ends (called f args))
+    if same_sign c Signs.Comma then Some (Modes.Within (new_whole d (To.Argument f args)) Want)
+    else wants (same_sign c Signs.RightParenthesis) (Modes.Ends (call_statement f args))
 
 -- a whole expression has ended at this sign
-abbrev pub received : Inside → ℕ → Receiver → Expr → SignOf → Option State
-received i d (To.Value t) e c = ends_at i (given t (Plain e)) c
-received i d (To.Read t s) e c = placed i (wants (same_sign c Signs.RightParenthesis) (Modes.Ends (given t (Read s e))))
-received i d (To.Argument f args) e c = placed i (at_argument d f (args ++ e ∷ []) c)
-received i d (To.Set a x) e c = ends_at i (SetField a.span a x e) c
-received i d (To.Write s) e c = placed i (wants (same_sign c Signs.Comma) (Modes.Within (begun d (To.Store s e)) Want))
-received i d (To.Store s a) e c = placed i (wants (same_sign c Signs.RightParenthesis) (Modes.Ends (Write s a e)))
-received i d (To.If s) e c = placed i (wants (same_sign c Signs.RightParenthesis) (Modes.Opens (OfThen s e)))
-received i d (To.While s) e c = placed i (wants (same_sign c Signs.RightParenthesis) (Modes.Opens (OfWhile s e)))
+abbrev pub at_expression_end : Inside → ℕ → Receiver → Expr → SignOf → Option State
+at_expression_end i d (To.Value t) e c = ends_at i (value_statement t (Plain e)) c
+at_expression_end i d (To.Read t s) e c = state_in i
+    (wants (same_sign c Signs.RightParenthesis) (Modes.Ends (value_statement t (Read s e))))
+at_expression_end i d (To.Argument f args) e c = state_in i (at_argument d f (args ++ e ∷ []) c)
+at_expression_end i d (To.Set a x) e c = ends_at i (SetField a.span a x e) c
+at_expression_end i d (To.Write s) e c = state_in i
+    (wants (same_sign c Signs.Comma) (Modes.Within (new_whole d (To.Store s e)) Want))
+at_expression_end i d (To.Store s a) e c = state_in i
+    (wants (same_sign c Signs.RightParenthesis) (Modes.Ends (Write s a e)))
+at_expression_end i d (To.If s) e c = state_in i (wants (same_sign c Signs.RightParenthesis) (Modes.Opens (OfThen s e)))
+at_expression_end i d (To.While s) e c = state_in i
+    (wants (same_sign c Signs.RightParenthesis) (Modes.Opens (OfWhile s e)))
 
 -- a whole expression with one parenthesis closed
-abbrev pub closed : Whole → ℕ → List Frame → Whole
-closed w d fs = record { nesting = d; operators = w.operators; frames = fs; receiver = w.receiver }
+abbrev pub without_parenthesis : Whole → ℕ → List Frame → Whole
+without_parenthesis w d fs = record { nesting = d; operators = w.operators; frames = fs; receiver = w.receiver }
 
 -- a sign that closes a parenthesis, or ends the whole expression
 abbrev pub closes : Inside → Whole → SignOf → Piece → List Frame → Option State
-closes i w c p [] = received i w.nesting w.receiver p.expr c
+closes i w c p [] = at_expression_end i w.nesting w.receiver p.expr c
 closes i w c p (Open s d ∷ fs) =
-    wants (same_sign c Signs.RightParenthesis) (within i (closed w d fs) (Have (record { from = s; expr = p.expr })))
+    wants (same_sign c Signs.RightParenthesis)
+    (within i (without_parenthesis w d fs) (Have (record { from = s; expr = p.expr })))
 closes i w c p (Index s row d ∷ fs) =
-    wants (same_sign c Signs.RightBracket) (within i (closed w d fs) (Element (element_of s row p)))
+    wants (same_sign c Signs.RightBracket) (within i (without_parenthesis w d fs) (Element (element_of s row p)))
 closes i w c p (Prefix op s ∷ fs) = None
 closes i w c p (AddressOf s ∷ fs) = None
 closes i w c p (Left a op s ∷ fs) = None
 
 -- an operator after a piece
-abbrev pub operates : Inside → Whole → BinaryOp → Span → Reduced → Option State
-operates i w op s q = Some (within i (operated w (Left q.piece op s) q.frames) Want)
+abbrev pub operates : Inside → Whole → BinaryOp → Span → Reduction → Option State
+operates i w op s q = Some (within i (with_operator w (Left q.piece op s) q.frames) Want)
 
 -- a sign after a piece, with the operator that it stands for
 abbrev pub at_sign_after : Inside → Whole → Piece → Span → SignOf → Option BinaryOp → Option State
-at_sign_after i w p s c (Some op) = operates i w op s (reduced (level op) p w.frames)
-at_sign_after i w p s c None = let q = reduced 0 p w.frames in closes i w c q.piece q.frames
+at_sign_after i w p s c (Some op) = operates i w op s (reduction (level op) p w.frames)
+at_sign_after i w p s c None = let q = reduction 0 p w.frames in closes i w c q.piece q.frames
 
 -- a whole expression with one more arrow
-abbrev pub accesses : Whole → Whole
-accesses w = record { nesting = w.nesting; operators = suc w.operators; frames = w.frames; receiver = w.receiver }
+abbrev pub with_arrow : Whole → Whole
+with_arrow w = record { nesting = w.nesting; operators = suc w.operators; frames = w.frames; receiver = w.receiver }
 
 -- An index may be after the operand of an `&` only.
 abbrev pub at_index : Inside → Whole → Piece → List Frame → Option State
-at_index i w p (AddressOf s ∷ fs) = Some (within i (indexed w s p fs) Want)
+at_index i w p (AddressOf s ∷ fs) = Some (within i (with_index w s p fs) Want)
 at_index i w p _ = None
 
 -- a token after a piece
 abbrev pub at_after : Inside → Whole → Piece → Span → TokenKind → Option State
 at_after i w p s (Sign c) =
-    if same_sign c Signs.Arrow then Some (within i (accesses w) (Access p))
+    if same_sign c Signs.Arrow then Some (within i (with_arrow w) (Access p))
     else if same_sign c Signs.LeftBracket then at_index i w p w.frames
     else at_sign_after i w p s c (operator_of c)
 at_after i w p s _ = None
@@ -354,15 +365,15 @@ at_element i w p s _ = None
 
 -- the name after an arrow
 abbrev pub at_access : Whole → Piece → Span → TokenKind → Option Mode
-at_access w p s k = at_name (λ x. Modes.Within w (Have (accessed p x))) s k
+at_access w p s k = at_name (λ x. Modes.Within w (Have (arrow_piece p x))) s k
 
 -- a token within a whole expression, by the place in it
 abbrev pub at_place : Inside → Whole → Place → Span → TokenKind → Option State
-at_place i w Want s k = placed i (at_operand w s k)
-at_place i w Post s k = placed i (at_prim w s k)
+at_place i w Want s k = state_in i (at_operand w s k)
+at_place i w Post s k = state_in i (at_prim w s k)
 at_place i w (Have p) s k = at_after i w p s k
 at_place i w (Element p) s k = at_element i w p s k
-at_place i w (Access p) s k = placed i (at_access w p s k)
+at_place i w (Access p) s k = state_in i (at_access w p s k)
 
 -- Types. `cells` says whether a modifiable within a struct may be here.
 abbrev pub type_begin : ReservedWord → Option TypePart
@@ -399,10 +410,10 @@ at_type cells (Types.ModNamed y) s k = star_or cells (ModPtr y) (CellPtr y) s k
 at_type cells (Types.Done form) s k = at_name (λ x. NamedType form x) s k
 
 -- Statements.
-abbrev pub owned : Owner → List Stmt → Mode
-owned (OfWhile s e) body = Modes.Ended (While s e body)
-owned (OfThen s e) body = Modes.Closed s e body
-owned (OfElse s e first) body = Modes.Ended (If s e first body)
+abbrev pub mode_after_block : Owner → List Stmt → Mode
+mode_after_block (OfWhile s e) body = Modes.Ended (While s e body)
+mode_after_block (OfThen s e) body = Modes.Closed s e body
+mode_after_block (OfElse s e first) body = Modes.Ended (If s e first body)
 
 -- the state after a `}`
 abbrev pub block_closed : List Entry → Head → List Stmt → List Opened → Span → State
@@ -423,7 +434,7 @@ block_closed es h done (o ∷ os) s =
       chain = o.chain;
       base = o.base;
       nesting = o.nesting;
-    }) (owned o.owner done)
+    }) (mode_after_block o.owner done)
 
 -- the state after a `{`
 abbrev pub opened_by : Inside → Owner → State
@@ -456,15 +467,15 @@ at_word s k None = at_statement s k
 -- a token that begins a statement, or ends its block
 abbrev pub at_body : Inside → Span → TokenKind → Option State
 at_body i s (Name x) = Some (In i (Modes.Named (record { text = x; span = s })))
-at_body i s (Reserved k) = placed i (at_word s k (type_begin k))
+at_body i s (Reserved k) = state_in i (at_word s k (type_begin k))
 at_body i s (Sign c) = wants (same_sign c Signs.RightBrace) (block_closed i.entries i.head i.done i.opened s)
 at_body i s _ = None
 
 -- what is made of a type that continues, and of one that has ended
-abbrev pub typed : {A : Type 0} → (TypePart → A) → (TypeForm → Ident → A) → Option Typing → Option A
-typed more done None = None
-typed more done (Some (MoreType part)) = Some (more part)
-typed more done (Some (NamedType form x)) = Some (done form x)
+abbrev pub with_typing : {A : Type 0} → (TypePart → A) → (TypeForm → Ident → A) → Option Typing → Option A
+with_typing more done None = None
+with_typing more done (Some (MoreType part)) = Some (more part)
+with_typing more done (Some (NamedType form x)) = Some (done form x)
 
 -- A path, and one more field of it.
 abbrev pub field_of : Expr → Ident → Expr
@@ -480,12 +491,14 @@ at_value d t s k =
     if is_word Words.Read k then Some (Modes.Before (To.Read t s))
     else if is_word Words.Alloc k then Some (Modes.Making (Makings.Alloc t s))
     else if is_word Words.Modref k then Some (Modes.Making (Makings.Modref t s))
-    else at_operand (begun d (To.Value t)) s k
+    else at_operand (new_whole d (To.Value t)) s k
 
 -- a token after `modref(`
 abbrev pub at_modref : Target → Span → Span → TokenKind → Option Mode
-at_modref t at s (Name y) = Some (Modes.Making (Makings.Typed (given t (Modref at (record { text = y; span = s })))))
-at_modref t at s (Reserved k) = wants (same_word k Words.Int) (Modes.Making (Makings.Typed (given t (ModrefInt at))))
+at_modref t at s (Name y) = Some
+    (Modes.Making (Makings.Typed (value_statement t (Modref at (record { text = y; span = s })))))
+at_modref t at s (Reserved k) = wants (same_word k Words.Int)
+    (Modes.Making (Makings.Typed (value_statement t (ModrefInt at))))
 at_modref t at s _ = None
 
 -- a token within an allocation
@@ -498,7 +511,8 @@ at_making (Makings.Opened st) s k = wants (is_sign Signs.RightParenthesis k) (Mo
 
 -- a token within the type of a declaration
 abbrev pub at_typing : Span → TypePart → Span → TokenKind → Option Mode
-at_typing at part s k = typed (λ p. Modes.Typing at p) (λ form x. Modes.Declared at form x) (at_type false part s k)
+at_typing at part s k = with_typing (λ p. Modes.Typing at p) (λ form x. Modes.Declared at form x)
+    (at_type false part s k)
 
 -- the `=` of a declaration
 abbrev pub at_declared : Span → TypeForm → Ident → TokenKind → Option Mode
@@ -518,7 +532,7 @@ at_calls f k = wants (is_sign Signs.LeftParenthesis k) (Modes.First f)
 
 -- the parenthesis before an expression
 abbrev pub at_before : ℕ → Receiver → TokenKind → Option Mode
-at_before d r k = wants (is_sign Signs.LeftParenthesis k) (Modes.Within (begun (suc d) r) Want)
+at_before d r k = wants (is_sign Signs.LeftParenthesis k) (Modes.Within (new_whole (suc d) r) Want)
 
 -- a token after a name that begins a statement
 abbrev pub at_named : Ident → TokenKind → Option Mode
@@ -531,13 +545,13 @@ at_named x k =
 abbrev pub at_reached : ℕ → Expr → Ident → ℕ → TokenKind → Option Mode
 at_reached d e x n k =
     if is_sign Signs.Arrow k then Some (Modes.Path (field_of e x) (suc n))
-    else wants (is_sign Signs.Equals k) (Modes.Within (begun d (To.Set e x)) Want)
+    else wants (is_sign Signs.Equals k) (Modes.Within (new_whole d (To.Set e x)) Want)
 
 -- the first argument of a call, or its end
 abbrev pub at_first : ℕ → Callee → Span → TokenKind → Option Mode
 at_first d f s k =
-    if is_sign Signs.RightParenthesis k then Some (Modes.Ends (called f []))
-    else at_operand (begun (suc d) (To.Argument f [])) s k
+    if is_sign Signs.RightParenthesis k then Some (Modes.Ends (call_statement f []))
+    else at_operand (new_whole (suc d) (To.Argument f [])) s k
 
 -- an `if` waits for the one that is its else part
 abbrev pub chained_in : Inside → Chained → Inside
@@ -573,37 +587,40 @@ at_otherwise i at e first s k =
     (In (chained_in i (record { span = at; test = e; first = first })) (Modes.Before (To.If s)))
 
 -- a token within a body, by the mode
-abbrev pub moved : Inside → Mode → Span → TokenKind → Option State
-moved i Modes.Body s k = at_body i s k
-moved i (Modes.Typing at part) s k = placed i (at_typing at part s k)
-moved i (Modes.Declared at form x) s k = placed i (at_declared at form x k)
-moved i (Modes.Named x) s k = placed i (at_named x k)
-moved i (Modes.Owned at) s k = placed i (at_owned at k)
-moved i (Modes.Path e n) s k = placed i (at_path e n s k)
-moved i (Modes.Reached e x n) s k = placed i (at_reached i.nesting e x n k)
-moved i (Modes.Value t) s k = placed i (at_value i.nesting t s k)
-moved i (Modes.Making m) s k = placed i (at_making m s k)
-moved i (Modes.Calls f) s k = placed i (at_calls f k)
-moved i (Modes.First f) s k = placed i (at_first i.nesting f s k)
-moved i (Modes.Before r) s k = placed i (at_before i.nesting r k)
-moved i (Modes.Within w p) s k = at_place i w p s k
-moved i (Modes.Ends st) s k = at_ends i st k
-moved i (Modes.Ended st) s k = at_body (with_statement i st) s k
-moved i (Modes.Opens o) s k = at_opens i o k
-moved i (Modes.Closed at e first) s k = at_closed i at e first s k
-moved i (Modes.Otherwise at e first) s k = at_otherwise i at e first s k
+abbrev pub at_mode : Inside → Mode → Span → TokenKind → Option State
+at_mode i Modes.Body s k = at_body i s k
+at_mode i (Modes.Typing at part) s k = state_in i (at_typing at part s k)
+at_mode i (Modes.Declared at form x) s k = state_in i (at_declared at form x k)
+at_mode i (Modes.Named x) s k = state_in i (at_named x k)
+at_mode i (Modes.Owned at) s k = state_in i (at_owned at k)
+at_mode i (Modes.Path e n) s k = state_in i (at_path e n s k)
+at_mode i (Modes.Reached e x n) s k = state_in i (at_reached i.nesting e x n k)
+at_mode i (Modes.Value t) s k = state_in i (at_value i.nesting t s k)
+at_mode i (Modes.Making m) s k = state_in i (at_making m s k)
+at_mode i (Modes.Calls f) s k = state_in i (at_calls f k)
+at_mode i (Modes.First f) s k = state_in i (at_first i.nesting f s k)
+at_mode i (Modes.Before r) s k = state_in i (at_before i.nesting r k)
+at_mode i (Modes.Within w p) s k = at_place i w p s k
+at_mode i (Modes.Ends st) s k = at_ends i st k
+at_mode i (Modes.Ended st) s k = at_body (with_statement i st) s k
+at_mode i (Modes.Opens o) s k = at_opens i o k
+at_mode i (Modes.Closed at e first) s k = at_closed i at e first s k
+at_mode i (Modes.Otherwise at e first) s k = at_otherwise i at e first s k
 
 -- Structs.
 -- how many fields there are with a member of this type, c of them before it
-abbrev pub widened : ℕ → TypeForm → ℕ
-widened c (CellRow n) = c + n
-widened c (CellPtrRow y n) = c + n
-widened c form = suc c
+abbrev pub fields_with_member : ℕ → TypeForm → ℕ
+fields_with_member c (CellRow n) = c + n
+fields_with_member c (CellPtrRow y n) = c + n
+fields_with_member c form = suc c
 
 -- a struct with one more member
 abbrev pub with_member : Layout → FieldDecl → Layout
 with_member l m =
-    record { decl = record { name = l.decl.name; fields = l.decl.fields ++ m ∷ [] }; count = widened l.count m.form }
+    record {
+      decl = record { name = l.decl.name; fields = l.decl.fields ++ m ∷ [] };
+      count = fields_with_member l.count m.form;
+    }
 
 -- whether the type is that of a modifiable
 abbrev pub is_cell : TypeForm → Bool
@@ -655,7 +672,7 @@ at_struct es Structs.Begun s k = at_name (λ x. Struct es (Structs.Named x)) s k
 at_struct es (Structs.Named x) s k = wants (is_sign Signs.LeftBrace k) (Struct es (Structs.Members (begun_struct x)))
 at_struct es (Structs.Members l) s k = at_member es l k
 at_struct es (Structs.Typing l part) s k =
-    typed (λ p. Struct es (Structs.Typing l p))
+    with_typing (λ p. Struct es (Structs.Typing l p))
     (λ form x. Struct es (Structs.Ends l (record { form = form; name = x }))) (at_type true part s k)
 at_struct es (Structs.Ends l m) s k = at_member_end es l m k
 at_struct es (Structs.Length l m) s k = at_length es l m (length_of k)
@@ -689,7 +706,7 @@ at_head es (Heads.First h) s k =
     else begun_type (λ p. InHead es (Heads.Typing h p)) (type_starts k)
 at_head es (Heads.Next h) s k = begun_type (λ p. InHead es (Heads.Typing h p)) (type_starts k)
 at_head es (Heads.Typing h part) s k =
-    typed (λ p. InHead es (Heads.Typing h p))
+    with_typing (λ p. InHead es (Heads.Typing h p))
     (λ form x. InHead es (Heads.Named (with_parameter h (record { form = form; name = x })))) (at_type false part s k)
 at_head es (Heads.Named h) s k =
     if is_sign Signs.Comma k then Some (InHead es (Heads.Next h))
@@ -714,7 +731,7 @@ abbrev pub step : State → Token → Option State
 step (Top es) t = at_top es t.kind
 step (Struct es p) t = at_struct es p t.span t.kind
 step (InHead es p) t = at_head es p t.span t.kind
-step (In i m) t = moved i m t.span t.kind
+step (In i m) t = at_mode i m t.span t.kind
 step (Finished es) t = None
 
 -- The nesting.

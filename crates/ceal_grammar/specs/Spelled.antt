@@ -222,9 +222,9 @@ spelled_signature (init s x l k y t o more r) rest =
     ∷ spelled_others 1 more (plain 0 (Sign Signs.RightParenthesis) r ∷ rest)
 
 -- how many fields there are with a member, c of them before it
-abbrev pub counted : ℕ → Size → ℕ
-counted c single = suc c
-counted c (row l n s r) = c + n
+abbrev pub fields_up_to : ℕ → Size → ℕ
+fields_up_to c single = suc c
+fields_up_to c (row l n s r) = c + n
 
 -- the tokens of a row's length
 abbrev pub spelled_size : ℕ → Size → List Mark → List Mark
@@ -239,7 +239,7 @@ spelled_members c [] rest = rest
 spelled_members c (m ∷ ms) rest =
     spelled_type 1 (suc c) m.type
     (name 1 m.x
-    ∷ spelled_size c m.size (plain 1 (Sign Signs.Semicolon) m.semi ∷ spelled_members (counted c m.size) ms rest))
+    ∷ spelled_size c m.size (plain 1 (Sign Signs.Semicolon) m.semi ∷ spelled_members (fields_up_to c m.size) ms rest))
 
 -- the tokens of a struct or a function
 abbrev pub spelled_part : Part → List Mark → List Mark

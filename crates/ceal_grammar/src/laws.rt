@@ -7,7 +7,7 @@ ghost use Rattle.ceal_lex.specs.Tokens.{IsEnded};
 ghost use Rattle.ceal_lex.specs.declared.token.Token.{Token};
 ghost use Rattle.ceal_grammar.specs.declared.state.State.TheVariants.{Top};
 ghost use Rattle.ceal_grammar.specs.Faults.{Accepts, IsFirstFault};
-ghost use Rattle.ceal_grammar.specs.Judged.{judged};
+ghost use Rattle.ceal_grammar.specs.Judged.{tree_or_fault};
 
 /// A law: tokens are those of one tree at most.
 pub fn one_tree()
@@ -33,11 +33,12 @@ pub fn either()
 
 /// A law: the result of the reading is the tree of the tokens, where they have one, and else their first fault.
 pub fn judges()
-    ensures accepted { (ts : List Token) (tree : Tree) → judged (Top []) ts ≡ Ok tree
+    ensures accepted { (ts : List Token) (tree : Tree) → tree_or_fault (Top []) ts ≡ Ok tree
         → Accepts ts tree }
     ensures complete { (ts : List Token) (tree : Tree) → Accepts ts tree
-        → judged (Top []) ts ≡ Ok tree }
-    ensures faulty { (ts : List Token) (f : Fault) → IsEnded ts → judged (Top []) ts ≡ Err f
+        → tree_or_fault (Top []) ts ≡ Ok tree }
+    ensures faulty { (ts : List Token) (f : Fault) → IsEnded ts → tree_or_fault (Top []) ts ≡ Err f
         → IsFirstFault ts f }
-    ensures first { (ts : List Token) (f : Fault) → IsFirstFault ts f → judged (Top []) ts ≡ Err f }
+    ensures first { (ts : List Token) (f : Fault) → IsFirstFault ts f
+        → tree_or_fault (Top []) ts ≡ Err f }
 {}

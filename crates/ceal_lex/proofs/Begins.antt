@@ -17,7 +17,7 @@ use Rattle.ceal_lex.specs.declared.front.Front.{Front}
 use Rattle.ceal_lex.specs.declared.front.Front.TheVariants.{Blank, Found, Broken}
 use Rattle.ceal_lex.specs.Characters.{LINE_FEED, SLASH, STAR, is_letter, is_space, is_word_byte}
 use Rattle.ceal_lex.specs.Spelling.{AreDigits, IsLexeme, IsWord, LARGEST, sign_text, Spells}
-use Rattle.ceal_lex.specs.Pieces.{Piece, space, line_comment, block_comment, token, followed, BeginsComment, IsLongest, Stands}
+use Rattle.ceal_lex.specs.Pieces.{Piece, space, line_comment, block_comment, token, piece_then, BeginsComment, IsLongest, Stands}
 use Rattle.ceal_lex.specs.Tokens.{tokens_from}
 use Rattle.ceal_lex.specs.Faults.{FaultStands}
 use Rattle.ceal_lex.specs.Front.{BeginsWith, is_other, ClosesAt, IsBlank, IsFound, IsFront, IsLongestSign, IsNeverClosed, IsTaken}
@@ -264,7 +264,7 @@ nothing_found (b ∷ bs) h none = (
 )
 
 -- How many bytes are taken.
-followed_longer : (p : Piece) (rest : List ℕ) → Stands p rest → length rest < length (followed p rest)
+followed_longer : (p : Piece) (rest : List ℕ) → Stands p rest → length rest < length (piece_then p rest)
 followed_longer (space b) rest h = omega arith
 followed_longer (line_comment t) rest h = let l = length-append t rest in omega (arith, l)
 followed_longer (block_comment t) rest h = let l = length-append t (STAR ∷ SLASH ∷ rest) in omega (arith, l)

@@ -9,7 +9,7 @@ use Rattle.ceal_base.specs.Digits.{is_digit}
 use Rattle.ceal_lex.specs.declared.token.Sign.TheVariants as signs
 use Rattle.ceal_lex.specs.Characters.{LINE_FEED, SLASH, STAR, is_space}
 use Rattle.ceal_lex.specs.Spelling.{AreDigits, IsLexeme, Spells}
-use Rattle.ceal_lex.specs.Pieces.{Piece, space, line_comment, block_comment, token, followed, EndsLine, IsLongest, IsClosedFirst, Stands}
+use Rattle.ceal_lex.specs.Pieces.{Piece, space, line_comment, block_comment, token, piece_then, EndsLine, IsLongest, IsClosedFirst, Stands}
 use Rattle.ceal_lex.specs.Faults.{IsOpen, BeginsNothing, BeginsTooLarge, FaultStands}
 use Rattle.ceal_lex.proofs.Spellings.{same_kind, lexeme_of, not_too_large, lexeme_not_empty, space_no_lexeme}
 
@@ -68,7 +68,7 @@ module _ (r s : List ℕ) where
   line_unlike_block t u h = let e : SLASH ≡ STAR = cc h in omega (arith, e)
 
   -- one piece at most
-  pub same_front : (p q : Piece) → followed p r ≡ followed q s → Stands p r → Stands q s → (p ≡ q) × (r ≡ s)
+  pub same_front : (p q : Piece) → piece_then p r ≡ piece_then q s → Stands p r → Stands q s → (p ≡ q) × (r ≡ s)
   same_front (space b) (space c) h a e = let x : b ≡ c = cc h in (ap space x, cc h)
   same_front (space b) (line_comment u) h a e = absurd (space_unlike_slash b _ h a)
   same_front (space b) (block_comment u) h a e = absurd (space_unlike_slash b _ h a)
@@ -98,7 +98,7 @@ module _ (r s : List ℕ) where
 
 -- There is no piece at the front.
 abbrev pub Stops : List ℕ → Type 0
-Stops rest = (p : Piece) (s : List ℕ) → Stands p s → followed p s ≡ rest → ⊥
+Stops rest = (p : Piece) (s : List ℕ) → Stands p s → piece_then p s ≡ rest → ⊥
 
 pub stops_at_end : Stops []
 stops_at_end (space b) s a h = absurd (cc h)

@@ -5,7 +5,7 @@ use Rattle.ceal_base.specs.declared.fault.FaultCode.{FaultCode}
 use Rattle.ceal_lex.specs.declared.token.Token.{Token}
 use Rattle.ceal_lex.specs.declared.token.TokenKind.{TokenKind}
 use Rattle.ceal_lex.specs.Characters.{SLASH, STAR}
-use Rattle.ceal_lex.specs.Pieces.{Piece, space, line_comment, block_comment, token, followed, Stands, spelled, Stand}
+use Rattle.ceal_lex.specs.Pieces.{Piece, space, line_comment, block_comment, token, piece_then, Stands, spelled, Stand}
 use Rattle.ceal_lex.specs.Tokens.{span, tokens_from}
 use Rattle.ceal_lex.specs.Faults.{FaultStands, IsFirstFault}
 use Rattle.ceal_lex.specs.Front.{IsBlank, IsFound}
@@ -23,7 +23,7 @@ text_of (line_comment text) = SLASH ∷ SLASH ∷ text
 text_of (block_comment text) = SLASH ∷ STAR ∷ text ++ STAR ∷ SLASH ∷ []
 text_of (token kind text) = text
 
-followed_text : (p : Piece) (rest : List ℕ) → followed p rest ≡ text_of p ++ rest
+followed_text : (p : Piece) (rest : List ℕ) → piece_then p rest ≡ text_of p ++ rest
 unfolding text_of
 followed_text (space b) rest = refl
 followed_text (line_comment text) rest = refl
@@ -31,7 +31,7 @@ followed_text (block_comment text) rest = ap (λ (x : List ℕ). SLASH ∷ STAR 
 followed_text (token kind text) rest = refl
 
 -- what is left after a piece of n bytes
-followed_rest : (p : Piece) (rest : List ℕ) (n : ℕ) (bytes : List ℕ) → followed p rest ≡ bytes → length rest + n ≡ length bytes → rest ≡ drop n bytes
+followed_rest : (p : Piece) (rest : List ℕ) (n : ℕ) (bytes : List ℕ) → piece_then p rest ≡ bytes → length rest + n ≡ length bytes → rest ≡ drop n bytes
 followed_rest p rest n bytes e l =
     let f = sym (followed_text p rest) ∙ e in
     let k = ap length f in
@@ -48,7 +48,7 @@ module _ (source : List ℕ) (at : ℕ) (tokens : List Token) (so_far : Continue
       let left : b.rest ≡ drop (at + n) source = followed_rest b.piece b.rest n (drop at source) b.begins b.counted ∙ drop-drop n at source in
       let next : spelled ps end ≡ b.rest = sp ∙ sym left in
       let stands : Stands b.piece (spelled ps end) = subst (Stands b.piece) (sym next) b.stands in
-      let r = so_far (b.piece ∷ ps) end (stands, st) (ap (followed b.piece) next ∙ b.begins) in
+      let r = so_far (b.piece ∷ ps) end (stands, st) (ap (piece_then b.piece) next ∙ b.begins) in
       record {
         pieces = r.pieces;
         stand = r.stand;
@@ -66,7 +66,7 @@ module _ (source : List ℕ) (at : ℕ) (tokens : List Token) (so_far : Continue
       followed_rest (token k f.text) f.rest n (drop at source) f.begins (omega (arith, l, m, f.counted)) ∙ drop-drop n at source in
       let next : spelled ps end ≡ f.rest = sp ∙ sym left in
       let stands : Stands (token k f.text) (spelled ps end) = subst (Stands (token k f.text)) (sym next) f.stands in
-      let r = so_far (token k f.text ∷ ps) end (stands, st) (ap (followed (token k f.text)) next ∙ f.begins) in
+      let r = so_far (token k f.text ∷ ps) end (stands, st) (ap (piece_then (token k f.text)) next ∙ f.begins) in
       record {
         pieces = r.pieces;
         stand = r.stand;

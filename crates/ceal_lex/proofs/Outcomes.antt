@@ -13,7 +13,7 @@ use Rattle.ceal_lex.specs.Faults.{IsFirstFault}
 use Rattle.ceal_lex.specs.Parts.{IsSplit, PartsAre, source_of}
 use Rattle.ceal_lex.specs.Pieces.{Piece, space, line_comment, block_comment, token, spelled}
 use Rattle.ceal_lex.specs.Reading.{Reads}
-use Rattle.ceal_lex.specs.Tokens.{AreTokens, ending, InOrder, IsEnded, tokens_from}
+use Rattle.ceal_lex.specs.Tokens.{AreTokens, last_token, InOrder, IsEnded, tokens_from}
 use Rattle.ceal_lex.proofs.Readings.{one_list, one_fault, not_both}
 
 parts_within : (marked : Bool) (input : List ℕ) (part : Split) → PartsAre marked input part → part.source.to ≤ length input
@@ -33,12 +33,12 @@ pub source_length : (input : List ℕ) (part : Split) → IsSplit input part →
 source_length input part h = length-take-le part.source.to input (source_within input part h)
 
 -- one token more, the last
-pub with_ending : (source : List ℕ) (marked : Bool) (ts : List Token) → Reads source [] ts → AreTokens source marked (ts ++ ending marked (length source) ∷ [])
+pub with_ending : (source : List ℕ) (marked : Bool) (ts : List Token) → Reads source [] ts → AreTokens source marked (ts ++ last_token marked (length source) ∷ [])
 with_ending source marked ts r = record {
   pieces = r.pieces;
   stand = r.stand;
   spelled = r.spelled;
-  same = ap (λ (us : List Token). us ++ ending marked (length source) ∷ []) r.same;
+  same = ap (λ (us : List Token). us ++ last_token marked (length source) ∷ []) r.same;
 }
 
 module _ (source : List ℕ) (marked : Bool) where
@@ -55,10 +55,10 @@ module _ (source : List ℕ) (marked : Bool) where
   only_from (Err (FaultError g)) found fault f a = ap Err (one_fault source f g a fault)
 
 ended : (source : List ℕ) (marked : Bool) (ts : List Token) → AreTokens source marked ts → IsEnded ts
-ended source true ts a = record { before = tokens_from 0 a.pieces; last = ending true (length source); whole = a.same; kind = inl refl }
-ended source false ts a = record { before = tokens_from 0 a.pieces; last = ending false (length source); whole = a.same; kind = inr refl }
+ended source true ts a = record { before = tokens_from 0 a.pieces; last = last_token true (length source); whole = a.same; kind = inl refl }
+ended source false ts a = record { before = tokens_from 0 a.pieces; last = last_token false (length source); whole = a.same; kind = inr refl }
 
-in_order : (ps : List Piece) (from at to : ℕ) (marked : Bool) → from ≤ at → at + length (spelled ps []) ≡ to → InOrder from to (tokens_from at ps ++ ending marked to ∷ [])
+in_order : (ps : List Piece) (from at to : ℕ) (marked : Bool) → from ≤ at → at + length (spelled ps []) ≡ to → InOrder from to (tokens_from at ps ++ last_token marked to ∷ [])
 unfolding spelled tokens_from
 in_order [] from at to marked h e = (omega (arith, h, e), omega arith, omega arith)
 in_order (space b ∷ ps) from at to marked h e = in_order ps from (at + 1) to marked (omega (arith, h)) (omega (arith, e))

@@ -5,7 +5,7 @@ use Rattle.ceal_base.specs.declared.fault.FaultCode.{FaultCode}
 use Rattle.ceal_base.specs.declared.fault.Span.{Span}
 use Rattle.ceal_lex.specs.declared.token.Token.{Token}
 use Rattle.ceal_lex.specs.Pieces.{Piece, spelled, Stand}
-use Rattle.ceal_lex.specs.Tokens.{AreTokens, ending, span, tokens_from}
+use Rattle.ceal_lex.specs.Tokens.{AreTokens, last_token, span, tokens_from}
 use Rattle.ceal_lex.specs.Faults.{IsFirstFault}
 use Rattle.ceal_lex.proofs.Fronts.{same_front, Stops, stops_at_end, stops_at_fault, same_fault, fault_not_empty}
 
@@ -28,7 +28,7 @@ module _ (source : List ℕ) where
   pub one_list : (marked : Bool) (ts us : List Token) → AreTokens source marked ts → AreTokens source marked us → ts ≡ us
   one_list marked ts us a b =
       let p = same_pieces [] [] stops_at_end stops_at_end a.pieces b.pieces (a.spelled ∙ sym b.spelled) a.stand b.stand in
-      a.same ∙ ap (λ (ps : List Piece). tokens_from 0 ps ++ ending marked (length source) ∷ []) p.0 ∙ sym b.same
+      a.same ∙ ap (λ (ps : List Piece). tokens_from 0 ps ++ last_token marked (length source) ∷ []) p.0 ∙ sym b.same
 
   pub one_fault : (f g : Fault) → IsFirstFault source f → IsFirstFault source g → f ≡ g
   one_fault f g a b =

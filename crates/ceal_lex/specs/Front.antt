@@ -7,7 +7,7 @@ use Rattle.ceal_lex.specs.declared.front.Front.{Front}
 use Rattle.ceal_lex.specs.declared.front.Front.TheVariants.{Blank, Found, Broken}
 use Rattle.ceal_lex.specs.Characters.{SLASH, STAR, is_space, is_letter}
 use Rattle.ceal_lex.specs.Spelling.{sign_text}
-use Rattle.ceal_lex.specs.Pieces.{Piece, token, followed, Stands, IsClosedFirst}
+use Rattle.ceal_lex.specs.Pieces.{Piece, token, piece_then, Stands, IsClosedFirst}
 use Rattle.ceal_lex.specs.Tokens.{tokens_from}
 use Rattle.ceal_lex.specs.Faults.{FaultStands}
 
@@ -43,7 +43,7 @@ pub record IsLongestSign (s : Sign) (n : ℕ) (bytes : List ℕ) : Type 0 where
 pub record IsBlank (n : ℕ) (bytes : List ℕ) : Type 0 where
   pub piece : Piece
   pub rest : List ℕ
-  pub begins : followed piece rest ≡ bytes
+  pub begins : piece_then piece rest ≡ bytes
   pub stands : Stands piece rest
   pub counted : length rest + n ≡ length bytes
   pub no_token : (at : ℕ) (ps : List Piece) → tokens_from at (piece ∷ ps) ≡ tokens_from (at + n) ps
@@ -63,11 +63,11 @@ IsFront (Found kind n) bytes = IsFound kind n bytes
 IsFront (Broken code n) bytes = FaultStands code bytes n
 
 -- how many bytes it takes
-abbrev pub taken : Front → ℕ
-taken (Blank n) = n
-taken (Found kind n) = n
-taken (Broken code n) = n
+abbrev pub bytes_taken : Front → ℕ
+bytes_taken (Blank n) = n
+bytes_taken (Found kind n) = n
+bytes_taken (Broken code n) = n
 
 -- It takes a byte at least, and all at most.
 abbrev pub IsTaken : Front → List ℕ → Type 0
-IsTaken front bytes = (0 < taken front) × (taken front ≤ length bytes)
+IsTaken front bytes = (0 < bytes_taken front) × (bytes_taken front ≤ length bytes)

@@ -16,11 +16,11 @@ pub data Piece : Type 0 where
   token : (kind : TokenKind) (text : List ℕ) → Piece
 
 -- a piece, and the bytes `rest` after it
-abbrev pub followed : Piece → List ℕ → List ℕ
-followed (space b) rest = b ∷ rest
-followed (line_comment text) rest = SLASH ∷ SLASH ∷ text ++ rest
-followed (block_comment text) rest = SLASH ∷ STAR ∷ text ++ STAR ∷ SLASH ∷ rest
-followed (token kind text) rest = text ++ rest
+abbrev pub piece_then : Piece → List ℕ → List ℕ
+piece_then (space b) rest = b ∷ rest
+piece_then (line_comment text) rest = SLASH ∷ SLASH ∷ text ++ rest
+piece_then (block_comment text) rest = SLASH ∷ STAR ∷ text ++ STAR ∷ SLASH ∷ rest
+piece_then (token kind text) rest = text ++ rest
 
 -- The bytes begin with `//` or `/*`.
 abbrev pub BeginsComment : List ℕ → Type 0
@@ -48,7 +48,7 @@ Stands (token kind text) rest = Spells kind text × IsLongest text rest × (Begi
 -- pieces one after the other, and then the bytes `rest`
 unfoldable pub spelled : List Piece → List ℕ → List ℕ
 spelled [] rest = rest
-spelled (p ∷ ps) rest = followed p (spelled ps rest)
+spelled (p ∷ ps) rest = piece_then p (spelled ps rest)
 
 -- Each piece may be where it is, before the bytes `rest`.
 unfoldable pub Stand : List Piece → List ℕ → Type 0

@@ -19,15 +19,15 @@ tokens_from at (token kind text ∷ ps) =
     record { kind = kind; span = span at (at + length text) } ∷ tokens_from (at + length text) ps
 
 -- the last token of a source of this many bytes: at the line `%%`, or at the end of an input that has none
-abbrev pub ending : Bool → ℕ → Token
-ending marked at = record { kind = if marked then End else Cut; span = span at at }
+abbrev pub last_token : Bool → ℕ → Token
+last_token marked at = record { kind = if marked then End else Cut; span = span at at }
 
 -- The source is made of pieces, and these are their tokens and the ending.
 pub record AreTokens (source : List ℕ) (marked : Bool) (tokens : List Token) : Type 0 where
   pub pieces : List Piece
   pub stand : Stand pieces []
   pub spelled : spelled pieces [] ≡ source
-  pub same : tokens ≡ tokens_from 0 pieces ++ ending marked (length source) ∷ []
+  pub same : tokens ≡ tokens_from 0 pieces ++ last_token marked (length source) ∷ []
 
 -- The last token is End or Cut.
 pub record IsEnded (tokens : List Token) : Type 0 where

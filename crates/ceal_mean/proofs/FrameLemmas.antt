@@ -4,7 +4,7 @@ use Rattle.std.proofs.lemmas.List.{reverse-append}
 use Rattle.ceal_base.specs.Block.{Blocks}
 use Rattle.ceal_base.specs.declared.typed.Typed.{Typed}
 use Rattle.ceal_base.specs.declared.typed.TypedStmt.{TypedStmt, out-TypedStmt}
-use Rattle.ceal_mean.specs.Exec.{effect, settled, stepped}
+use Rattle.ceal_mean.specs.Exec.{effect, frames_to_run, state_after_item}
 use Rattle.ceal_mean.specs.Frame.{Item, Frame, State}
 use Rattle.ceal_mean.specs.Steps.{Begun, begun, begun_with, advanced}
 use Rattle.ceal_mean.specs.Todo.{first_of}
@@ -25,7 +25,7 @@ module _ (p : Typed) (m : Blocks) where
   after_begun (Some b) = after_first b.stmt b.frames
 
   first-done : (f : Frame) (todo : List Item) (below : List Frame) (b : Begun) → begun_with (first_of todo) f.env below ≡ Some b
-      → Some (stepped p m f todo below) ≡ after_begun (Some b)
+      → Some (state_after_item p m f todo below) ≡ after_begun (Some b)
   first-done f [] below b h = cc
   first-done f (item ∷ rest) below b h = ap after_begun h
 
@@ -33,7 +33,7 @@ module _ (p : Typed) (m : Blocks) where
   begun-done [] b h = cc
   begun-done (f ∷ below) b h = first-done f f.todo below b h
 
-  pub step-done : (old new rest : List Frame) (f : Frame) (s : TypedStmt) → begun (settled (reverse old)) ≡ Some (record { stmt = s; frames = reverse new })
-      → new ≡ rest ++ f ∷ [] → advanced p m (settled (reverse old)) ≡ Some (effect p m f.env f.todo (reverse rest) s (out-TypedStmt s))
+  pub step-done : (old new rest : List Frame) (f : Frame) (s : TypedStmt) → begun (frames_to_run (reverse old)) ≡ Some (record { stmt = s; frames = reverse new })
+      → new ≡ rest ++ f ∷ [] → advanced p m (frames_to_run (reverse old)) ≡ Some (effect p m f.env f.todo (reverse rest) s (out-TypedStmt s))
   step-done old new rest f s h e =
-      begun-done (settled (reverse old)) (record { stmt = s; frames = reverse new }) h ∙ rw (e, reverse-push rest f) refl
+      begun-done (frames_to_run (reverse old)) (record { stmt = s; frames = reverse new }) h ∙ rw (e, reverse-push rest f) refl

@@ -3,7 +3,7 @@ use Rattle.std.proofs.Common.{◌≡◌, ℕ, zero, suc, ◌+◌, ◌≤◌, Opt
 use Rattle.ceal_base.specs.Block.{Block, Blocks}
 use Rattle.ceal_base.specs.declared.typed.Typed.{Typed}
 use Rattle.ceal_base.specs.declared.word.Word.{Word}
-use Rattle.ceal_mean.specs.Exec.{settled, stepped}
+use Rattle.ceal_mean.specs.Exec.{frames_to_run, state_after_item}
 use Rattle.ceal_mean.specs.Frame.{Frame, State}
 use Rattle.ceal_base.specs.Finished.{Finished}
 use Rattle.ceal_mean.specs.Fresh.{run_settled, start, fresh}
@@ -23,8 +23,8 @@ module _ (p : Typed) where
   at-least fuel steps m [] r h = omega (arith, same-steps fuel steps m r h)
   at-least zero steps m (f ∷ below) r h = cc
   at-least (suc fuel) steps m (f ∷ below) r h =
-      let s : State = stepped p m f f.todo below in
-      let l : steps + 1 ≤ r.steps = at-least fuel (steps + 1) s.memory (settled s.frames) r h in omega (arith, l)
+      let s : State = state_after_item p m f f.todo below in
+      let l : steps + 1 ≤ r.steps = at-least fuel (steps + 1) s.memory (frames_to_run s.frames) r h in omega (arith, l)
 
   -- and no more than the fuel allows
   pub at-most : (fuel steps : ℕ) (m : Blocks) (frames : List Frame) (r : Finished) → run_settled p fuel steps m frames ≡ Some r → r.steps ≤ steps + fuel
@@ -32,8 +32,8 @@ module _ (p : Typed) where
   at-most fuel steps m [] r h = omega (arith, same-steps fuel steps m r h)
   at-most zero steps m (f ∷ below) r h = cc
   at-most (suc fuel) steps m (f ∷ below) r h =
-      let s : State = stepped p m f f.todo below in
-      let l : r.steps ≤ steps + 1 + fuel = at-most fuel (steps + 1) s.memory (settled s.frames) r h in omega (arith, l)
+      let s : State = state_after_item p m f f.todo below in
+      let l : r.steps ≤ steps + 1 + fuel = at-most fuel (steps + 1) s.memory (frames_to_run s.frames) r h in omega (arith, l)
 
   -- with fuel for its steps it is the same run
   pub enough : (fuel n steps : ℕ) (m : Blocks) (frames : List Frame) (r : Finished) → run_settled p fuel steps m frames ≡ Some r
@@ -42,19 +42,19 @@ module _ (p : Typed) where
   enough fuel n steps m [] r h l = h
   enough zero n steps m (f ∷ below) r h l = cc
   enough (suc fuel) zero steps m (f ∷ below) r h l =
-      let s : State = stepped p m f f.todo below in
-      let more : steps + 1 ≤ r.steps = at-least fuel (steps + 1) s.memory (settled s.frames) r h in absurd (omega (arith, more, l))
+      let s : State = state_after_item p m f f.todo below in
+      let more : steps + 1 ≤ r.steps = at-least fuel (steps + 1) s.memory (frames_to_run s.frames) r h in absurd (omega (arith, more, l))
   enough (suc fuel) (suc n) steps m (f ∷ below) r h l =
-      let s : State = stepped p m f f.todo below in
-      enough fuel n (steps + 1) s.memory (settled s.frames) r h (omega arith)
+      let s : State = state_after_item p m f f.todo below in
+      enough fuel n (steps + 1) s.memory (frames_to_run s.frames) r h (omega arith)
 
 module _ (p : Typed) (function : ℕ) (args : List Word) (inputs : List Block) (fuel : ℕ) (r : Finished) (h : fresh p function args inputs fuel ≡ Some r) where
   pub fresh-at-most : r.steps ≤ fuel
   fresh-at-most =
       let s : State = start p function args inputs in
-      let l : r.steps ≤ 0 + fuel = at-most p fuel 0 s.memory (settled s.frames) r h in omega (arith, l)
+      let l : r.steps ≤ 0 + fuel = at-most p fuel 0 s.memory (frames_to_run s.frames) r h in omega (arith, l)
 
   pub fresh-enough : (n : ℕ) → r.steps ≤ n → fresh p function args inputs n ≡ Some r
   fresh-enough n l =
       let s : State = start p function args inputs in
-      let within : r.steps ≤ 0 + n = omega (arith, l) in enough p fuel n 0 s.memory (settled s.frames) r h within
+      let within : r.steps ≤ 0 + n = omega (arith, l) in enough p fuel n 0 s.memory (frames_to_run s.frames) r h within

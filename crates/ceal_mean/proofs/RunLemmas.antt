@@ -2,7 +2,7 @@
 use Rattle.std.proofs.Common.{◌≡◌, ℕ, suc, ◌+◌, ◌-◌, ◌<◌, Some, None, List, [], ◌∷◌, length, refl, ap, arith}
 use Rattle.ceal_base.specs.Block.{Blocks}
 use Rattle.ceal_base.specs.declared.typed.Typed.{Typed}
-use Rattle.ceal_mean.specs.Exec.{settled, stepped}
+use Rattle.ceal_mean.specs.Exec.{frames_to_run, state_after_item}
 use Rattle.ceal_mean.specs.Frame.{Frame, State}
 use Rattle.ceal_mean.specs.Fresh.{run, run_settled}
 use Rattle.ceal_mean.specs.Steps.{Begun, begun, advanced}
@@ -13,12 +13,12 @@ module _ (p : Typed) where
       → run_settled p (suc fuel) steps m frames ≡ run p fuel (steps + 1) s
   unfolding run_settled
   step-made fuel steps m [] s h = cc
-  step-made fuel steps m (f ∷ below) s h = let e : stepped p m f f.todo below ≡ s = cc in ap (λ s. run p fuel (steps + 1) s) e
+  step-made fuel steps m (f ∷ below) s h = let e : state_after_item p m f f.todo below ≡ s = cc in ap (λ s. run p fuel (steps + 1) s) e
 
-  pub run-more : (fuel steps : ℕ) (m : Blocks) (frames : List Frame) (s : State) → steps < fuel → advanced p m (settled frames) ≡ Some s
+  pub run-more : (fuel steps : ℕ) (m : Blocks) (frames : List Frame) (s : State) → steps < fuel → advanced p m (frames_to_run frames) ≡ Some s
       → run p (fuel - steps) steps (record { memory = m; frames = frames }) ≡ run p (fuel - (steps + 1)) (steps + 1) s
   run-more fuel steps m frames s l h =
-      let e : fuel - steps ≡ suc (fuel - (steps + 1)) = omega arith in rw e (step-made _ steps m (settled frames) s h)
+      let e : fuel - steps ≡ suc (fuel - (steps + 1)) = omega arith in rw e (step-made _ steps m (frames_to_run frames) s h)
 
   -- where none is left
   pub run-over : (fuel steps : ℕ) (m : Blocks) (frames : List Frame) → advanced p m frames ≡ None

@@ -2,7 +2,7 @@
 use Rattle.std.proofs.Common.{◌≡◌, List, [], ◌∷◌, ◌++◌, length, map, arith, refl, ◌∙◌, append_assoc, append-nil}
 use Rattle.std.specs.Borrow.{Bor}
 use Rattle.ceal_mean.specs.Frame.{Item, Do, Again}
-use Rattle.ceal_mean.specs.Jumps.{next_turn, ready, ready_behind}
+use Rattle.ceal_mean.specs.Jumps.{next_turn, ready, ready_after_turn}
 use Rattle.ceal_mean.specs.Todo.{items_of, joined}
 use Rattle.ceal_mean.specs.declared.todo.Part.{Part}
 use Rattle.ceal_mean.specs.declared.todo.Part.TheVariants.{Body, Turn}
@@ -36,7 +36,7 @@ next_turn-body : (ss : List TypedStmt) (items : List Item) → next_turn (map Do
 next_turn-body [] items = refl
 next_turn-body (s ∷ ss) items = next_turn-body ss items
 
-behind-body : (ss : List TypedStmt) (items : List Item) → ready_behind (map Do ss ++ items) ≡ ready_behind items
+behind-body : (ss : List TypedStmt) (items : List Item) → ready_after_turn (map Do ss ++ items) ≡ ready_after_turn items
 unfolding ready
 behind-body [] items = refl
 behind-body (s ∷ ss) items = behind-body ss items
@@ -58,7 +58,7 @@ ready-step (Continue at) items r b c = absurd (c at refl)
 
 -- where the part that is taken is a loop, that loop turns
 module _ (ps qs : List Part) (p : Part) (w : Bor TypedStmt) (e : ps ≡ qs ++ p ∷ []) (is : p ≡ Turn w) where
-  pub turn-behind : ready_behind (joined ps) ≡ ready (joined qs)
+  pub turn-behind : ready_after_turn (joined ps) ≡ ready (joined qs)
   unfolding ready
   turn-behind = rw (turn-first ps qs p w e is) refl
 
@@ -71,7 +71,7 @@ module _ (ps qs : List Part) (p : Part) (ss : Bor (List TypedStmt)) (e : ps ≡ 
   pub body-next : next_turn (joined ps) ≡ next_turn (joined qs)
   body-next = rw (body-first ps qs p ss e is) (next_turn-body ss.now (joined qs))
 
-  pub body-behind : ready_behind (joined ps) ≡ ready_behind (joined qs)
+  pub body-behind : ready_after_turn (joined ps) ≡ ready_after_turn (joined qs)
   body-behind = rw (body-first ps qs p ss e is) (behind-body ss.now (joined qs))
 
   -- what its first statement leaves
@@ -83,7 +83,7 @@ module _ (ps qs : List Part) (p : Part) (ss : Bor (List TypedStmt)) (e : ps ≡ 
     unfolding ready
     return-ready at h = first-ready ∙ rw h refl
 
-    pub break-ready : (at : Span) → s ≡ Break at → ready (joined ps) ≡ ready_behind (joined qs)
+    pub break-ready : (at : Span) → s ≡ Break at → ready (joined ps) ≡ ready_after_turn (joined qs)
     unfolding ready
     break-ready at h = first-ready ∙ rw h (behind-body rest (joined qs))
 

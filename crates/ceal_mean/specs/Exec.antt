@@ -1,7 +1,7 @@
 -- What each statement does, and the steps of a run (the core language: Hammer, Acar and Chen, PLDI 2009).
 use Rattle.std.specs.Prelude.{ℕ, pos, ◌-◌, Bool, true, false, Option, Some, None, List, [], ◌∷◌, ◌++◌, length, map}
 use Rattle.std.specs.Prelude.{slice_get, slice_set, replicate, if◌then◌else◌}
-use Rattle.ceal_base.specs.Access.{content_of, written, holds}
+use Rattle.ceal_base.specs.Access.{content_of, memory_after_write, holds}
 use Rattle.ceal_base.specs.Block.{Block, Blocks}
 use Rattle.ceal_base.specs.Finished.{with_block}
 use Rattle.ceal_base.specs.Shapes.{default_block}
@@ -28,26 +28,26 @@ content_default (Some ModInt) = Num (pos 0)
 content_default _ = Null
 
 -- the memory after a value is taken, and the value
-pub record Taken : Type 0 where
+pub record WordAndMemory : Type 0 where
   pub memory : Blocks
   pub word : Word
 
 -- a new block, and a pointer to it
-abbrev pub new_block : Blocks → Block → Taken
+abbrev pub new_block : Blocks → Block → WordAndMemory
 new_block m block = record { memory = with_block m block; word = BlockWord (Core (length m.made)) }
 
 -- a new block with one modifiable, and a pointer to that modifiable
-abbrev pub new_modifiable : Blocks → Block → Taken
+abbrev pub new_modifiable : Blocks → Block → WordAndMemory
 new_modifiable m block =
     record { memory = with_block m block; word = At (record { block = Core (length m.made); field = 0 }) }
 
 -- what a variable is given
-abbrev pub taken : Typed → List Word → Blocks → TypedValue → Taken
-taken p env m (Plain e) = record { memory = m; word = value_of env m e }
-taken p env m (Read at e) = record { memory = m; word = content_of m (value_of env m e) (content_default e.kind) }
-taken p env m (Alloc at shape function name args) = new_block m (init_block p function (values_of env m args) m)
-taken p env m (ModrefInt at) = new_modifiable m (default_block p.structs OneInt)
-taken p env m (Modref at s) = new_modifiable m (default_block p.structs (OnePtr s))
+abbrev pub value_given : Typed → List Word → Blocks → TypedValue → WordAndMemory
+value_given p env m (Plain e) = record { memory = m; word = value_of env m e }
+value_given p env m (Read at e) = record { memory = m; word = content_of m (value_of env m e) (content_default e.kind) }
+value_given p env m (Alloc at shape function name args) = new_block m (init_block p function (values_of env m args) m)
+value_given p env m (ModrefInt at) = new_modifiable m (default_block p.structs OneInt)
+value_given p env m (Modref at s) = new_modifiable m (default_block p.structs (OnePtr s))
 
 -- the words of a function's variables at its start: the arguments, and null of every other
 abbrev pub first_env : TypedFunction → List Word → List Word
@@ -59,12 +59,12 @@ frame_of None args = []
 frame_of (Some f) args = record { todo = map Do f.body; env = first_env f args } ∷ []
 
 -- the frames that a run of the function begins with
-abbrev pub entered : Typed → ℕ → List Word → List Frame
-entered p function args = frame_of (slice_get p.functions function) args
+abbrev pub frames_at_entry : Typed → ℕ → List Word → List Frame
+frames_at_entry p function args = frame_of (slice_get p.functions function) args
 
 -- the state after the variable got what was taken
-abbrev pub given : Taken → ℕ → List Item → List Word → List Frame → State
-given t n rest env below = record {
+abbrev pub state_given : WordAndMemory → ℕ → List Item → List Word → List Frame → State
+state_given t n rest env below = record {
   memory = t.memory;
   frames = record { todo = rest; env = slice_set env n t.word } ∷ below;
 }
@@ -72,15 +72,15 @@ given t n rest env below = record {
 -- the state after one statement, `rest` being what the frame has to do after it and `below` the frames under it; a
 -- field is set only by initialisers, and a `return`, `break` or `continue` is no step
 abbrev pub effect : Typed → Blocks → List Word → List Item → List Frame → TypedStmt → TypedStmt-F TypedStmt → State
-effect p m env rest below s (Declare at n kind value) = given (taken p env m value) n rest env below
-effect p m env rest below s (Assign at n value) = given (taken p env m value) n rest env below
+effect p m env rest below s (Declare at n kind value) = state_given (value_given p env m value) n rest env below
+effect p m env rest below s (Assign at n value) = state_given (value_given p env m value) n rest env below
 effect p m env rest below s (Write at place value) = record {
-  memory = written m (value_of env m place) (value_of env m value);
+  memory = memory_after_write m (value_of env m place) (value_of env m value);
   frames = record { todo = rest; env = env } ∷ below;
 }
 effect p m env rest below s (Call at function args) = record {
   memory = m;
-  frames = entered p function (values_of env m args) ++ record { todo = rest; env = env } ∷ below;
+  frames = frames_at_entry p function (values_of env m args) ++ record { todo = rest; env = env } ∷ below;
 }
 effect p m env rest below s (If at test first second) = record {
   memory = m;
@@ -101,11 +101,13 @@ is_over (item ∷ rest) = false
 
 -- the frames of which the first has a step to do: its jumps are made, and the frames in front that have nothing left to
 -- do are taken off. This takes no step
-abbrev pub settled : List Frame → List Frame
-settled [] = []
-settled (f ∷ below) = if is_over (ready f.todo) then settled below else record f { todo = ready f.todo } ∷ below
+abbrev pub frames_to_run : List Frame → List Frame
+frames_to_run [] = []
+frames_to_run (f ∷ below) = if is_over
+    (ready f.todo) then frames_to_run below else record f { todo = ready f.todo } ∷ below
 
 -- the state after the first item of the first frame: a `while` again is the same as the `while`
-abbrev pub stepped : Typed → Blocks → Frame → List Item → List Frame → State
-stepped p m f [] below = record { memory = m; frames = below }
-stepped p m f (item ∷ rest) below = effect p m f.env rest below (statement_of item) (out-TypedStmt (statement_of item))
+abbrev pub state_after_item : Typed → Blocks → Frame → List Item → List Frame → State
+state_after_item p m f [] below = record { memory = m; frames = below }
+state_after_item p m f (item ∷ rest) below = effect p m f.env rest below (statement_of item)
+    (out-TypedStmt (statement_of item))

@@ -15,12 +15,12 @@ unfoldable mutual
   pub ready : List Item → List Item
   ready [] = []
   ready (Do (Return at) ∷ rest) = []
-  ready (Do (Break at) ∷ rest) = ready_behind rest
+  ready (Do (Break at) ∷ rest) = ready_after_turn rest
   ready (Do (Continue at) ∷ rest) = next_turn rest
   ready (item ∷ rest) = item ∷ rest
 
   -- the same of the items after the first `Again`
-  pub ready_behind : List Item → List Item
-  ready_behind [] = []
-  ready_behind (Do s ∷ rest) = ready_behind rest
-  ready_behind (Again w ∷ rest) = ready rest
+  pub ready_after_turn : List Item → List Item
+  ready_after_turn [] = []
+  ready_after_turn (Do s ∷ rest) = ready_after_turn rest
+  ready_after_turn (Again w ∷ rest) = ready rest

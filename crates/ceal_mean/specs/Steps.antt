@@ -4,7 +4,7 @@ use Rattle.ceal_base.specs.Block.{Blocks}
 use Rattle.ceal_base.specs.declared.typed.Typed.{Typed}
 use Rattle.ceal_base.specs.declared.typed.TypedStmt.{TypedStmt}
 use Rattle.ceal_base.specs.declared.word.Word.{Word}
-use Rattle.ceal_mean.specs.Exec.{stepped}
+use Rattle.ceal_mean.specs.Exec.{state_after_item}
 use Rattle.ceal_mean.specs.Frame.{Frame, State}
 use Rattle.ceal_mean.specs.Todo.{Next, first_of}
 
@@ -27,4 +27,4 @@ begun (f ∷ below) = begun_with (first_of f.todo) f.env below
 -- the state after a step from a memory and frames of which the first is not over, where a frame is left
 abbrev pub advanced : Typed → Blocks → List Frame → Option State
 advanced p m [] = None
-advanced p m (f ∷ below) = Some (stepped p m f f.todo below)
+advanced p m (f ∷ below) = Some (state_after_item p m f f.todo below)

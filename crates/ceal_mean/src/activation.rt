@@ -4,7 +4,7 @@ ghost use Rattle.std.specs.Prelude.{◌≡◌, Some, ◌∷◌, ◌++◌, [], �
 ghost use Rattle.std.specs.Prelude.{MatchOption};
 ghost use Rattle.std.specs.Option.{option_to_list};
 ghost use Rattle.ceal_base.specs.declared.word.Word.{Word};
-ghost use Rattle.ceal_mean.specs.Exec.{first_env, entered};
+ghost use Rattle.ceal_mean.specs.Exec.{first_env, frames_at_entry};
 ghost use Rattle.ceal_mean.specs.Frame.{Item, Do, Again};
 ghost use Rattle.ceal_mean.specs.Jumps.{ready};
 ghost use Rattle.ceal_mean.specs.Todo.{first_of};
@@ -107,7 +107,7 @@ pub fn enter<'a>(
     args: Vec<Word>,
 ) -> Result<Option<Activation<'a>>, NoMemory>
     ensures value { IfOk result
-        (λ called. entered program.now function args.items ≡ option_to_list called) }
+        (λ called. frames_at_entry program.now function args.items ≡ option_to_list called) }
 {
     match program.functions.items().get(function as usize) {
         Some(found) => {

@@ -6,7 +6,8 @@ ghost use Rattle.std.specs.Option.{option_to_list};
 ghost use Rattle.ceal_base.specs.Access.{holds};
 ghost use Rattle.ceal_base.specs.Shapes.{default_block};
 ghost use Rattle.ceal_base.specs.declared.typed.TypedStmt.{out-TypedStmt};
-ghost use Rattle.ceal_mean.specs.Exec.{content_default, new_block, new_modifiable, taken, entered, effect};
+ghost use Rattle.ceal_mean.specs.Exec.{content_default, new_block, new_modifiable, value_given, frames_at_entry};
+ghost use Rattle.ceal_mean.specs.Exec.{effect};
 ghost use Rattle.ceal_mean.specs.Frame.{Item, Do, Again, Frame};
 ghost use Rattle.ceal_mean.specs.Init.{init_block};
 ghost use Rattle.ceal_mean.specs.Value.{value_of, values_of};
@@ -107,7 +108,7 @@ fn take_value(
     requires { length memory.old.made < 2 ^ 32 }
     ensures grows { length memory.new.made ≤ length memory.old.made + 1 }
     ensures taken { IfOk result
-        (λ word. taken machine.now.program.now env.now memory.old value.now
+        (λ word. value_given machine.now.program.now env.now memory.old value.now
         ≡ record { memory = memory.new; word = word }) }
 {
     match value {
@@ -156,12 +157,13 @@ fn give(
     requires { length memory.old.made < 2 ^ 32 }
     ensures grows { length memory.new.made ≤ length memory.old.made + 1 }
     ensures memory { OnOk result
-        ((taken machine.now.program.now frame.old.env memory.old value.now).memory ≡ memory.new) }
+        ((value_given machine.now.program.now frame.old.env memory.old value.now).memory
+        ≡ memory.new) }
     ensures frame { OnOk result
         (frame.new ≡
         record frame.old {
           env = slice_set frame.old.env n
-              (taken machine.now.program.now frame.old.env memory.old value.now).word;
+              (value_given machine.now.program.now frame.old.env memory.old value.now).word;
         }) }
 {
     let word = take_value(machine, memory, frame.variables(), value)?;
@@ -222,7 +224,7 @@ fn call<'a>(
     args: &[TypedExpr],
 ) -> Result<Option<Activation<'a>>, NoMemory>
     ensures { IfOk result
-        (λ called. entered machine.now.program.now function
+        (λ called. frames_at_entry machine.now.program.now function
         (values_of frame.now.env memory.now args.now)
         ≡ option_to_list called) }
 {

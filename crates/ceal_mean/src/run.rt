@@ -2,7 +2,7 @@
 
 ghost use Rattle.std.specs.Prelude.{◌≡◌, ◌<◌, ◌≤◌, ◌+◌, ◌^◌, ⊤, Some, None, true, false, if◌then◌else◌, [], length};
 ghost use Rattle.std.specs.Prelude.{reverse, IfOk, OnOk, MatchOption};
-ghost use Rattle.ceal_mean.specs.Exec.{settled, entered};
+ghost use Rattle.ceal_mean.specs.Exec.{frames_to_run, frames_at_entry};
 ghost use Rattle.ceal_mean.specs.Fresh.{fresh, outcome_of, start};
 ghost use Rattle.ceal_mean.specs.Steps.{begun, advanced};
 
@@ -31,8 +31,8 @@ pub enum Outcome {
 #[tactic(auto, using(crate::proofs::FrameLemmas::frame_steps))]
 fn next_of<'a>(frames: &mut Vec<Activation<'a>>) -> Result<Option<&'a TypedStmt>, NoMemory>
     ensures some { IfOk result
-        (λ found. MatchOption found (settled (reverse frames.old.items) ≡ [])
-        (λ s. begun (settled (reverse frames.old.items))
+        (λ found. MatchOption found (frames_to_run (reverse frames.old.items) ≡ [])
+        (λ s. begun (frames_to_run (reverse frames.old.items))
         ≡ Some (record { stmt = s.now; frames = reverse frames.new.items }))) }
     ensures there { IfOk result
         (λ found. MatchOption found (frames.new.items ≡ []) (λ s. 0 < length frames.new.items)) }
@@ -60,7 +60,8 @@ fn step<'a>(
     requires { length memory.old.made < 2 ^ 32 }
     ensures grows { length memory.new.made ≤ length memory.old.made + 1 }
     ensures advanced { IfOk result
-        (λ more. advanced machine.now.program.now memory.old (settled (reverse frames.old.items))
+        (λ more. advanced machine.now.program.now memory.old
+        (frames_to_run (reverse frames.old.items))
         ≡ (if more then Some
         (record { memory = memory.new; frames = reverse frames.new.items }) else None)) }
     ensures over { IfOk result (λ more. more ≡ false → memory.new ≡ memory.old) }
@@ -106,7 +107,8 @@ fn first_frames<'a>(
     function: u32,
     args: &[Word],
 ) -> Result<Vec<Activation<'a>>, NoMemory>
-    ensures { IfOk result (λ frames. reverse frames.items ≡ entered program.now function args.now) }
+    ensures { IfOk result
+        (λ frames. reverse frames.items ≡ frames_at_entry program.now function args.now) }
 {
     let mut frames = Vec::new(alloc);
     let words = Vec::from_slice(alloc, args)?;

@@ -2,7 +2,7 @@
 
 ghost use Rattle.std.specs.Prelude.{◌≡◌, ◌≤◌, Some, [], ◌∷◌, ◌++◌, length, map, IfOk, OnOk, MatchOption};
 ghost use Rattle.ceal_mean.specs.Frame.{Item, Do, Again};
-ghost use Rattle.ceal_mean.specs.Jumps.{next_turn, ready, ready_behind};
+ghost use Rattle.ceal_mean.specs.Jumps.{next_turn, ready, ready_after_turn};
 ghost use Rattle.ceal_mean.specs.Todo.{joined, first_of};
 
 use ceal_base::no_memory::NoMemory;
@@ -45,7 +45,7 @@ fn take_turn<'a>(parts: &mut Vec<Part<'a>>) -> Option<&'a TypedStmt>
     ensures taken { MatchOption result (next_turn (joined parts.old.items) ≡ [])
         (λ w. first_of (next_turn (joined parts.old.items))
         ≡ Some (record { stmt = w.now; rest = joined parts.new.items })) }
-    ensures behind { ready (joined parts.new.items) ≡ ready_behind (joined parts.old.items) }
+    ensures behind { ready (joined parts.new.items) ≡ ready_after_turn (joined parts.old.items) }
     ensures fewer { length parts.new.items ≤ length parts.old.items }
 {
     while let Some(part) = parts.pop() {

@@ -43,10 +43,10 @@ use Rattle.ceal_grammar.specs.declared.state.Typing.{Typing}
 use Rattle.ceal_grammar.specs.declared.state.Typing.TheVariants.{More as MoreType, Named as NamedType}
 use Rattle.ceal_grammar.specs.declared.state.Whole.{Whole}
 use Rattle.ceal_grammar.specs.Trees.{row_form}
-use Rattle.ceal_grammar.specs.Machine.{same_sign, same_word, is_sign, is_word, wants, operator_of, at_name, reduced}
-use Rattle.ceal_grammar.specs.Machine.{within, placed, with_statement, received, closes, at_sign_after, accesses}
+use Rattle.ceal_grammar.specs.Machine.{same_sign, same_word, is_sign, is_word, wants, operator_of, at_name, reduction}
+use Rattle.ceal_grammar.specs.Machine.{within, state_in, with_statement, at_expression_end, closes, at_sign_after, with_arrow}
 use Rattle.ceal_grammar.specs.Machine.{at_index, at_after, at_element, at_place, type_starts, at_type, block_closed}
-use Rattle.ceal_grammar.specs.Machine.{opened_by, at_body, typed, chained_in, moved, begun_type, widened, is_cell}
+use Rattle.ceal_grammar.specs.Machine.{opened_by, at_body, with_typing, chained_in, at_mode, begun_type, fields_with_member, is_cell}
 use Rattle.ceal_grammar.specs.Machine.{length_of, at_length, length_item, struct_item, at_struct, with_member, body_of}
 use Rattle.ceal_grammar.specs.Machine.{at_head, at_top, step, item_of}
 use Rattle.ceal_grammar.proofs.Viable.{wanted, got}
@@ -75,7 +75,7 @@ name_fits f s Cut z h g = never z h
 
 -- Bodies: a reading within one continues within it, or after it.
 module _ (i : Inside) (z : State) where
-  placed_fits : (o : Option Mode) → placed i o ≡ Some z → Fits z
+  placed_fits : (o : Option Mode) → state_in i o ≡ Some z → Fits z
   placed_fits None h = never z h
   placed_fits (Some m) h = at_next (In i m) z h tt
 
@@ -91,7 +91,7 @@ module _ (i : Inside) (z : State) where
   body_fits s End h = never z h
   body_fits s Cut h = never z h
 
-  received_fits : (r : Receiver) (d : ℕ) (e : Expr) (c : SignOf) → received i d r e c ≡ Some z → Fits z
+  received_fits : (r : Receiver) (d : ℕ) (e : Expr) (c : SignOf) → at_expression_end i d r e c ≡ Some z → Fits z
   received_fits (To.Value t) d e c h = at_wanted _ _ z h tt
   received_fits (To.Read t s) d e c h = placed_fits _ h
   received_fits (To.Argument f args) d e c h = placed_fits _ h
@@ -111,7 +111,7 @@ module _ (i : Inside) (z : State) where
 
   sign_fits : (w : Whole) (p : Piece) (s : Span) (c : SignOf) (o : Option BinaryOp) → at_sign_after i w p s c o ≡ Some z → Fits z
   sign_fits w p s c (Some op) h = at_next _ z h tt
-  sign_fits w p s c None h = let q = reduced 0 p w.frames in closes_fits w c q.piece q.frames h
+  sign_fits w p s c None h = let q = reduction 0 p w.frames in closes_fits w c q.piece q.frames h
 
   index_fits : (w : Whole) (p : Piece) (fs : List Frame) → at_index i w p fs ≡ Some z → Fits z
   index_fits w p (AddressOf s ∷ fs) h = at_next _ z h tt
@@ -123,7 +123,7 @@ module _ (i : Inside) (z : State) where
 
   after_fits : (w : Whole) (p : Piece) (s : Span) (k : TokenKind) → at_after i w p s k ≡ Some z → Fits z
   after_fits w p s (Sign c) h =
-      at_chosen (same_sign c Signs.Arrow) (Some (within i (accesses w) (Access p))) (later c) z h (λ e. at_next _ z e tt)
+      at_chosen (same_sign c Signs.Arrow) (Some (within i (with_arrow w) (Access p))) (later c) z h (λ e. at_next _ z e tt)
       (λ e. at_chosen (same_sign c Signs.LeftBracket) (at_index i w p w.frames) (at_sign_after i w p s c (operator_of c)) z e
       (λ g. index_fits w p w.frames g) (λ g. sign_fits w p s c (operator_of c) g))
     where
@@ -150,7 +150,7 @@ module _ (i : Inside) (z : State) where
   place_fits w (Element p) s k h = element_fits w p s k h
   place_fits w (Access p) s k h = placed_fits _ h
 
-mode_fits : (i : Inside) (z : State) (m : Mode) (s : Span) (k : TokenKind) → moved i m s k ≡ Some z → Fits z
+mode_fits : (i : Inside) (z : State) (m : Mode) (s : Span) (k : TokenKind) → at_mode i m s k ≡ Some z → Fits z
 mode_fits i z Modes.Body s k h = body_fits i z s k h
 mode_fits i z (Modes.Typing at p) s k h = placed_fits i z _ h
 mode_fits i z (Modes.Declared at form x) s k h = placed_fits i z _ h
@@ -180,7 +180,7 @@ begun_fits : (f : TypePart → State) (o : Option TypePart) (z : State) → begu
 begun_fits f None z h g = never z h
 begun_fits f (Some p) z h g = at_next (f p) z h (g p refl)
 
-typed_fits : (f : TypePart → State) (g : TypeForm → Ident → State) (o : Option Typing) (z : State) → typed f g o ≡ Some z
+typed_fits : (f : TypePart → State) (g : TypeForm → Ident → State) (o : Option Typing) (z : State) → with_typing f g o ≡ Some z
     → ((p : TypePart) → o ≡ Some (MoreType p) → Fits (f p)) → ((form : TypeForm) (x : Ident) → o ≡ Some (NamedType form x) → Fits (g form x)) → Fits z
 typed_fits f g None z h a b = never z h
 typed_fits f g (Some (MoreType p)) z h a b = at_next (f p) z h (a p refl)
@@ -189,7 +189,7 @@ typed_fits f g (Some (NamedType form x)) z h a b = at_next (g form x) z h (b for
 -- A type that was read so far, or the member that it became.
 abbrev fields_after : ℕ → Typing → ℕ
 fields_after c (MoreType p) = fields_with c p
-fields_after c (NamedType form x) = widened c form
+fields_after c (NamedType form x) = fields_with_member c form
 
 starts_one : (c : ℕ) (k : TokenKind) (p : TypePart) → type_starts k ≡ Some p → fields_with c p ≡ suc c
 starts_one c (Reserved w) p h = word_one (same_word w Words.Int) (same_word w Words.Struct) (same_word w Words.Mod) h
@@ -214,7 +214,7 @@ module _ (c : ℕ) (s : Span) (q : Typing) where
   name_goes f End h g = absurd (cc)
   name_goes f Cut h g = absurd (cc)
 
-  name_keeps : (form : TypeForm) (k : TokenKind) → at_name (λ x. NamedType form x) s k ≡ Some q → fields_after c q ≡ widened c form
+  name_keeps : (form : TypeForm) (k : TokenKind) → at_name (λ x. NamedType form x) s k ≡ Some q → fields_after c q ≡ fields_with_member c form
   name_keeps form (Name x) h = ap (fields_after c) (sym (got _ q h))
   name_keeps form (Number x) h = absurd (cc)
   name_keeps form (Reserved x) h = absurd (cc)
@@ -227,7 +227,7 @@ module _ (c : ℕ) (s : Span) (q : Typing) where
 
   star_goes : (b cells : Bool) (form cell : TypeForm) (k : TokenKind)
       → (if b then Some (MoreType (Types.Done form)) else if cells then at_name (λ x. NamedType cell x) s k else None) ≡ Some q
-      → widened c form ≡ suc c → widened c cell ≡ suc c → fields_after c q ≡ suc c
+      → fields_with_member c form ≡ suc c → fields_with_member c cell ≡ suc c → fields_after c q ≡ suc c
   star_goes true cells form cell k h e g = ap (fields_after c) (sym (got _ q h)) ∙ e
   star_goes false true form cell k h e g = name_keeps cell k h ∙ g
   star_goes false false form cell k h e g = absurd (cc)
@@ -247,7 +247,7 @@ module _ (c : ℕ) (s : Span) (q : Typing) where
   type_keeps cells (Types.Done form) k h = name_keeps form k h
 
 -- Structs.
-row_count : (c : ℕ) (form : TypeForm) (n : ℕ) → is_cell form ≡ true → widened c (row_form form n) ≡ c + n
+row_count : (c : ℕ) (form : TypeForm) (n : ℕ) → is_cell form ≡ true → fields_with_member c (row_form form n) ≡ c + n
 row_count c Forms.CellInt n h = refl
 row_count c (Forms.CellPtr y) n h = refl
 row_count c Forms.Int n h = absurd (cc)

@@ -21,7 +21,7 @@ use Rattle.ceal_grammar.specs.declared.state.StructPlace.TheVariants as Structs
 use Rattle.ceal_grammar.specs.declared.state.TypePart.{TypePart}
 use Rattle.ceal_grammar.specs.declared.state.TypePart.TheVariants.{Done}
 use Rattle.ceal_grammar.specs.declared.state.Whole.{Whole}
-use Rattle.ceal_grammar.specs.Machine.{within, received, widened, is_cell}
+use Rattle.ceal_grammar.specs.Machine.{within, at_expression_end, fields_with_member, is_cell}
 use Rattle.ceal_grammar.specs.Trees.{row_form}
 use Rattle.ceal_parse.specs.declared.turn.Part.{Part}
 use Rattle.ceal_parse.specs.declared.turn.Part.TheVariants as Parts
@@ -39,7 +39,7 @@ cut_at s = record { kind = Cut; span = s }
 
 -- The state of the reading after the sign c, at which the whole expression w has ended with the operand at p.
 abbrev pub ended : Inside → Whole → Place → Sign → Option State
-ended i w (Have p) c = received i w.nesting w.receiver p.expr c
+ended i w (Have p) c = at_expression_end i w.nesting w.receiver p.expr c
 ended i w _ c = None
 
 -- The state of the reading after a token within a whole expression.
@@ -120,16 +120,16 @@ turn_state i m Turns.Closed = Some (Top i.entries)
 
 -- How many fields the members of a struct are with one whose type was read so far.
 abbrev pub fields_with : ℕ → TypePart → ℕ
-fields_with c (Done form) = widened c form
+fields_with c (Done form) = fields_with_member c form
 fields_with c _ = suc c
 
 -- The members of a struct are 255 fields at most, with the one at which the reading is, and a length is after
 -- a modifiable. A reading within the limits reaches no other state.
 abbrev pub PlaceFits : StructPlace → Type 0
 PlaceFits (Structs.Typing l p) = fields_with l.count p ≤ 255
-PlaceFits (Structs.Ends l m) = widened l.count m.form ≤ 255
+PlaceFits (Structs.Ends l m) = fields_with_member l.count m.form ≤ 255
 PlaceFits (Structs.Length l m) = is_cell m.form ≡ true
-PlaceFits (Structs.Sized l m n) = (n ≤ 255) × (widened l.count (row_form m.form n) ≤ 255)
+PlaceFits (Structs.Sized l m n) = (n ≤ 255) × (fields_with_member l.count (row_form m.form n) ≤ 255)
 PlaceFits _ = Unit {0}
 
 -- the members of the struct at which the reading is keep the limit

@@ -1,7 +1,8 @@
 // Blocks: where one opens, what follows a statement in it, and where it closes.
 
 ghost use Rattle.std.specs.Prelude.{◌≡◌, ◌∷◌, ◌<◌, ◌^◌, [], Some, true, IfOk};
-ghost use Rattle.ceal_grammar.specs.Machine.{with_statement, owned, block_closed, chained_in, at_body, at_ends};
+ghost use Rattle.ceal_grammar.specs.Machine.{with_statement, mode_after_block, block_closed, chained_in, at_body};
+ghost use Rattle.ceal_grammar.specs.Machine.{at_ends};
 ghost use Rattle.ceal_grammar.specs.Machine.{at_opens, at_closed, at_otherwise};
 ghost use Rattle.ceal_parse.specs.Reading.{is_name, turn_state};
 
@@ -19,7 +20,7 @@ use std::alloc::Global;
 use std::mem;
 
 fn owner_mode(owner: Owner, body: Stmts) -> Mode
-    ensures value { result ≡ owned owner body }
+    ensures value { result ≡ mode_after_block owner body }
 {
     match owner {
         Owner::While(at, test) => Mode::Ended(Stmt::While(at, test, body)),

@@ -2,7 +2,7 @@
 // way.
 
 ghost use Rattle.std.specs.Prelude.{◌≡◌, ◌<◌, ◌≤◌, Some, true, IfOk};
-ghost use Rattle.ceal_grammar.specs.Machine.{at_owned, placed, begun, moved, mode_nesting, operators_in};
+ghost use Rattle.ceal_grammar.specs.Machine.{at_owned, state_in, new_whole, at_mode, mode_nesting, operators_in};
 ghost use Rattle.ceal_parse.specs.Reading.{has_parts, is_aside, is_begun, is_later, turn_state};
 
 use crate::block::{
@@ -27,7 +27,7 @@ use std::mem;
 
 /// The reading continues at this place of the body, if there is one.
 fn go_on(mode: &mut Mode, next: Option<Mode>) -> Turn
-    ensures value { (i : Inside) → turn_state i mode.new result ≡ placed i next }
+    ensures value { (i : Inside) → turn_state i mode.new result ≡ state_in i next }
 {
     match next {
         Some(next) => stand(mode, next),
@@ -40,7 +40,7 @@ fn go_on(mode: &mut Mode, next: Option<Mode>) -> Turn
 #[inline(never)]
 fn take_own(mode: &mut Mode, at: Span, token: &Token) -> Turn
     ensures value { (i : Inside)
-        → turn_state i mode.new result ≡ placed i (at_owned at token.now.kind) }
+        → turn_state i mode.new result ≡ state_in i (at_owned at token.now.kind) }
 {
     go_on(mode, take_owned(at, token))
 }
@@ -58,7 +58,7 @@ fn take_aside(
     requires aside { is_aside mode.old ≡ true }
     ensures value { IfOk result
         (λ turn. turn_state inside.new mode.new turn
-        ≡ moved inside.old mode.old token.old.span token.old.kind) }
+        ≡ at_mode inside.old mode.old token.old.span token.old.kind) }
 {
     let nesting = inside.nesting;
     let at = token.span;
@@ -111,7 +111,7 @@ fn take_block(
     requires later { is_later mode.old ≡ true }
     ensures value { IfOk result
         (λ turn. turn_state inside.new mode.new turn
-        ≡ moved inside.old mode.old token.old.span token.old.kind) }
+        ≡ at_mode inside.old mode.old token.old.span token.old.kind) }
 {
     let at = token.span;
     match mode {
@@ -159,7 +159,7 @@ fn take_begun(
     requires begun { is_begun mode.old ≡ true }
     ensures value { IfOk result
         (λ turn. turn_state inside.new mode.new turn
-        ≡ moved inside.old mode.old token.old.span token.old.kind) }
+        ≡ at_mode inside.old mode.old token.old.span token.old.kind) }
 {
     let at = token.span;
     match mode {
@@ -209,7 +209,7 @@ fn take_part(
     requires parts { has_parts mode.old ≡ true }
     ensures value { IfOk result
         (λ turn. turn_state inside.new mode.new turn
-        ≡ moved inside.old mode.old token.old.span token.old.kind) }
+        ≡ at_mode inside.old mode.old token.old.span token.old.kind) }
 {
     let at = token.span;
     match mode {
@@ -242,7 +242,7 @@ pub fn take_mode(
     requires few { operators_in mode.old ≤ 255 }
     ensures value { IfOk result
         (λ turn. turn_state inside.new mode.new turn
-        ≡ moved inside.old mode.old token.old.span token.old.kind) }
+        ≡ at_mode inside.old mode.old token.old.span token.old.kind) }
 {
     match mode {
         Mode::Within(whole, place) => match take_place(alloc, whole, place, token)? {

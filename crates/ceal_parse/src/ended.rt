@@ -1,8 +1,9 @@
 // The end of a whole expression: what was read for it continues after the sign that ends it.
 
 ghost use Rattle.std.specs.Prelude.{◌≡◌, ◌∷◌, ◌++◌, ◌<◌, [], true, IfOk};
-ghost use Rattle.ceal_grammar.specs.Machine.{same_sign as same_signs, wants, placed, given, begun, ends_at};
-ghost use Rattle.ceal_grammar.specs.Machine.{at_argument, received};
+ghost use Rattle.ceal_grammar.specs.Machine.{same_sign as same_signs, wants, state_in, value_statement, new_whole};
+ghost use Rattle.ceal_grammar.specs.Machine.{ends_at};
+ghost use Rattle.ceal_grammar.specs.Machine.{at_argument, at_expression_end};
 ghost use Rattle.ceal_parse.specs.Reading.{is_plain, mode_ended, turn_state};
 
 use crate::expression::begin;
@@ -22,7 +23,7 @@ use std::mem;
 /// The sign is this one, and the reading continues at the place.
 fn wanted(mode: &mut Mode, found: Sign, sign: Sign, next: Mode) -> Turn
     ensures value { (i : Inside) → turn_state i mode.new result
-        ≡ placed i (wants (same_signs found sign) next) }
+        ≡ state_in i (wants (same_signs found sign) next) }
 {
     if same_sign(found, sign) {
         stand(mode, next)
@@ -34,7 +35,7 @@ fn wanted(mode: &mut Mode, found: Sign, sign: Sign, next: Mode) -> Turn
 
 /// A whole expression begins again, for the same.
 fn begin_again(alloc: Global, whole: &mut Whole)
-    ensures value { whole.new ≡ begun whole.old.nesting whole.old.receiver }
+    ensures value { whole.new ≡ new_whole whole.old.nesting whole.old.receiver }
 {
     put(&mut whole.frames, Stack::new(alloc));
     whole.operators = 0;
@@ -45,7 +46,7 @@ fn begin_again(alloc: Global, whole: &mut Whole)
 fn next_operand(alloc: Global, whole: &mut Whole, expr: Expr) -> Result<Turn, NoMemory>
     ensures value { IfOk result (λ turn. (i : Inside)
         → turn_state i (Mode.Within whole.new Place.Want) turn
-        ≡ received i whole.old.nesting whole.old.receiver expr Sign.Comma) }
+        ≡ at_expression_end i whole.old.nesting whole.old.receiver expr Sign.Comma) }
 {
     match &mut whole.receiver {
         Receiver::Argument(_, arguments) => {
@@ -95,7 +96,7 @@ fn take_argument(
     sign: Sign,
 ) -> Turn
     ensures value { (i : Inside) → turn_state i mode.new result
-        ≡ placed i (at_argument nesting call_of.0 call_of.1 sign) }
+        ≡ state_in i (at_argument nesting call_of.0 call_of.1 sign) }
 {
     let (callee, arguments) = call_of;
     if same_sign(sign, Sign::Comma) {
@@ -121,7 +122,7 @@ fn end_value(
     sign: Sign,
 ) -> Result<Turn, NoMemory>
     ensures value { IfOk result (λ turn. turn_state inside.new mode.new turn
-        ≡ ends_at inside.old (given given_to.0 (Value.Plain given_to.1)) sign) }
+        ≡ ends_at inside.old (value_statement given_to.0 (Value.Plain given_to.1)) sign) }
 {
     let (target, expr) = given_to;
     let statement = give(target, Value::Plain(expr));
@@ -133,8 +134,8 @@ fn end_value(
 #[inline(never)]
 fn end_read(mode: &mut Mode, target: Target, at: Span, expr: Expr, sign: Sign) -> Turn
     ensures value { (i : Inside) → turn_state i mode.new result
-        ≡ placed i (wants (same_signs sign Sign.RightParenthesis)
-        (Mode.Ends (given target (Value.Read at expr)))) }
+        ≡ state_in i (wants (same_signs sign Sign.RightParenthesis)
+        (Mode.Ends (value_statement target (Value.Read at expr)))) }
 {
     let statement = give(target, Value::Read(at, expr));
     wanted(mode, sign, Sign::RightParenthesis, Mode::Ends(statement))
@@ -162,7 +163,7 @@ fn end_set(
 #[inline(never)]
 fn end_store(mode: &mut Mode, at: Span, target: Expr, expr: Expr, sign: Sign) -> Turn
     ensures value { (i : Inside) → turn_state i mode.new result
-        ≡ placed i (wants (same_signs sign Sign.RightParenthesis)
+        ≡ state_in i (wants (same_signs sign Sign.RightParenthesis)
         (Mode.Ends (Stmt.Write at target expr))) }
 {
     let statement = Stmt::Write(at, target, expr);
@@ -179,7 +180,7 @@ fn end_argument(
     sign: Sign,
 ) -> Result<Turn, NoMemory>
     ensures value { IfOk result (λ turn. (i : Inside) → turn_state i mode.new turn
-        ≡ placed i (at_argument nesting call_of.0 (call_of.1 ++ call_of.2 ∷ []) sign)) }
+        ≡ state_in i (at_argument nesting call_of.0 (call_of.1 ++ call_of.2 ∷ []) sign)) }
 {
     let (callee, arguments, expr) = call_of;
     let mut arguments = arguments;
@@ -202,7 +203,7 @@ fn receive_first(
 ) -> Turn
     requires plain { is_plain receiver.now ≡ true }
     ensures value { (i : Inside) → turn_state i mode.new result
-        ≡ received i nesting receiver.now ended.0 ended.1 }
+        ≡ at_expression_end i nesting receiver.now ended.0 ended.1 }
 {
     let (expr, sign) = ended;
     match receiver {
@@ -231,7 +232,7 @@ fn receive(
     ended: (Expr, Sign),
 ) -> Result<Turn, NoMemory>
     ensures value { IfOk result (λ turn. turn_state inside.new mode.new turn
-        ≡ received inside.old receiver.0 receiver.1 ended.0 ended.1) }
+        ≡ at_expression_end inside.old receiver.0 receiver.1 ended.0 ended.1) }
 {
     let (expr, sign) = ended;
     let (nesting, receiver) = receiver;

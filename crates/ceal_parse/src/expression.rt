@@ -3,9 +3,9 @@
 
 ghost use Rattle.std.specs.Prelude.{◌≡◌, ◌∷◌, ◌<◌, ◌^◌, Some, None, false, true, IsTrue, IfOk, IfSome, MatchOption};
 ghost use Rattle.std.specs.Prelude.{if◌then◌else◌};
-ghost use Rattle.ceal_grammar.specs.Machine.{element_of, begun, reduced, same_sign as same_signs, wants, within};
+ghost use Rattle.ceal_grammar.specs.Machine.{element_of, new_whole, reduction, same_sign as same_signs, wants, within};
 ghost use Rattle.ceal_grammar.specs.Machine.{operator_of, closes, at_operand, at_sign_after, at_index, at_after};
-ghost use Rattle.ceal_grammar.specs.Machine.{at_element, at_place, placed};
+ghost use Rattle.ceal_grammar.specs.Machine.{at_element, at_place, state_in};
 ghost use Rattle.ceal_grammar.specs.declared.state.Frame.TheVariants.{Address};
 ghost use Rattle.ceal_grammar.specs.declared.state.Inside.{Inside};
 ghost use Rattle.ceal_grammar.specs.declared.state.Piece.{Piece as PieceOf};
@@ -246,7 +246,7 @@ fn is_last(sign: Sign) -> bool
 }
 
 /// The sign, if it ends a whole expression in which nothing waits after an operand.
-#[tactic(auto, unfolding(ceal_grammar::specs::Machine::reduced))]
+#[tactic(auto, unfolding(ceal_grammar::specs::Machine::reduction))]
 fn last_sign(whole: &Whole, place: &Place, token: &Token) -> Option<Sign>
     ensures value { IfSome result (λ sign. (i : Inside)
         → part_state i whole.now place.now (Part.Ended sign)
@@ -323,7 +323,7 @@ fn move_place(
 
 /// A whole expression of which nothing was read.
 pub fn begin(alloc: Global, nesting: u32, receiver: Receiver) -> Whole
-    ensures value { result ≡ begun nesting receiver }
+    ensures value { result ≡ new_whole nesting receiver }
 {
     Whole {
         nesting,
@@ -343,7 +343,7 @@ pub fn take_whole(
 ) -> Result<Turn, NoMemory>
     requires shallow { nesting < 2 ^ 31 }
     ensures value { IfOk result (λ turn. (i : Inside) → turn_state i mode.new turn
-        ≡ placed i (at_operand (begun nesting receiver) token.old.span token.old.kind)) }
+        ≡ state_in i (at_operand (new_whole nesting receiver) token.old.span token.old.kind)) }
 {
     settle(
         mode,

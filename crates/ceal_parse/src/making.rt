@@ -1,7 +1,7 @@
 // What a variable is given. A `take_..` takes one token.
 
 ghost use Rattle.std.specs.Prelude.{◌≡◌, ◌<◌, ◌^◌, true, IfOk};
-ghost use Rattle.ceal_grammar.specs.Machine.{given, called, at_modref, at_making, at_value, placed};
+ghost use Rattle.ceal_grammar.specs.Machine.{value_statement, call_statement, at_modref, at_making, at_value, state_in};
 ghost use Rattle.ceal_grammar.specs.declared.state.Inside.{Inside};
 ghost use Rattle.ceal_parse.specs.Reading.{is_name, turn_state};
 
@@ -17,7 +17,7 @@ use std::alloc::Global;
 
 /// The statement that gives the value.
 pub fn give(target: Target, value: Value) -> Stmt
-    ensures value { result ≡ given target value }
+    ensures value { result ≡ value_statement target value }
 {
     match target {
         Target::Declare(at, form, name) => Stmt::Declare(at, form, name, value),
@@ -27,7 +27,7 @@ pub fn give(target: Target, value: Value) -> Stmt
 
 /// The statement that has these arguments.
 pub fn call(callee: Callee, arguments: Exprs) -> Stmt
-    ensures value { result ≡ called callee arguments }
+    ensures value { result ≡ call_statement callee arguments }
 {
     match callee {
         Callee::Call(name) => Stmt::Call(name, arguments),
@@ -152,7 +152,7 @@ pub fn take_value(
 ) -> Result<Turn, NoMemory>
     requires shallow { nesting < 2 ^ 31 }
     ensures value { IfOk result (λ turn. (i : Inside) → turn_state i mode.new turn
-        ≡ placed i (at_value nesting target token.old.span token.old.kind)) }
+        ≡ state_in i (at_value nesting target token.old.span token.old.kind)) }
 {
     let at = token.span;
     if is_word(token, Reserved::Read) {

@@ -6,7 +6,7 @@ ghost use Rattle.ceal_base.specs.declared.syntax.Tree.{Tree as TreeRecord};
 ghost use Rattle.ceal_base.specs.Answers.{Gives, IfFault};
 ghost use Rattle.ceal_lex.specs.Tokens.{IsEnded};
 ghost use Rattle.ceal_grammar.specs.Faults.{Accepts, IsFirstFault};
-ghost use Rattle.ceal_grammar.specs.Judged.{judged};
+ghost use Rattle.ceal_grammar.specs.Judged.{tree_or_fault};
 ghost use Rattle.ceal_grammar.specs.declared.state.State.TheVariants.{Top};
 
 use crate::copies::copied_tokens;
@@ -20,7 +20,7 @@ use std::alloc::Global;
 
 /// What a reading of the tokens comes to.
 fn read(alloc: Global, tokens: &mut [Token]) -> Result<Tree, FrontError>
-    ensures value { Gives result (judged (Top []) tokens.old) }
+    ensures value { Gives result (tree_or_fault (Top []) tokens.old) }
 {
     let mut parser = Parser::new(alloc);
     for token in tokens.iter_mut() {

@@ -2,7 +2,7 @@
 
 ghost use Rattle.std.specs.Prelude.{◌≡◌, ◌≤◌, [], true, false, IfOk, MatchResult, Ok};
 ghost use Rattle.ceal_base.specs.Answers.{Fails};
-ghost use Rattle.ceal_grammar.specs.Judged.{advanced, tested, entries_of, code_at};
+ghost use Rattle.ceal_grammar.specs.Judged.{next_state, within_limits, entries_of, code_at};
 ghost use Rattle.ceal_grammar.specs.Machine.{at_part, at_top, nesting_of, operators_of, step, wants};
 ghost use Rattle.ceal_parse.specs.Reading.{cut_at, is_inside, Fits};
 
@@ -177,8 +177,8 @@ impl Parser {
     /// Whether the token at this place, which was taken last and begins the item of this number, keeps the limits.
     fn test(&self, item: usize, at: Span) -> Result<(), FrontError>
         ensures value { MatchResult result
-            (λ _. tested item (cut_at at) self.now.state ≡ Ok self.now.state)
-            (λ error. Fails error (tested item (cut_at at) self.now.state)) }
+            (λ _. within_limits item (cut_at at) self.now.state ≡ Ok self.now.state)
+            (λ error. Fails error (within_limits item (cut_at at) self.now.state)) }
     {
         if nesting(&self.state) >= 65 {
             Err(fault(FaultCode::S4, at))
@@ -197,10 +197,10 @@ impl Parser {
         requires few { operators_of self.old.state ≤ 255 }
         requires room { Fits self.old.state }
         ensures value { MatchResult result
-            (λ _. advanced self.old.state token.old (step self.old.state token.old)
+            (λ _. next_state self.old.state token.old (step self.old.state token.old)
             ≡ Ok self.new.state)
             (λ error. Fails error
-            (advanced self.old.state token.old (step self.old.state token.old))) }
+            (next_state self.old.state token.old (step self.old.state token.old))) }
     {
         let at = token.span;
         let item = item(&self.state, token);

@@ -2,8 +2,9 @@
 // (operator precedence; Floyd, JACM 1963).
 
 ghost use Rattle.std.specs.Prelude.{◌≡◌, ◌∷◌, ◌<◌, ◌^◌, Some, None, IfOk};
-ghost use Rattle.ceal_grammar.specs.Machine.{single as single_piece, prefixed, addressed, element_of, joined, accessed};
-ghost use Rattle.ceal_grammar.specs.Machine.{operated, reduced};
+ghost use Rattle.ceal_grammar.specs.Machine.{single as single_piece, prefix_piece, address_piece, element_of};
+ghost use Rattle.ceal_grammar.specs.Machine.{infix_piece, arrow_piece};
+ghost use Rattle.ceal_grammar.specs.Machine.{with_operator, reduction};
 ghost use Rattle.ceal_grammar.specs.declared.state.Frame.TheVariants.{Address};
 
 use crate::marks::operator;
@@ -28,14 +29,14 @@ pub fn single(at: Span, form: ExprForm) -> Piece
 }
 
 fn prefix(alloc: Global, operator: Unary, at: Span, piece: Piece) -> Result<Piece, NoMemory>
-    ensures value { IfOk result (λ p. p ≡ prefixed operator at piece) }
+    ensures value { IfOk result (λ p. p ≡ prefix_piece operator at piece) }
 {
     let operand = Boxed::new(alloc, piece.expr)?;
     Ok(single(at, ExprForm::Unary(operator, operand)))
 }
 
 fn address(alloc: Global, at: Span, piece: Piece) -> Result<Piece, NoMemory>
-    ensures value { IfOk result (λ p. p ≡ addressed at piece) }
+    ensures value { IfOk result (λ p. p ≡ address_piece at piece) }
 {
     let operand = Boxed::new(alloc, piece.expr)?;
     Ok(single(at, ExprForm::Address(operand)))
@@ -48,7 +49,7 @@ fn join(
     at: Span,
     right: Piece,
 ) -> Result<Piece, NoMemory>
-    ensures value { IfOk result (λ p. p ≡ joined left operator at right) }
+    ensures value { IfOk result (λ p. p ≡ infix_piece left operator at right) }
 {
     let (first, second) = boxed(alloc, left.expr, right.expr)?;
     Ok(single(left.from, ExprForm::Binary(operator, at, first, second)))
@@ -63,7 +64,7 @@ pub fn element(alloc: Global, at: Span, row: Expr, index: Piece) -> Result<Piece
 }
 
 pub fn access(alloc: Global, piece: Piece, field: Ident) -> Result<Piece, NoMemory>
-    ensures value { IfOk result (λ p. p ≡ accessed piece field) }
+    ensures value { IfOk result (λ p. p ≡ arrow_piece piece field) }
 {
     let operand = Boxed::new(alloc, piece.expr)?;
     Ok(single(piece.from, ExprForm::Field(operand, field)))
@@ -83,7 +84,7 @@ fn put_back(frames: &mut Stack<Frame>, frame: Frame, piece: Piece) -> Result<Pie
 }
 
 /// The piece once each operator of this level and above that waits for it has taken it.
-#[tactic(auto, unfolding(ceal_grammar::specs::Machine::reduced))]
+#[tactic(auto, unfolding(ceal_grammar::specs::Machine::reduction))]
 pub fn reduce(
     alloc: Global,
     lowest: u8,
@@ -91,7 +92,7 @@ pub fn reduce(
     frames: &mut Stack<Frame>,
 ) -> Result<Piece, NoMemory>
     ensures value { IfOk result
-        (λ p. reduced lowest piece frames.old ≡ record { piece = p; frames = frames.new }) }
+        (λ p. reduction lowest piece frames.old ≡ record { piece = p; frames = frames.new }) }
 {
     match frames.pop() {
         None => Ok(piece),
@@ -134,7 +135,7 @@ pub fn operate(
     next: Place,
 ) -> Result<(), NoMemory>
     requires few { whole.old.operators < 2 ^ 31 }
-    ensures value { IfOk result (λ _. whole.new ≡ operated whole.old frame whole.old.frames) }
+    ensures value { IfOk result (λ _. whole.new ≡ with_operator whole.old frame whole.old.frames) }
     ensures place { IfOk result (λ _. place.new ≡ next) }
 {
     put(place, next);

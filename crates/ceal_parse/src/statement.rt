@@ -3,7 +3,8 @@
 
 ghost use Rattle.std.specs.Prelude.{◌≡◌, ◌∷◌, ◌<◌, ◌^◌, [], IfOk};
 ghost use Rattle.ceal_base.specs.declared.syntax.Stmt.TheViews.{If};
-ghost use Rattle.ceal_grammar.specs.Machine.{placed, begun, at_operand, type_begin, wrapped, with_statement, ends_at};
+ghost use Rattle.ceal_grammar.specs.Machine.{state_in, new_whole, at_operand, type_begin, chain_statement};
+ghost use Rattle.ceal_grammar.specs.Machine.{with_statement, ends_at};
 ghost use Rattle.ceal_grammar.specs.Machine.{opened_by, at_word, at_statement, at_typing, at_declared, at_owned};
 ghost use Rattle.ceal_grammar.specs.Machine.{at_path, at_calls, at_before, at_named, at_reached, at_first, path_of};
 ghost use Rattle.ceal_grammar.specs.Machine.{field_of};
@@ -42,9 +43,10 @@ fn otherwise(alloc: Global, outer: Chained, statement: Stmt) -> Result<Stmt, NoM
 }
 
 /// The statement once each `if` that it is the else part of has ended with it.
-#[tactic(auto, unfolding(ceal_grammar::specs::Machine::wrapped))]
+#[tactic(auto, unfolding(ceal_grammar::specs::Machine::chain_statement))]
 fn wrap(alloc: Global, chain: &mut Stack<Chained>, statement: Stmt) -> Result<Stmt, NoMemory>
-    ensures value { IfOk result (λ st. (st ≡ wrapped chain.old statement) × (chain.new ≡ [])) }
+    ensures value { IfOk result
+        (λ st. (st ≡ chain_statement chain.old statement) × (chain.new ≡ [])) }
 {
     match chain.pop() {
         None => Ok(statement),
@@ -68,7 +70,7 @@ fn end_chain(alloc: Global, inside: &mut Inside, statement: Stmt) -> Result<(), 
 }
 
 /// Puts the statement, which has ended, after those of its block.
-#[tactic(auto, unfolding(ceal_grammar::specs::Machine::wrapped))]
+#[tactic(auto, unfolding(ceal_grammar::specs::Machine::chain_statement))]
 pub fn end_statement(alloc: Global, inside: &mut Inside, statement: Stmt) -> Result<(), NoMemory>
     ensures value { IfOk result (λ _. inside.new ≡ with_statement inside.old statement) }
 {
@@ -132,7 +134,8 @@ pub fn open_block(alloc: Global, inside: &mut Inside, owner: Owner) -> Result<()
 }
 
 fn take_statement(mode: &mut Mode, at: Span, word: Reserved) -> Turn
-    ensures value { (i : Inside) → turn_state i mode.new result ≡ placed i (at_statement at word) }
+    ensures value { (i : Inside) → turn_state i mode.new result
+        ≡ state_in i (at_statement at word) }
 {
     if same_word(word, Reserved::If) {
         stand(mode, Mode::Before(Receiver::If(at)))
@@ -156,7 +159,7 @@ fn take_statement(mode: &mut Mode, at: Span, word: Reserved) -> Turn
 /// A reserved word at the beginning of a statement.
 pub fn take_word(mode: &mut Mode, at: Span, word: Reserved) -> Turn
     ensures value { (i : Inside) → turn_state i mode.new result
-        ≡ placed i (at_word at word (type_begin word)) }
+        ≡ state_in i (at_word at word (type_begin word)) }
 {
     match begin_type(word) {
         Some(part) => stand(mode, Mode::Typing(at, part)),
@@ -167,7 +170,7 @@ pub fn take_word(mode: &mut Mode, at: Span, word: Reserved) -> Turn
 #[inline(never)]
 pub fn take_typing(mode: &mut Mode, at: Span, part: TypePart, token: &mut Token) -> Turn
     ensures value { (i : Inside) → turn_state i mode.new result
-        ≡ placed i (at_typing at part token.old.span token.old.kind) }
+        ≡ state_in i (at_typing at part token.old.span token.old.kind) }
 {
     match take_type(false, part, token) {
         Some(Typing::More(part)) => stand(mode, Mode::Typing(at, part)),
@@ -179,7 +182,7 @@ pub fn take_typing(mode: &mut Mode, at: Span, part: TypePart, token: &mut Token)
 #[inline(never)]
 pub fn take_declared(mode: &mut Mode, at: Span, form: TypeForm, name: Ident, token: &Token) -> Turn
     ensures value { (i : Inside) → turn_state i mode.new result
-        ≡ placed i (at_declared at form name token.now.kind) }
+        ≡ state_in i (at_declared at form name token.now.kind) }
 {
     if is_sign(token, Sign::Equals) {
         stand(mode, Mode::Value(Target::Declare(at, form, name)))
@@ -216,7 +219,7 @@ fn field(alloc: Global, path: Expr, name: Ident) -> Result<Expr, NoMemory>
 #[inline(never)]
 pub fn take_named(mode: &mut Mode, name: Ident, token: &Token) -> Turn
     ensures value { (i : Inside) → turn_state i mode.new result
-        ≡ placed i (at_named name token.now.kind) }
+        ≡ state_in i (at_named name token.now.kind) }
 {
     if is_sign(token, Sign::Equals) {
         stand(mode, Mode::Value(Target::Assign(name)))
@@ -315,8 +318,9 @@ fn first_argument(
 ) -> Result<Turn, NoMemory>
     requires shallow { nesting < 2 ^ 31 }
     ensures value { IfOk result (λ turn. (i : Inside) → turn_state i mode.new turn
-        ≡ placed i
-        (at_operand (begun nesting (Receiver.Argument callee [])) token.old.span token.old.kind)) }
+        ≡ state_in i
+        (at_operand (new_whole nesting (Receiver.Argument callee []))
+        token.old.span token.old.kind)) }
 {
     let receiver = Receiver::Argument(callee, Items::empty(alloc));
     let turn = take_whole(alloc, nesting, mode, receiver, token)?;
@@ -334,7 +338,7 @@ pub fn take_first(
 ) -> Result<Turn, NoMemory>
     requires shallow { nesting < 2 ^ 30 }
     ensures value { IfOk result (λ turn. (i : Inside) → turn_state i mode.new turn
-        ≡ placed i (at_first nesting callee token.old.span token.old.kind)) }
+        ≡ state_in i (at_first nesting callee token.old.span token.old.kind)) }
 {
     if is_sign(token, Sign::RightParenthesis) {
         Ok(stand(mode, Mode::Ends(call(callee, Items::empty(alloc)))))
@@ -354,7 +358,7 @@ pub fn take_before(
 ) -> Turn
     requires shallow { nesting < 2 ^ 31 }
     ensures value { (i : Inside) → turn_state i mode.new result
-        ≡ placed i (at_before nesting receiver token.now.kind) }
+        ≡ state_in i (at_before nesting receiver token.now.kind) }
 {
     if is_sign(token, Sign::LeftParenthesis) {
         let whole = begin(alloc, nesting + 1, receiver);

@@ -3,7 +3,8 @@
 
 ghost use Rattle.std.specs.Prelude.{◌≡◌, ◌≤◌, List, false, true, IfOk};
 ghost use Rattle.ceal_base.specs.declared.syntax.Entry.{Entry as EntryOf};
-ghost use Rattle.ceal_grammar.specs.Machine.{at_struct, at_member, at_member_end, at_length, at_sized, widened};
+ghost use Rattle.ceal_grammar.specs.Machine.{at_struct, at_member, at_member_end, at_length, at_sized};
+ghost use Rattle.ceal_grammar.specs.Machine.{fields_with_member};
 ghost use Rattle.ceal_grammar.specs.Machine.{with_member, is_cell, length_of, wants};
 ghost use Rattle.ceal_grammar.specs.Trees.{row_form};
 ghost use Rattle.ceal_parse.specs.Reading.{is_closed, PlaceFits};
@@ -94,8 +95,8 @@ fn take_typing(place: &mut StructPlace, layout: Layout, part: TypePart, token: &
 
 /// How many fields there are with a member of this type, where `count` of them come before it.
 fn widen(count: u32, form: &TypeForm) -> u32
-    requires room { widened count form.now ≤ 255 }
-    ensures value { result ≡ widened count form.now }
+    requires room { fields_with_member count form.now ≤ 255 }
+    ensures value { result ≡ fields_with_member count form.now }
 {
     match form {
         TypeForm::CellRow(length) => count + *length,
@@ -106,7 +107,7 @@ fn widen(count: u32, form: &TypeForm) -> u32
 
 /// The members with this one, which has ended.
 fn end_member(layout: Layout, member: FieldDecl) -> Result<Layout, NoMemory>
-    requires room { widened layout.count member.form ≤ 255 }
+    requires room { fields_with_member layout.count member.form ≤ 255 }
     ensures value { IfOk result (λ l. l ≡ with_member layout member) }
 {
     let mut layout = layout;
@@ -133,7 +134,7 @@ fn take_end(
     member: FieldDecl,
     token: &Token,
 ) -> Result<bool, NoMemory>
-    requires room { widened layout.count member.form ≤ 255 }
+    requires room { fields_with_member layout.count member.form ≤ 255 }
     ensures value { IfOk result (λ on. (es : List EntryOf) → wants on (State.Struct es place.new)
         ≡ at_member_end es layout member token.now.kind) }
 {

@@ -10,7 +10,7 @@ use Rattle.std.proofs.lemmas.Fmt.{digits_decimal, digits_value-decimal, decimal_
 use Rattle.std.proofs.lemmas.List.{get_or_append_left}
 use Rattle.std.proofs.lemmas.Str.Parse.{IsDigitsTest, FoldsDigits, IsNumeralModel, numerals_by_fold}
 use Rattle.std.proofs.Math.Seq.{get_or-append_seam, get_or-append_right}
-use Rattle.ceal_base.specs.Digits.{continued, number_of, is_digit}
+use Rattle.ceal_base.specs.Digits.{number_with_digits, number_of, is_digit}
 use Rattle.ceal_lex.specs.declared.token.Reserved.{Reserved}
 use Rattle.ceal_lex.specs.declared.token.Reserved.TheVariants as words
 use Rattle.ceal_lex.specs.declared.token.Sign.{Sign}
@@ -39,15 +39,15 @@ tells = record {
   more = λ c cs r h. (range_digit c r, h);
 }
 
-folds : FoldsDigits continued
-unfolding continued
+folds : FoldsDigits number_with_digits
+unfolding number_with_digits
 folds = record {
   empty = λ n. refl;
-  more = λ n c cs r. ap (λ m. continued m cs) (omega arith);
+  more = λ n c cs r. ap (λ m. number_with_digits m cs) (omega arith);
 }
 
 model : IsNumeralModel AllDigits number_of
-model = numerals_by_fold AllDigits tells continued folds
+model = numerals_by_fold AllDigits tells number_with_digits folds
 
 some_digits : (ds : List ℕ) → 0 < length ds → AllDigits ds → AreDigits ds
 some_digits [] l h = absurd (omega (arith, l))

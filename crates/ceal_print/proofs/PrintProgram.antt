@@ -14,7 +14,8 @@ use Rattle.ceal_grammar.specs.Grammar.{Member, Part, structure, function, Progra
 use Rattle.ceal_grammar.specs.Grammar.{SizeProper, MembersProper, PartProper, PartsProper}
 use Rattle.ceal_print.specs.Print.{nowhere, bare_name, bare_type, bare_field, bare_fields, bare_entry, bare_entries, bare_tree}
 use Rattle.ceal_print.specs.PrintWords.{type_kinds, row_length_kinds, size_kinds, braced, stmts_kinds, field_kinds, other_kinds, parameter_kinds, member_kinds, entry_kinds, entries_kinds, tree_kinds}
-use Rattle.ceal_grammar.specs.Spelled.{Mark, spelled_parameter, spelled_others, spelled_parameters, counted, spelled_size, spelled_members, spelled_part, spelled_parts, spelled_program, tokens_of}
+use Rattle.ceal_grammar.specs.Spelled.{Mark, spelled_parameter, spelled_others, spelled_parameters, fields_up_to, spelled_size, spelled_members, spelled_part, spelled_parts, spelled_program}
+use Rattle.ceal_grammar.specs.Spelled.{tokens_of}
 use Rattle.ceal_grammar.specs.Trees.{type_form, sized_form, parameter_tree, other_trees, parameter_trees, member_trees, block_trees, part_tree, part_trees, program_tree}
 use Rattle.ceal_print.proofs.PrintMarks.{Thinner, same, the_end}
 use Rattle.ceal_print.proofs.PrintPhrase.{spanned, placed}
@@ -52,7 +53,7 @@ pub record PrintedSize (σ : List TokenKind → Span) (old : Size) (ks : List To
   pub words : size_words made (spanned σ ks) ≡ spanned σ (size_tokens old ++ ks)
   pub proper : (w : Written) → SizeProper w old → SizeProper w made
   pub form : (f : TypeForm) → sized_form f made ≡ sized_form f old
-  pub count : (c : ℕ) → counted c made ≡ counted c old
+  pub count : (c : ℕ) → fields_up_to c made ≡ fields_up_to c old
   pub thinner : (c : ℕ) (ms ns : List Mark) → Thinner 0 ms ns → Thinner 0 (spelled_size c made ms) (spelled_size c old ns)
 
 pub record PrintedMembers (σ : List TokenKind → Span) (old : List Member) (ks : List TokenKind) : Type 0 where
@@ -222,7 +223,7 @@ module _ (σ : List TokenKind → Span) where
               ∙ sym (bare_sized (type_form m.type) m.size)) i;
           name = bare_name m.x;
         } ∷ M.bare i;
-        thinner = λ i ms ns th. W.thinner 1 (suc i) _ _ (same refl (Z.thinner i _ _ (same refl (rw (Z.count i) (M.thinner (counted i m.size) ms ns th)))));
+        thinner = λ i ms ns th. W.thinner 1 (suc i) _ _ (same refl (Z.thinner i _ _ (same refl (rw (Z.count i) (M.thinner (fields_up_to i m.size) ms ns th)))));
       }
 
   printed_part : (old : Part) → PartProper old → (ks : List TokenKind) → PrintedPart σ old ks

@@ -7,7 +7,7 @@ use Rattle.ceal_lex.specs.declared.token.TokenKind.TheVariants.{Name, Number, Re
 use Rattle.ceal_lex.specs.Characters.{SLASH, STAR}
 use Rattle.ceal_lex.specs.Pieces.{Piece, space, line_comment, block_comment, token, Stand, spelled}
 use Rattle.ceal_lex.specs.Spelling.{Spells}
-use Rattle.ceal_lex.specs.Tokens.{AreTokens, ending, tokens_from}
+use Rattle.ceal_lex.specs.Tokens.{AreTokens, last_token, tokens_from}
 use Rattle.ceal_print.specs.PrintWords.{kind_text, gap}
 use Rattle.ceal_print.proofs.PrintLexemes.{own_text, short_text}
 use Rattle.ceal_print.proofs.PrintMarks.{total, SpellsBefore, AreSpelled}
@@ -45,12 +45,12 @@ pieces_total (token j text ∷ ps) at rest us h =
     let m = length-append (kind_text j) (gap j) in
     let short = short_text j text h.0.0 in omega (arith, k, l, m, short)
 
-ending_spelled : (marked : Bool) (n : ℕ) → AreSpelled (ending marked n ∷ [])
+ending_spelled : (marked : Bool) (n : ℕ) → AreSpelled (last_token marked n ∷ [])
 unfolding AreSpelled
 ending_spelled true n = refl
 ending_spelled false n = refl
 
-ending_total : (marked : Bool) (n : ℕ) → total (ending marked n ∷ []) ≡ 0
+ending_total : (marked : Bool) (n : ℕ) → total (last_token marked n ∷ []) ≡ 0
 unfolding total
 ending_total true n = omega arith
 ending_total false n = omega arith
@@ -58,11 +58,11 @@ ending_total false n = omega arith
 module _ (source : List ℕ) (marked : Bool) (tokens : List Token) (h : AreTokens source marked tokens) where
   pub source_spelled : AreSpelled tokens
   source_spelled =
-      subst AreSpelled (sym h.same) (pieces_spelled h.pieces 0 [] (ending marked (length source) ∷ []) h.stand (ending_spelled marked (length source)))
+      subst AreSpelled (sym h.same) (pieces_spelled h.pieces 0 [] (last_token marked (length source) ∷ []) h.stand (ending_spelled marked (length source)))
 
   pub source_total : total tokens ≤ 21 * length source
   source_total =
-      let k = pieces_total h.pieces 0 [] (ending marked (length source) ∷ []) h.stand in
+      let k = pieces_total h.pieces 0 [] (last_token marked (length source) ∷ []) h.stand in
       let none = ending_total marked (length source) in
       let l : total tokens ≤ 21 * length (spelled h.pieces []) = subst (λ (us : List Token). total us ≤ 21 * length (spelled h.pieces [])) (sym h.same) (omega (arith, k, none)) in
       subst (λ (bytes : List ℕ). total tokens ≤ 21 * length bytes) h.spelled l

@@ -16,7 +16,7 @@ use Rattle.ceal_lex.specs.Characters.{LINE_FEED, PERCENT, is_space}
 use Rattle.ceal_lex.specs.Parts.{HasMark, IsBeforeLine, IsLine, IsMark, IsSplit, source_of}
 use Rattle.ceal_lex.specs.Pieces.{Piece, space, token, Stand, spelled}
 use Rattle.ceal_lex.specs.Spelling.{Spells, sign_text}
-use Rattle.ceal_lex.specs.Tokens.{AreTokens, ending, span, tokens_from}
+use Rattle.ceal_lex.specs.Tokens.{AreTokens, last_token, span, tokens_from}
 use Rattle.ceal_print.specs.Print.{mark_line}
 use Rattle.ceal_print.specs.PrintWords.{SPACE, kind_text, sign_gap, gap, texts, braced, head_kinds, stmts_kinds, member_kinds, entry_kinds, entries_kinds}
 use Rattle.ceal_print.proofs.PrintLexemes.{is_lexeme, stands, IsClear, clear_front}
@@ -102,7 +102,7 @@ pub place : ℕ → List TokenKind → Span
 place n ks = span (n - length (texts ks)) (n - length (texts ks) + first_length ks)
 
 placed_tokens : (n at : ℕ) (ks : List TokenKind) → AllSpell ks → at + length (texts (ks ++ End ∷ [])) ≡ n
-    → tokens_from at (pieces_of ks) ++ ending true n ∷ [] ≡ spanned (place n) (ks ++ End ∷ [])
+    → tokens_from at (pieces_of ks) ++ last_token true n ∷ [] ≡ spanned (place n) (ks ++ End ∷ [])
 unfolding pieces_of tokens_from spanned place texts AllSpell
 placed_tokens n at [] h e =
     let zero_off : n - 0 ≡ n = omega arith in

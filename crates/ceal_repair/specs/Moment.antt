@@ -23,7 +23,7 @@ use Rattle.ceal_theory.specs.Cover.{known_after}
 use Rattle.ceal_theory.specs.Groves.{Grove, Bare}
 use Rattle.ceal_theory.specs.Known.{Knows, KnownItems}
 use Rattle.ceal_theory.specs.Repair.{State}
-use Rattle.ceal_theory.specs.Turns.{Machine}
+use Rattle.ceal_theory.specs.Moves.{Machine}
 use Rattle.ceal_trace.specs.Items.{ticks, item_of, forest_of, unclosed}
 use Rattle.ceal_trace.specs.Nodes.{Entry, end_in}
 use Rattle.ceal_trace.specs.declared.node.Node.{Node}

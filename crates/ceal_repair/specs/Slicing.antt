@@ -14,7 +14,7 @@ use Rattle.ceal_repair.specs.Turning.{StandsFor}
 use Rattle.ceal_repair.specs.declared.advance.Progress.{Progress}
 use Rattle.ceal_repair.specs.declared.advance.Progress.TheVariants.{More, Done, Spent, OutOfFuel}
 use Rattle.ceal_repair.specs.declared.running.Running.{Running}
-use Rattle.ceal_theory.specs.Carried.{counted_anew}
+use Rattle.ceal_theory.specs.Carried.{numbered_from_zero}
 use Rattle.ceal_theory.specs.Repair.{Single}
 use Rattle.ceal_theory.specs.Slices.{Repair, sliced}
 
@@ -35,7 +35,7 @@ pub record IsSliceOf (code : Code) (inputs : List Block) (reads : Option ℕ) (f
   pub names : ℕ → ℕ
   pub single : Single names
   pub off : (k : ℕ) → r.known (Core (names k)) ≡ None
-  pub is : sliced code names inputs reads fuel (counted_anew r) ≡ o
+  pub is : sliced code names inputs reads fuel (numbered_from_zero r) ≡ o
 
 -- how far a slice has come, and what the run is then
 abbrev pub IsSliced : Code → List Block → ℕ → List Word → Option ℕ → ℕ → Repair → Running → Progress → Type 0

@@ -9,7 +9,7 @@ use Rattle.std.proofs.lemmas.Bool.Decides.{nat_tests}
 use Rattle.std.proofs.lemmas.Fmt.{digits_decimal, digits_value-decimal, decimal-digits_value, decimal_nonempty, first_decimal}
 use Rattle.std.proofs.lemmas.Slice.Eq.{bytes_eq-Decides}
 use Rattle.std.proofs.lemmas.Str.Parse.{IsDigitsTest, FoldsDigits, IsNumeralModel, numerals_by_fold}
-use Rattle.ceal_base.specs.Digits.{continued, number_of, is_digit}
+use Rattle.ceal_base.specs.Digits.{number_with_digits, number_of, is_digit}
 use Rattle.ceal_script.specs.Spelling.{AreDigits, IsIndex}
 
 abbrev AllDigits : List ℕ → Type 0
@@ -28,15 +28,15 @@ tells = record {
   more = λ c cs r h. rw (range_digit c r, h) refl;
 }
 
-folds : FoldsDigits continued
-unfolding continued
+folds : FoldsDigits number_with_digits
+unfolding number_with_digits
 folds = record {
   empty = λ n. refl;
-  more = λ n c cs r. ap (λ m. continued m cs) (omega arith);
+  more = λ n c cs r. ap (λ m. number_with_digits m cs) (omega arith);
 }
 
 model : IsNumeralModel AllDigits number_of
-model = numerals_by_fold AllDigits tells continued folds
+model = numerals_by_fold AllDigits tells number_with_digits folds
 
 all_digits : (ds : List ℕ) → AreDigits ds → AllDigits ds
 all_digits [] h = absurd (false≢true h)

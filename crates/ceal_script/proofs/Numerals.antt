@@ -6,7 +6,7 @@ use Rattle.std.specs.List.{list_all}
 use Rattle.std.specs.Str.Parse.{AllDigits, IsNumeral, digits_value, digits_value_after}
 use Rattle.std.proofs.lemmas.Bool.{false≢true, leb-true}
 use Rattle.std.proofs.lemmas.Str.{digit_value_digit}
-use Rattle.ceal_base.specs.Digits.{is_digit, continued, number_of}
+use Rattle.ceal_base.specs.Digits.{is_digit, number_with_digits, number_of}
 use Rattle.ceal_script.specs.Spelling.{AreDigits}
 
 -- both hold where both are true
@@ -27,14 +27,14 @@ all-digits (c ∷ cs) h =
     let most : c ≤ 57 = leb-true c 57 bounds.1 in
     (omega (arith, value, most), all-digits cs parts.1)
 
-continued-alike : (n : ℕ) (digits : List ℕ) → list_all is_digit digits ≡ true → continued n digits ≡ digits_value_after 10 n digits
-unfolding continued
+continued-alike : (n : ℕ) (digits : List ℕ) → list_all is_digit digits ≡ true → number_with_digits n digits ≡ digits_value_after 10 n digits
+unfolding number_with_digits
 continued-alike n [] h = refl
 continued-alike n (c ∷ cs) h =
     let parts = both (is_digit c) (list_all is_digit cs) h in
     let value = digit-alike c parts.0 in
     let same : 10 * n + (c - 48) ≡ n * 10 + digit_value c = omega (arith, value) in
-    ap (λ (k : ℕ). continued k cs) same ∙ continued-alike (n * 10 + digit_value c) cs parts.1
+    ap (λ (k : ℕ). number_with_digits k cs) same ∙ continued-alike (n * 10 + digit_value c) cs parts.1
 
 pub digits-alike : (digits : List ℕ) → AreDigits digits → IsNumeral 10 digits × (number_of digits ≡ digits_value 10 digits)
 digits-alike [] h = absurd (false≢true h)

@@ -4,7 +4,7 @@ use Rattle.std.specs.Prelude.{codes}
 use Rattle.std.specs.Fmt.{decimal, digits}
 use Rattle.std.proofs.lemmas.Bool.{false≢true}
 use Rattle.std.proofs.lemmas.List.{append_assoc}
-use Rattle.ceal_base.specs.Digits.{continued, number_of}
+use Rattle.ceal_base.specs.Digits.{number_with_digits, number_of}
 use Rattle.ceal_script.specs.Lines.{is_comment, IsLineOf}
 use Rattle.ceal_script.specs.Spelling.{is_name, is_identifier, IsIdentifier, IsIndex, IsField}
 use Rattle.ceal_script.specs.Words.{HasWords}
@@ -24,7 +24,7 @@ null_is_identifier : is_identifier (codes "null") ≡ true
 null_is_identifier = refl
 
 zeros_in_front : number_of (codes "007") ≡ 7
-unfolding continued
+unfolding number_with_digits
 zeros_in_front = refl
 
 comment : is_comment (codes "//x") ≡ true
@@ -47,7 +47,7 @@ element_is_field : (row : List ℕ) (i : ℕ) → IsIdentifier row → i < 255 �
 element_is_field row i h l = inr (row, decimal i, append_assoc (row ++ codes "[") (decimal i) (codes "]") ∙ append_assoc row (codes "[") (decimal i ++ codes "]"), h, (i, l, refl))
 
 set_element_line : IsLineOf (Set (record { name = codes "r"; field = Some (codes "s[2]") }) (Num (pos 5))) (codes "set r.s[2] 5")
-unfolding HasWords continued digits
+unfolding HasWords number_with_digits digits
 set_element_line = record {
   words = codes "set" ∷ codes "r.s[2]" ∷ codes "5" ∷ [];
   has_words = (
@@ -77,7 +77,7 @@ zero_in_front_no_field : IsField (codes "s[04]") → ⊥
 zero_in_front_no_field h = let e = index_front (codes "04") (between (codes "04") h) refl in cc
 
 too_many_no_field : IsField (codes "s[255]") → ⊥
-unfolding continued
+unfolding number_with_digits
 too_many_no_field h = let l : 255 < 255 = index_below (codes "255") (between (codes "255") h) in omega (arith, l)
 
 space_no_field : IsField (codes "s[2 ]") → ⊥

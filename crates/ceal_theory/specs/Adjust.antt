@@ -7,7 +7,7 @@ use Rattle.ceal_base.specs.declared.word.Word.{Word}
 use Rattle.ceal_code.specs.Program.{Code}
 use Rattle.ceal_code.specs.Replay.{plain_block, input_plain, plain_of, count, core_numbers}
 use Rattle.ceal_code.specs.Step.{started}
-use Rattle.ceal_theory.specs.Repair.{State, own, begins, Fix, Anew}
+use Rattle.ceal_theory.specs.Repair.{State, own, begins, Fix, Reruns}
 
 -- the old inputs, each of the same shape and with the same plain words, and maybe more of them; the contents of
 -- modifiables may be any
@@ -37,7 +37,7 @@ pub record FirstsAs
     (work : ℕ) : Type 0 where
   pub after : State
   pub left : Trace
-  pub anew : Anew code names (begins code inputs (input_plain code inputs) 0)
+  pub anew : Reruns code names (begins code inputs (input_plain code inputs) 0)
       (started code f args) Nothing after new left
   pub counted : after.work ≡ work
 

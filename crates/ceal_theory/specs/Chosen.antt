@@ -15,7 +15,7 @@ use Rattle.ceal_theory.specs.Computed.{Repaired, adjusted, first_of}
 use Rattle.ceal_theory.specs.Laws.{Edited}
 use Rattle.ceal_theory.specs.Named.{Named, then_from}
 use Rattle.ceal_theory.specs.Repair.{State, begins}
-use Rattle.ceal_theory.specs.Turns.{Machine, Fixing, Running, Bottom, Ended, turn, BecomesBy}
+use Rattle.ceal_theory.specs.Moves.{Machine, Fixing, Running, Bottom, Ended, next_move, BecomesBy}
 
 -- the names continue these numbers
 abbrev pub Continues : List ℕ → (ℕ → ℕ) → Type 0
@@ -93,7 +93,7 @@ pub record ChosenLaws (code : Code) : Type 0 where
       → Edited code old new f args l number
       → (m : Machine) (chosen : List ℕ) (out : List Item) → ComesBy code (repair_begins code new l) m chosen out
       → Free chosen l
-      → ((names : ℕ → ℕ) → turn code names m ≡ Ended)
+      → ((names : ℕ → ℕ) → next_move code names m ≡ Ended)
       → EndedRepair code old new f args l number chosen m.state out
   -- where its work is more than the run from scratch may take
   pub over : (old new : List Block) (f : ℕ) (args : List Word) (l : Trace) (number : ℕ)
@@ -104,7 +104,7 @@ pub record ChosenLaws (code : Code) : Type 0 where
   pub first_ends : (inputs : List Block) (f : ℕ) (args : List Word) → Fits code inputs f args
       → (m : Machine) (chosen : List ℕ) (out : List Item)
       → ComesBy code (first_begins code inputs f args) m chosen out → Distinct chosen
-      → ((names : ℕ → ℕ) → turn code names m ≡ Ended)
+      → ((names : ℕ → ℕ) → next_move code names m ≡ Ended)
       → EndedFirst code inputs f args chosen m.state out
   pub first_over : (inputs : List Block) (f : ℕ) (args : List Word) → Fits code inputs f args
       → (m : Machine) (chosen : List ℕ) (out : List Item)

@@ -114,9 +114,9 @@ perform code names again s old (Reads p u v args below) =
     read_by code again s old p u v args below (take_read p u v args old)
 
 -- a stack is re-executed with a leftover, at most so deep
-unfoldable pub anew : Code → (ℕ → ℕ) → ℕ → Runner
-anew code names zero s st old = None
-anew code names (suc depth) s st old = perform code names (anew code names depth) s old (next code s.plain st)
+unfoldable pub rerun : Code → (ℕ → ℕ) → ℕ → Runner
+rerun code names zero s st old = None
+rerun code names (suc depth) s st old = perform code names (rerun code names depth) s old (next code s.plain st)
 
 -- what a repair comes to: its items, and its work
 pub record Repaired : Type 0 where
@@ -131,7 +131,7 @@ fixed_within n (Some f) = if nat_le f.state.work n then Some (record { items = f
 -- the repair of the items on these inputs with new blocks from a number on, where its work is at most n
 unfoldable pub adjusted : Code → List Block → ℕ → ℕ → Trace → Option Repaired
 adjusted code inputs number n old =
-    fixed_within n (fix_by code (anew code own (n + 1)) (begins code inputs (plain_of code inputs old) number) old)
+    fixed_within n (fix_by code (rerun code own (n + 1)) (begins code inputs (plain_of code inputs old) number) old)
 
 -- a run, where its steps are n at most
 abbrev pub ran_within : ℕ → Option Ran → Option Repaired
@@ -141,4 +141,4 @@ ran_within n (Some r) = if nat_le r.state.work n then Some (record { items = r.i
 -- the first trace of the call, where it has at most n steps
 unfoldable pub first_of : Code → List Block → ℕ → ℕ → List Word → Option Repaired
 first_of code inputs n f args =
-    ran_within n (anew code own (n + 1) (begins code inputs (input_plain code inputs) 0) (started code f args) Nothing)
+    ran_within n (rerun code own (n + 1) (begins code inputs (input_plain code inputs) 0) (started code f args) Nothing)

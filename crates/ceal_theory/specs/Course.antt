@@ -26,8 +26,8 @@ use Rattle.ceal_theory.specs.Repair.{State, clears, puts, works, grows, resumed}
 use Rattle.ceal_theory.specs.SliceLaws.{unit_alone}
 use Rattle.ceal_theory.specs.Slices.{Repair, starting, repair_at, Slices, sliced, RepairHolds}
 use Rattle.ceal_theory.specs.Take.{TakenAlloc, TakenRead, take_alloc, take_read}
-use Rattle.ceal_theory.specs.Turns.{Mode, Fixing, Running, Frames, Bottom, AfterFix, AfterMend, AfterRun, Machine}
-use Rattle.ceal_theory.specs.Turns.{Ended, turn, Finishes, BecomesBy}
+use Rattle.ceal_theory.specs.Moves.{Mode, Fixing, Running, Frames, Bottom, AfterFix, AfterMend, AfterRun, Machine}
+use Rattle.ceal_theory.specs.Moves.{Ended, next_move, Finishes, BecomesBy}
 use Rattle.ceal_theory.specs.Walk.{with_store, store_after, AgreesAll}
 
 -- what waits for the end of a read: kept items around it, a stack with the old items after it, or a stack
@@ -188,7 +188,7 @@ pub record TurnCourse
     (code : Code) (names : ℕ → ℕ) (inputs : List Block) (r : Repair) (front : List Item)
     (p : Place) (u : UnitId) (v : ℕ) (args : List Word) (inside : Trace) (back : List Item)
     (m : Machine) (out : List Item) : Type 0 where
-  pub ended : turn code names m ≡ Ended
+  pub ended : next_move code names m ≡ Ended
       → (l : Trace) × Slices code names inputs (Some 1) r (repair_at m.state l)
       × (flat l ≡ front ++ Read p (store_after code (starting code inputs r.known) front p) u v args
       ∷ (out ++ End ∷ back))

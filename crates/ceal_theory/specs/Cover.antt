@@ -43,12 +43,12 @@ unfoldable pub none_waits : Waiting
 none_waits = λ p. false
 
 -- nobody waits at place p any more
-unfoldable pub closed : Waiting → Place → Waiting
-closed w p = λ q. if same_place q p then false else w q
+unfoldable pub waiting_after_write : Waiting → Place → Waiting
+waiting_after_write w p = λ q. if same_place q p then false else w q
 
 -- at place p somebody waits, if b says so
-unfoldable pub opened : Waiting → Place → Bool → Waiting
-opened w p b = λ q. if same_place q p then w q || b else w q
+unfoldable pub waiting_after_read : Waiting → Place → Bool → Waiting
+waiting_after_read w p b = λ q. if same_place q p then w q || b else w q
 
 -- Each read that is not honest is queued, or a queued read of its place is before it with no write of the
 -- place between.
@@ -56,9 +56,9 @@ abbrev pub Covered : Code → Queue → Store → Waiting → Nodes → Type 0
 Covered code q s w Nil = ⊤
 Covered code q s w (Node n Step rest) = Covered code q s w rest
 Covered code q s w (Node n (Alloc b key) rest) = Covered code q (cleared code s b key) w rest
-Covered code q s w (Node n (Write p value) rest) = Covered code q (stored s p value) (closed w p) rest
+Covered code q s w (Node n (Write p value) rest) = Covered code q (stored s p value) (waiting_after_write w p) rest
 Covered code q s w (Node n (Read p value u v args) rest) =
-    ((s p ≡ value) ⊎ (opened w p (q n) p ≡ true)) × Covered code q s (opened w p (q n)) rest
+    ((s p ≡ value) ⊎ (waiting_after_read w p (q n) p ≡ true)) × Covered code q s (waiting_after_read w p (q n)) rest
 Covered code q s w (Node n End rest) = Covered code q s w rest
 
 -- the first read of the place that no write of it comes before
@@ -96,7 +96,7 @@ abbrev pub ChangeLaw : Type 0
 ChangeLaw = (code : Code) (q : Queue) (s : Store) (p : Place) (value : Word) (l : Nodes)
     → (Covered code q s none_waits l → Covered code (with_queued q (first_read p l)) (stored s p value) none_waits l)
     × ((w : Waiting) (wait : Bool) → Covered code q s w l
-    → Covered code (with_queued q (first_read p l)) s (opened (closed w p) p wait) l)
+    → Covered code (with_queued q (first_read p l)) s (waiting_after_read (waiting_after_write w p) p wait) l)
 
 -- Where none of the first nodes is queued they are honest, and what follows is covered. So the first queued
 -- read, if it is stale, is the first stale read; and where nothing is queued all is honest.
@@ -169,8 +169,8 @@ abbrev pub waits_after : Queue → Waiting → Nodes → Waiting
 waits_after q w Nil = w
 waits_after q w (Node n Step rest) = waits_after q w rest
 waits_after q w (Node n (Alloc b key) rest) = waits_after q w rest
-waits_after q w (Node n (Write p value) rest) = waits_after q (closed w p) rest
-waits_after q w (Node n (Read p value u v args) rest) = waits_after q (opened w p (q n)) rest
+waits_after q w (Node n (Write p value) rest) = waits_after q (waiting_after_write w p) rest
+waits_after q w (Node n (Read p value u v args) rest) = waits_after q (waiting_after_read w p (q n)) rest
 waits_after q w (Node n End rest) = waits_after q w rest
 
 -- the stamp, if there is one, is queued

@@ -16,8 +16,8 @@ use Rattle.ceal_code.specs.Value.{Variables, set}
 use Rattle.ceal_theory.specs.Levels.{first, around, levels, loose, beyond, skipped, FoundAlloc, find_alloc, FoundRead}
 use Rattle.ceal_theory.specs.Levels.{find_read}
 use Rattle.ceal_theory.specs.Repair.{State, clears, puts, works, grows, resumed}
-use Rattle.ceal_theory.specs.Turns.{Machine, Fixing, Running, Frames, Bottom, AfterFix, AfterMend, AfterRun, Ended}
-use Rattle.ceal_theory.specs.Turns.{turn, BecomesBy}
+use Rattle.ceal_theory.specs.Moves.{Machine, Fixing, Running, Frames, Bottom, AfterFix, AfterMend, AfterRun, Ended}
+use Rattle.ceal_theory.specs.Moves.{next_move, BecomesBy}
 use Rattle.ceal_theory.specs.Walk.{store_after, AgreesAll, with_store}
 
 -- items are walked, or a stack runs with `levels` levels left over
@@ -85,7 +85,7 @@ pub record FlatLaws (code : Code) (names : ℕ → ℕ) : Type 0 where
   pub mended : (s : State) (fs : List FlatFrame) (below : Stack) (n : ℕ) (is : List Item)
       → BecomesBy code names (flat_machine s GoesThrough (Mends below n ∷ fs) (End ∷ is))
       (flat_machine s (Runs below n) fs is) (End ∷ [])
-  pub last : (s : State) → turn code names (flat_machine s GoesThrough [] []) ≡ Ended
+  pub last : (s : State) → next_move code names (flat_machine s GoesThrough [] []) ≡ Ended
   -- a stack that is over: what it leaves over is revoked, or continues to what follows
   pub over_fixes : (s : State) (fs : List FlatFrame) (st : Stack) (n : ℕ) (is : List Item) → next code s.plain st ≡ Over
       → BecomesBy code names (flat_machine s (Runs st n) (Fixes ∷ fs) is)
@@ -99,7 +99,7 @@ pub record FlatLaws (code : Code) (names : ℕ → ℕ) : Type 0 where
       → BecomesBy code names (flat_machine s (Runs st n) (GoesOn below ∷ fs) is)
       (flat_machine s (Runs below n) fs is) (End ∷ [])
   pub over_last : (s : State) (st : Stack) (n : ℕ) (is : List Item) → next code s.plain st ≡ Over
-      → turn code names (flat_machine s (Runs st n) [] is) ≡ Ended
+      → next_move code names (flat_machine s (Runs st n) [] is) ≡ Ended
   -- a stack that runs
   pub quiet : (s : State) (fs : List FlatFrame) (st after : Stack) (n : ℕ) (is : List Item)
       → next code s.plain st ≡ Quiet after

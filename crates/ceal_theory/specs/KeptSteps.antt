@@ -6,7 +6,7 @@ use Rattle.ceal_base.specs.declared.word.Place.{Place}
 use Rattle.ceal_base.specs.declared.word.Word.{Word}
 use Rattle.ceal_code.specs.Program.{Code}
 use Rattle.ceal_code.specs.Step.{Stack}
-use Rattle.ceal_theory.specs.Repair.{State, Fix, Mend, Anew}
+use Rattle.ceal_theory.specs.Repair.{State, Fix, Mend, Reruns}
 
 -- how many steps are gone through and stay, which are those that are not re-executed
 abbrev mutual
@@ -26,14 +26,14 @@ abbrev mutual
 
   -- the steps that are kept in what is re-executed
   pub kept_anew : {code : Code} {names : ℕ → ℕ} {s s' : State} {st : Stack} {old new left : Trace}
-      → Anew code names s st old s' new left → ℕ
-  kept_anew (Anew.over e) = 0
-  kept_anew (Anew.quiet e a) = kept_anew a
-  kept_anew (Anew.takes_alloc e t a) = kept_anew a
-  kept_anew (Anew.makes e t a) = kept_anew a
-  kept_anew (Anew.writes e a) = kept_anew a
-  kept_anew (Anew.takes_read e t m a) = kept_mend m + kept_anew a
-  kept_anew (Anew.reads e t m a) = kept_anew m + kept_anew a
+      → Reruns code names s st old s' new left → ℕ
+  kept_anew (Reruns.over e) = 0
+  kept_anew (Reruns.quiet e a) = kept_anew a
+  kept_anew (Reruns.takes_alloc e t a) = kept_anew a
+  kept_anew (Reruns.makes e t a) = kept_anew a
+  kept_anew (Reruns.writes e a) = kept_anew a
+  kept_anew (Reruns.takes_read e t m a) = kept_mend m + kept_anew a
+  kept_anew (Reruns.reads e t m a) = kept_anew m + kept_anew a
 
 -- the kept and the new steps together are those of the new items; what is kept are steps of the old ones
 abbrev pub KeptStepsLaw : Type 0

@@ -21,8 +21,8 @@ use Rattle.ceal_theory.specs.Chosen.{repair_begins, first_begins}
 use Rattle.ceal_theory.specs.FlatMachine.{GoesThrough, FlatFrame, flat_machine, passes_all}
 use Rattle.ceal_theory.specs.Laws.{Edited}
 use Rattle.ceal_theory.specs.Repair.{State, resumed}
-use Rattle.ceal_theory.specs.Turns.{Mode, Fixing, Running, Frames, Bottom, AfterFix, AfterMend, AfterRun, Machine, Went}
-use Rattle.ceal_theory.specs.Turns.{turn}
+use Rattle.ceal_theory.specs.Moves.{Mode, Fixing, Running, Frames, Bottom, AfterFix, AfterMend, AfterRun, Machine, Went}
+use Rattle.ceal_theory.specs.Moves.{next_move}
 use Rattle.ceal_theory.specs.Walk.{store_after, AgreesAll, with_store}
 
 -- what a stack yields, by what its next step is
@@ -105,7 +105,7 @@ pub record KnowingLaws (code : Code) : Type 0 where
       → Knows code (length inputs) [] [] (first_begins code inputs f args)
   -- one move; a block that is made has a number that no block has
   pub turns : (names : ℕ → ℕ) (n : ℕ) (ds bs : List ℕ) (m m' : Machine) (written : List Item)
-      → Knows code n ds bs m → turn code names m ≡ Went written m'
+      → Knows code n ds bs m → next_move code names m ≡ Went written m'
       → (m'.state.number ≡ m.state.number) ⊎ (m.state.plain (Core (names m.state.number)) ≡ None)
       → GoesKnowing code n ds bs written m'
   -- items that agree with the store, at once

@@ -3,7 +3,7 @@
 use Rattle.std.specs.Prelude.{◌≡◌, ℕ, zero, suc, pred, ◌==◌, ◌&&◌, Bool, if◌then◌else◌, Option, Some, None, List, []}
 use Rattle.std.specs.Prelude.{◌∷◌, ◌++◌}
 use Rattle.ceal_base.specs.Operators.{same_place}
-use Rattle.ceal_base.specs.Trace.{Trace, Nothing, Stepped, Allocated, Wrote, WasRead, followed, flat}
+use Rattle.ceal_base.specs.Trace.{Trace, Nothing, Stepped, Allocated, Wrote, WasRead, trace_then, flat}
 use Rattle.ceal_base.specs.declared.forest.Item.{Item}
 use Rattle.ceal_base.specs.declared.forest.Item.TheVariants.{Step, Alloc, Write, Read, End}
 use Rattle.ceal_base.specs.declared.forest.Key.{Key}
@@ -36,7 +36,7 @@ levels (End ∷ is) = Nothing ∷ levels is
 -- the items of n levels one after another
 abbrev pub loose : ℕ → List Trace → Trace
 loose zero ts = Nothing
-loose (suc n) ts = followed (first ts) (loose n (around ts))
+loose (suc n) ts = trace_then (first ts) (loose n (around ts))
 
 -- the levels around the first n
 abbrev pub beyond : ℕ → List Trace → List Trace
@@ -142,6 +142,6 @@ FlatTakeLaw = (n : ℕ) (is : List Item)
 abbrev pub FlatLevelsLaw : Type 0
 FlatLevelsLaw =
     (f : Trace) (is : List Item)
-    → (first (levels (flat f ++ is)) ≡ followed f (first (levels is)))
+    → (first (levels (flat f ++ is)) ≡ trace_then f (first (levels is)))
     × (around (levels (flat f ++ is)) ≡ around (levels is))
     × (first (levels (flat f)) ≡ f) × (around (levels (flat f)) ≡ [])

@@ -6,7 +6,7 @@ pub mod Adjust
 pub mod Computed
 pub mod Laws
 -- the same, one move at a time, over trees and over flat items
-pub mod Turns
+pub mod Moves
 pub mod Levels
 pub mod FlatMachine
 pub mod Segments

@@ -87,44 +87,45 @@ mutual
     stale : {s t : State} {p : Place} {u : UnitId} {v : ℕ} {args : List Word} {value : Word}
         {inside inside' left : Trace}
         → ¬ (s.store p ≡ value)
-        → Anew code names s (resumed code u v args (s.store p)) inside t inside' left
+        → Reruns code names s (resumed code u v args (s.store p)) inside t inside' left
         → Mend code names s p u v args value inside t inside'
 
   -- the stack is re-executed with a leftover; it ends in a state, makes items, and leaves a rest of the leftover
-  pub data Anew (code : Code) (names : ℕ → ℕ) : State → Stack → Trace → State → Trace → Trace → Type 0 where
-    over : {s : State} {st : Stack} {old : Trace} → next code s.plain st ≡ Over → Anew code names s st old s Nothing old
+  pub data Reruns (code : Code) (names : ℕ → ℕ) : State → Stack → Trace → State → Trace → Trace → Type 0 where
+    over : {s : State} {st : Stack} {old : Trace} → next code s.plain st ≡ Over
+        → Reruns code names s st old s Nothing old
     quiet : {s s' : State} {st after : Stack} {old new left : Trace}
         → next code s.plain st ≡ Quiet after
-        → Anew code names (works s) after old s' new left
-        → Anew code names s st old s' (Stepped new) left
+        → Reruns code names (works s) after old s' new left
+        → Reruns code names s st old s' (Stepped new) left
     takes_alloc : {s s' : State} {st below : Stack} {key : Key} {v u i : ℕ} {env : Variables}
         {old new left : Trace} {t : TakenAlloc}
         → next code s.plain st ≡ Makes key v u i env below
         → take_alloc key old ≡ Some t
-        → Anew code names (clears code (works s) t.block key)
+        → Reruns code names (clears code (works s) t.block key)
         (Run u i (set env v (pointer key t.block)) below) t.leftover s' new left
-        → Anew code names s st old s' (Stepped (Allocated t.block key new)) left
+        → Reruns code names s st old s' (Stepped (Allocated t.block key new)) left
     makes : {s s' : State} {st below : Stack} {key : Key} {v u i : ℕ} {env : Variables} {old new left : Trace}
         → next code s.plain st ≡ Makes key v u i env below
         → take_alloc key old ≡ None
-        → Anew code names (grows code names (works s) key)
+        → Reruns code names (grows code names (works s) key)
         (Run u i (set env v (pointer key (Core (names s.number)))) below) old s' new left
-        → Anew code names s st old s' (Stepped (Allocated (Core (names s.number)) key new)) left
+        → Reruns code names s st old s' (Stepped (Allocated (Core (names s.number)) key new)) left
     writes : {s s' : State} {st after : Stack} {p : Place} {value : Word} {old new left : Trace}
         → next code s.plain st ≡ Writes p value after
-        → Anew code names (puts (works s) p value) after old s' new left
-        → Anew code names s st old s' (Stepped (Wrote p value new)) left
+        → Reruns code names (puts (works s) p value) after old s' new left
+        → Reruns code names s st old s' (Stepped (Wrote p value new)) left
     takes_read : {s t s' : State} {st below : Stack} {p : Place} {u : UnitId} {v : ℕ} {args : List Word}
         {old inside' new left : Trace} {r : TakenRead}
         → next code s.plain st ≡ Reads p u v args below
         → take_read p u v args old ≡ Some r
         → Mend code names (works s) p u v args r.value r.inside t inside'
-        → Anew code names t below r.leftover s' new left
-        → Anew code names s st old s' (Stepped (WasRead p (s.store p) u v args inside' new)) left
+        → Reruns code names t below r.leftover s' new left
+        → Reruns code names s st old s' (Stepped (WasRead p (s.store p) u v args inside' new)) left
     reads : {s t s' : State} {st below : Stack} {p : Place} {u : UnitId} {v : ℕ} {args : List Word}
         {old between inside' new left : Trace}
         → next code s.plain st ≡ Reads p u v args below
         → take_read p u v args old ≡ None
-        → Anew code names (works s) (resumed code u v args (s.store p)) old t inside' between
-        → Anew code names t below between s' new left
-        → Anew code names s st old s' (Stepped (WasRead p (s.store p) u v args inside' new)) left
+        → Reruns code names (works s) (resumed code u v args (s.store p)) old t inside' between
+        → Reruns code names t below between s' new left
+        → Reruns code names s st old s' (Stepped (WasRead p (s.store p) u v args inside' new)) left

@@ -23,8 +23,8 @@ use Rattle.ceal_code.specs.Value.{Plain}
 use Rattle.ceal_theory.specs.Adjust.{Extended, Above, AdjustsAs}
 use Rattle.ceal_theory.specs.Computed.{Repaired, adjusted}
 use Rattle.ceal_theory.specs.Laws.{Edited}
-use Rattle.ceal_theory.specs.Repair.{Single, own, State, resumed, Anew}
-use Rattle.ceal_theory.specs.Turns.{Machine, Running, Bottom, Finishes}
+use Rattle.ceal_theory.specs.Repair.{Single, own, State, resumed, Reruns}
+use Rattle.ceal_theory.specs.Moves.{Machine, Running, Bottom, Finishes}
 use Rattle.ceal_theory.specs.Cover.{known_after, Nodes, Nil, Node, items_of, before, Queue, none_waits, Covered}
 use Rattle.ceal_theory.specs.Cover.{first_read, NoneQueued, waits_after, Queued, MoreOn, At}
 use Rattle.ceal_theory.specs.Walk.{store_after, AgreesAll}
@@ -403,7 +403,7 @@ KeepLaw =
     (args : List Word) (inside : Trace) (back : List Item)
     → At code (starting code inputs r.known) r.items (items_of front) w p value u v args inside back
     → (t : State) (new left : Trace)
-    → Anew code names (record (goes_on code inputs r) { store = w }) (resumed code u v args (w p)) inside t new left
+    → Reruns code names (record (goes_on code inputs r) { store = w }) (resumed code u v args (w p)) inside t new left
     → (stamp last : ℕ) → items_of fresh ≡ flat new → items_of (before front (before old behind)) ≡ flat r.items
     → (q q' : Queue) → NoneQueued q front
     → Covered code q (starting code inputs r.known) none_waits (before front (before old behind)) → MoreOn q q' behind

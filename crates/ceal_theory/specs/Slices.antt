@@ -20,8 +20,8 @@ use Rattle.ceal_code.specs.Replay.{core_numbers, input_plain, content_in, cell_d
 use Rattle.ceal_code.specs.Replay.{bases}
 use Rattle.ceal_code.specs.Step.{started}
 use Rattle.ceal_code.specs.Value.{Plain, field_kind}
-use Rattle.ceal_theory.specs.Computed.{Runner, Ran, Fixed, fix_by, anew}
-use Rattle.ceal_theory.specs.Repair.{Single, State, clears, puts, resumed, Fix, Anew}
+use Rattle.ceal_theory.specs.Computed.{Runner, Ran, Fixed, fix_by, rerun}
+use Rattle.ceal_theory.specs.Repair.{Single, State, clears, puts, resumed, Fix, Reruns}
 
 -- A repair in progress: the items as they are, the plain words of the core blocks that were known since it began, the
 -- number of the next new block, and the steps that were re-executed.
@@ -83,7 +83,7 @@ pub data Part (code : Code) (names : ℕ → ℕ) : ℕ → State → Trace → 
   stale : {k j : ℕ} {s t s' : State} {p : Place} {value : Word} {u : UnitId} {v : ℕ} {args : List Word}
       {inside inside' left rest rest' : Trace}
       → ¬ (s.store p ≡ value)
-      → Anew code names s (resumed code u v args (s.store p)) inside t inside' left
+      → Reruns code names s (resumed code u v args (s.store p)) inside t inside' left
       → Part code names k t rest j s' rest'
       → Part code names (suc k) s (WasRead p value u v args inside rest) j s'
       (WasRead p (s.store p) u v args inside' rest')
@@ -156,9 +156,9 @@ part_within n (Some c) = if nat_le c.state.work n then Some (repair_at c.state c
 -- a slice of the repair on these inputs of at most k reads, where no more than n steps are spent then
 unfoldable pub sliced : Code → (ℕ → ℕ) → List Block → Option ℕ → ℕ → Repair → Option Repair
 sliced code names inputs None n r =
-    whole_within n (fix_by code (anew code names (n + 1)) (goes_on code inputs r) r.items)
+    whole_within n (fix_by code (rerun code names (n + 1)) (goes_on code inputs r) r.items)
 sliced code names inputs (Some k) n r =
-    part_within n (part_by code (anew code names (n + 1)) k (goes_on code inputs r) r.items)
+    part_within n (part_by code (rerun code names (n + 1)) k (goes_on code inputs r) r.items)
 
 -- each item mentions only inputs and core blocks of the list, in any order
 abbrev pub Uses : ℕ → List ℕ → Trace → Type 0
@@ -203,16 +203,16 @@ pub record AlikeRepairs
   pub spent : r.spent ≡ q.spent
 
 -- the pair is one of these, or that of the k-th new blocks
-pub data ComesBehind (names names' : ℕ → ℕ) (ps : Pairs) (r q : Repair) (b c : ℕ) : Type 0 where
-  old : Tied b c ps → ComesBehind names names' ps r q b c
-  new : (k : ℕ) → b ≡ names (r.number + k) → c ≡ names' (q.number + k) → ComesBehind names names' ps r q b c
+pub data IsOldOrNewPair (names names' : ℕ → ℕ) (ps : Pairs) (r q : Repair) (b c : ℕ) : Type 0 where
+  old : Tied b c ps → IsOldOrNewPair names names' ps r q b c
+  new : (k : ℕ) → b ≡ names (r.number + k) → c ≡ names' (q.number + k) → IsOldOrNewPair names names' ps r q b c
 
 -- both are not there, or the one is the other renamed, where a further pair is one of new blocks
 pub data RenamedSlices (code : Code) (names names' : ℕ → ℕ) (inputs : List Block) (ps : Pairs)
     (r q : Repair) : Option Repair → Option Repair → Type 0 where
   none : RenamedSlices code names names' inputs ps r q None None
   some : {r' q' : Repair} (qs : Pairs) → Within ps qs → AlikeRepairs code names names' inputs qs r' q'
-      → ((b c : ℕ) → Tied b c qs → ComesBehind names names' ps r q b c)
+      → ((b c : ℕ) → Tied b c qs → IsOldOrNewPair names names' ps r q b c)
       → RenamedSlices code names names' inputs ps r q (Some r') (Some q')
 
 -- after a slice of k reads a further one has the result of one slice of this repair

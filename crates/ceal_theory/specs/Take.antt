@@ -3,7 +3,7 @@
 -- (our own; the 2009 design matches by keys too).
 use Rattle.std.specs.Prelude.{ℕ, ◌==◌, ◌&&◌, Bool, true, false, if◌then◌else◌, Option, Some, None, List, [], ◌∷◌}
 use Rattle.ceal_base.specs.Operators.{same_place, same_word}
-use Rattle.ceal_base.specs.Trace.{Trace, Nothing, Stepped, Allocated, Wrote, WasRead, followed}
+use Rattle.ceal_base.specs.Trace.{Trace, Nothing, Stepped, Allocated, Wrote, WasRead, trace_then}
 use Rattle.ceal_base.specs.declared.forest.Key.{Key}
 use Rattle.ceal_base.specs.declared.forest.Key.TheVariants.{Init, ModInt as IntKey, ModPtr as PtrKey}
 use Rattle.ceal_base.specs.declared.forest.UnitId.{UnitId}
@@ -37,7 +37,7 @@ pub record TakenRead : Type 0 where
 
 -- of a read that is not taken itself the rest of its items is left over, and then what follows it
 abbrev pub alloc_then : Trace → Option TakenAlloc → Option TakenAlloc → Option TakenAlloc
-alloc_then rest (Some t) later = Some (record t { leftover = followed t.leftover rest })
+alloc_then rest (Some t) later = Some (record t { leftover = trace_then t.leftover rest })
 alloc_then rest None later = later
 
 -- the earliest allocation with this key, at any depth
@@ -52,7 +52,7 @@ take_alloc key (WasRead place value unit var args inside rest) =
 
 -- the read that an item is, or a later one, with the rest after what it leaves over
 abbrev pub read_then : Trace → Option TakenRead → Option TakenRead → Option TakenRead
-read_then rest (Some t) later = Some (record t { leftover = followed t.leftover rest })
+read_then rest (Some t) later = Some (record t { leftover = trace_then t.leftover rest })
 read_then rest None later = later
 
 -- the earliest read of this place with this unit, variable and arguments; its value is not compared

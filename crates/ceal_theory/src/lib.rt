@@ -7,7 +7,7 @@
 //!   the run from scratch ends. `specs/Take`, `Repair`, `Adjust` have the rules, `Computed` the same as a function.
 //! - `names`: the numbers of new blocks are a parameter of the rules; with any of them the repair is the same one,
 //!   renamed.
-//! - `machine`: the repair, one move at a time, with its own stack (`Turns`), and over the flat list of old items.
+//! - `machine`: the repair, one move at a time, with its own stack (`Moves`), and over the flat list of old items.
 //! - `walks`: the store along flat items, counts of items and of kept steps, and what is known on the way.
 //! - `slices`: repairs in slices with edits between them, and turns, each a slice of one read.
 //! - `carried`: such a repair with other numbers for its core blocks, as an engine has it from slice to slice.

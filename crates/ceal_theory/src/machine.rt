@@ -3,7 +3,7 @@
 ghost use Rattle.ceal_theory.specs.FlatMachine.{FlatMachineLaw};
 ghost use Rattle.ceal_theory.specs.Levels.{FlatLevelsLaw, FlatTakeLaw};
 ghost use Rattle.ceal_theory.specs.Segments.{SegmentLaw};
-ghost use Rattle.ceal_theory.specs.Turns.{MachineLaw};
+ghost use Rattle.ceal_theory.specs.Moves.{MachineLaw};
 
 /// The machine of repair, one move at a time.
 pub fn machine_law()

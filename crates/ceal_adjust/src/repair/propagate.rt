@@ -3,7 +3,7 @@
 ghost use Rattle.std.specs.Prelude.{◌≡◌, ◌∷◌, drop, reverse, IfOk, OnOk};
 ghost use Rattle.ceal_base.specs.Trace.{WasRead};
 ghost use Rattle.ceal_theory.specs.Levels.{first, around, levels as levels_of};
-ghost use Rattle.ceal_theory.specs.Turns.{fixing};
+ghost use Rattle.ceal_theory.specs.Moves.{fix_move};
 ghost use Rattle.ceal_adjust.specs.Machines.{code_of, state_in, frames_in, ahead, machine_in, turn_in};
 
 use super::{Repair, is_same, read_item, wrote};
@@ -17,8 +17,8 @@ impl<'a> Repair<'a> {
     /// An old read is read again; the cursor is inside it.
     fn propagate_read(&mut self, closure: Closure, value: Word) -> Result<Turn, NoMemory>
         ensures code { OnOk result (code_of self.new ≡ code_of self.old) }
-        ensures turn { IfOk result (λ t. turn_in t (machine_in self.new) ≡ fixing (code_of self.old)
-            (state_in self.old)
+        ensures turn { IfOk result (λ t. turn_in t (machine_in self.new)
+            ≡ fix_move (code_of self.old) (state_in self.old)
             (frames_in (reverse self.old.frames.items) (around (around (ahead self.old))))
             (WasRead closure.place value closure.unit closure.var closure.args
             (first (ahead self.old)) (first (around (ahead self.old))))) }
@@ -35,8 +35,8 @@ impl<'a> Repair<'a> {
     fn propagate_item(&mut self, item: &Item) -> Result<Turn, NoMemory>
         requires fixing { self.old.mode ≡ Mode.Fixing }
         ensures code { OnOk result (code_of self.new ≡ code_of self.old) }
-        ensures turn { IfOk result (λ t. turn_in t (machine_in self.new) ≡ fixing (code_of self.old)
-            (state_in self.old)
+        ensures turn { IfOk result (λ t. turn_in t (machine_in self.new)
+            ≡ fix_move (code_of self.old) (state_in self.old)
             (frames_in (reverse self.old.frames.items)
             (around (levels_of (item.now ∷ drop self.old.rest self.old.items))))
             (first (levels_of (item.now ∷ drop self.old.rest self.old.items)))) }
@@ -83,8 +83,8 @@ impl<'a> Repair<'a> {
     pub fn propagate(&mut self) -> Result<Turn, NoMemory>
         requires fixing { self.old.mode ≡ Mode.Fixing }
         ensures code { OnOk result (code_of self.new ≡ code_of self.old) }
-        ensures turn { IfOk result (λ t. turn_in t (machine_in self.new) ≡ fixing (code_of self.old)
-            (state_in self.old)
+        ensures turn { IfOk result (λ t. turn_in t (machine_in self.new)
+            ≡ fix_move (code_of self.old) (state_in self.old)
             (frames_in (reverse self.old.frames.items) (around (ahead self.old)))
             (first (ahead self.old))) }
         ensures still { IfOk result

@@ -8,7 +8,7 @@ ghost use Rattle.ceal_code.specs.Step.{Run};
 ghost use Rattle.ceal_code.specs.Value.{set};
 ghost use Rattle.ceal_theory.specs.Levels.{find_alloc, taken_alloc, taken_read};
 ghost use Rattle.ceal_theory.specs.Repair.{own, clears};
-ghost use Rattle.ceal_theory.specs.Turns.{making, reading, acting};
+ghost use Rattle.ceal_theory.specs.Moves.{alloc_move, read_move, act_move};
 ghost use Rattle.ceal_adjust.specs.Closures.{find_closure};
 ghost use Rattle.ceal_adjust.specs.Machines.{code_of, state_in, after, left_over, machine_in, turn_in};
 
@@ -64,7 +64,7 @@ impl<'a> Repair<'a> {
         ensures code { OnOk result (code_of self.new ≡ code_of self.old) }
         ensures turn { IfOk result (λ block.
             turn_in (Turn.Went true (Option.Some (AllocItem block key.now))) (machine_in self.new)
-            ≡ making (code_of self.old) own (state_in self.old)
+            ≡ alloc_move (code_of self.old) own (state_in self.old)
             (after self.old self.old.levels) key.now var unit.unit unit.index
             (arguments unit.env.items) (stack_in self.old.stack) (left_over self.old)
             (taken_alloc
@@ -93,7 +93,7 @@ impl<'a> Repair<'a> {
         requires running { self.old.mode ≡ Mode.Running }
         ensures code { OnOk result (code_of self.new ≡ code_of self.old) }
         ensures turn { IfOk result
-            (λ t. turn_in t (machine_in self.new) ≡ making (code_of self.old) own
+            (λ t. turn_in t (machine_in self.new) ≡ alloc_move (code_of self.old) own
             (state_in self.old) (after self.old self.old.levels) key var unit.unit unit.index
             (arguments unit.env.items) (stack_in self.old.stack) (left_over self.old)
             (taken_alloc (find_alloc key self.old.levels (drop self.old.rest self.old.items)))) }
@@ -117,7 +117,7 @@ impl<'a> Repair<'a> {
         ensures turn { IfOk result (λ now.
             turn_in (Turn.Went true (Option.Some (ReadItem closure.now.place now
             closure.now.unit closure.now.var closure.now.args))) (machine_in self.new)
-            ≡ reading (code_of self.old) (state_in self.old) (after self.old self.old.levels)
+            ≡ read_move (code_of self.old) (state_in self.old) (after self.old self.old.levels)
             closure.now.place closure.now.unit closure.now.var closure.now.args
             (stack_in self.old.stack) (left_over self.old)
             (taken_read
@@ -150,7 +150,7 @@ impl<'a> Repair<'a> {
         requires running { self.old.mode ≡ Mode.Running }
         ensures code { OnOk result (code_of self.new ≡ code_of self.old) }
         ensures turn { IfOk result
-            (λ t. turn_in t (machine_in self.new) ≡ reading (code_of self.old)
+            (λ t. turn_in t (machine_in self.new) ≡ read_move (code_of self.old)
             (state_in self.old) (after self.old self.old.levels)
             closure.place closure.unit closure.var closure.args
             (stack_in self.old.stack) (left_over self.old)
@@ -173,7 +173,7 @@ impl<'a> Repair<'a> {
         requires running { self.old.mode ≡ Mode.Running }
         ensures code { OnOk result (code_of self.new ≡ code_of self.old) }
         ensures turn { IfOk result
-            (λ t. turn_in t (machine_in self.new) ≡ acting (code_of self.old) own
+            (λ t. turn_in t (machine_in self.new) ≡ act_move (code_of self.old) own
             (state_in self.old) (after self.old self.old.levels) (left_over self.old)
             (act_in act (stack_in self.old.stack))) }
         ensures still { IfOk result

@@ -9,9 +9,9 @@ use Rattle.ceal_compile.specs.Source.{IsAccepted}
 use Rattle.ceal_lex.specs.declared.token.Token.{Token}
 use Rattle.ceal_lex.specs.Characters.{LINE_FEED}
 use Rattle.ceal_lex.specs.Pieces.{Piece, spelled}
-use Rattle.ceal_lex.specs.Tokens.{AreTokens, ending, tokens_from}
+use Rattle.ceal_lex.specs.Tokens.{AreTokens, last_token, tokens_from}
 use Rattle.ceal_grammar.specs.declared.state.State.TheVariants.{Top}
-use Rattle.ceal_grammar.specs.Judged.{judged}
+use Rattle.ceal_grammar.specs.Judged.{tree_or_fault}
 use Rattle.ceal_grammar.proofs.Exact.{accepted}
 use Rattle.ceal_cli.proofs.Accepted.Pieces.{all_may_stand, scanned}
 use Rattle.ceal_cli.proofs.Accepted.Parts.{input, is_clear, part, source_is, split}
@@ -22,7 +22,7 @@ abbrev pub pieces : List ℕ → List Piece
 pieces source = scanned (length source) source
 
 abbrev pub tokens : List ℕ → List Token
-tokens source = tokens_from 0 (pieces source) ++ ending true (length source) ∷ []
+tokens source = tokens_from 0 (pieces source) ++ last_token true (length source) ∷ []
 
 abbrev pub is_ok : {A : Type 0} → Result A Fault → Bool
 is_ok (Ok x) = true
@@ -40,7 +40,7 @@ pub record IsFine (source : List ℕ) : Type 0 where
   pub stand : all_may_stand (pieces source) ≡ true
   pub clear : is_clear source ≡ true
   pub ends : source ≡ take (length source - 1) source ++ LINE_FEED ∷ []
-  pub program : is_ok (comes (judged (Top []) (tokens source))) ≡ true
+  pub program : is_ok (comes (tree_or_fault (Top []) (tokens source))) ≡ true
 
 ok_of : {A : Type 0} → (r : Result A Fault) → is_ok r ≡ true → (x : A) × (r ≡ Ok x)
 ok_of (Ok x) h = (x, refl)
@@ -61,7 +61,7 @@ module _ (source script : List ℕ) (fine : IsFine source) where
 
   pub accepted_input : length (input source script) < 2 ^ 32 → IsAccepted (input source script)
   accepted_input small =
-      let found = program_of (judged (Top []) (tokens source)) fine.program in (
+      let found = program_of (tree_or_fault (Top []) (tokens source)) fine.program in (
         found.2,
         record {
           part = part source script;

@@ -14,15 +14,15 @@ use Rattle.ceal_base.specs.declared.fault.Fault.{Fault}
 use Rattle.ceal_base.specs.declared.syntax.Entry.{Entry}
 use Rattle.ceal_base.specs.declared.syntax.Tree.{Tree}
 use Rattle.ceal_base.specs.declared.typed.Typed.{Typed}
-use Rattle.ceal_base.specs.Digits.{continued}
+use Rattle.ceal_base.specs.Digits.{number_with_digits}
 use Rattle.ceal_lex.specs.Pieces.{Piece, spelled}
 use Rattle.ceal_lex.specs.declared.token.Token.{Token}
 use Rattle.ceal_grammar.specs.declared.state.State.{State}
 use Rattle.ceal_types.specs.declared.program.Program.{Program}
 use Rattle.ceal_flow.specs.Program.{Graph}
 use Rattle.ceal_lex.specs.Tokens.{tokens_from}
-use Rattle.ceal_grammar.specs.Judged.{judged}
-use Rattle.ceal_grammar.specs.Machine.{reduced, same_sign, same_word, wrapped}
+use Rattle.ceal_grammar.specs.Judged.{tree_or_fault}
+use Rattle.ceal_grammar.specs.Machine.{reduction, same_sign, same_word, chain_statement}
 use Rattle.ceal_types.specs.Checked.{checked, typed_function, with_body}
 use Rattle.ceal_types.specs.Expressions.{address_at, field_at, member, typed_form}
 use Rattle.ceal_types.specs.Heads.{head_of, heads, struct_names, with_entry, with_field, with_parameter}
@@ -39,12 +39,12 @@ use Rattle.ceal_cli.specs.Laws.{AcceptedLaw, ShortLaw}
 
 -- The phases, each with all that unfolds where it computes.
 unfoldable characters : ℕ → List ℕ → List Piece
-unfolding scanned found continued
+unfolding scanned found number_with_digits
 characters n bytes = scanned n bytes
 
 unfoldable grammar : State → List Token → Result Tree Fault
-unfolding judged same_sign same_word reduced wrapped
-grammar s ts = judged s ts
+unfolding tree_or_fault same_sign same_word reduction chain_statement
+grammar s ts = tree_or_fault s ts
 
 unfoldable names : List Entry → Result Program Fault
 unfolding heads struct_names with_entry with_field with_parameter head_of in_turn find

@@ -2,7 +2,7 @@
 use Rattle.std.proofs.Common.{◌≡◌, ℕ, zero, suc, ◌+◌, ◌^◌, nat_lt, ℤ, pos, negsuc, Bool, true, false, ◌==◌, ◌&&◌, not, if◌then◌else◌, Option, Some, None, List, [], ◌∷◌, refl, ap, ◌∙◌, subst, slice_get, unwrap_or, is_some, map, arith}
 use Rattle.ceal_base.specs.Access.{of_struct, is_struct, place_in, holds}
 use Rattle.ceal_base.specs.Block.{Block}
-use Rattle.ceal_base.specs.Operators.{number_of, unary_value, binary_value, element, picked, truth, same_block, same_place, same_word}
+use Rattle.ceal_base.specs.Operators.{number_of, unary_value, binary_value, element, picked_element, truth, same_block, same_place, same_word}
 use Rattle.ceal_base.specs.Shapes.{default_of_field, default_block, kinds_of_shape, default_of_kind, default_of}
 use Rattle.ceal_base.specs.Trace.{Trace, steps_of}
 use Rattle.ceal_base.specs.declared.forest.Key.{Key}
@@ -303,7 +303,7 @@ module _ (ps : Pairs) where
       (element-if i (nat_lt i row && nat_lt (p.field + i) (2 ^ 32)) h)
 
   -- the element of a row is that of the row's block, whatever its number
-  pick-alike : (row : ℕ) {v w v' w' : Word} → WordAlike ps v v' → WordAlike ps w w' → WordAlike ps (picked row v w) (picked row v' w')
+  pick-alike : (row : ℕ) {v w v' w' : Word} → WordAlike ps v v' → WordAlike ps w w' → WordAlike ps (picked_element row v w) (picked_element row v' w')
   pick-alike row (WordAlike.at h) (WordAlike.num {n = n}) = element-alike row h n
   pick-alike row (WordAlike.at h) WordAlike.null = WordAlike.null
   pick-alike row (WordAlike.at h) (WordAlike.block k) = WordAlike.null
@@ -336,7 +336,7 @@ module _ (ps : Pairs) (one : OneToOne ps) where
   number-like : (op : Binary) {v w v' w' : Word} → WordAlike ps v v' → WordAlike ps w w' → IfPick op (λ row. ⊥) → WordAlike ps (binary_value op v w) (binary_value op v' w')
   number-like op {v} {w} {v'} {w'} h k p =
       subst (λ z. WordAlike ps (binary_value op v w) z) (number-equal op h k p)
-      (binary-of (λ w. WordAlike ps w w) (λ n. WordAlike.num) WordAlike.null op v w (no-pick op (λ row. WordAlike ps (picked row v w) (picked row v w)) p))
+      (binary-of (λ w. WordAlike ps w w) (λ n. WordAlike.num) WordAlike.null op v w (no-pick op (λ row. WordAlike ps (picked_element row v w) (picked_element row v w)) p))
 
   binary-alike : (op : Binary) {v w v' w' : Word} → WordAlike ps v v' → WordAlike ps w w' → WordAlike ps (binary_value op v w) (binary_value op v' w')
   binary-alike (Pick row) h k = pick-alike ps row h k

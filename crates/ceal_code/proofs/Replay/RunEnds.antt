@@ -1,6 +1,6 @@
 -- Where a run from scratch ends: at a state that it has reached, and with the inputs in number that it began with.
 use Rattle.std.proofs.Common.{◌≡◌, ℕ, zero, suc, ◌+◌, ◌≤◌, arith, sym, Option, Some, None, List, [], ◌∷◌, length, refl, ap, ◌∙◌, subst, slice_get, slice_set}
-use Rattle.ceal_base.specs.Block.{Block, Blocks, block_at, changed, written_at}
+use Rattle.ceal_base.specs.Block.{Block, Blocks, block_at, with_field, written_at}
 use Rattle.ceal_base.specs.Finished.{Finished}
 use Rattle.ceal_base.specs.declared.word.BlockId.{BlockId}
 use Rattle.ceal_base.specs.declared.word.BlockId.TheVariants.{Input, Core}
@@ -79,7 +79,7 @@ length-set [] n x = refl
 length-set (y ∷ xs) zero x = refl
 length-set (y ∷ xs) (suc n) x = ap suc (length-set xs n x)
 
-length-changed : (xs : List Block) (o : Option Block) (n f : ℕ) (w : Word) → length (changed xs o n f w) ≡ length xs
+length-changed : (xs : List Block) (o : Option Block) (n f : ℕ) (w : Word) → length (with_field xs o n f w) ≡ length xs
 length-changed xs None n f w = refl
 length-changed xs (Some block) n f w = length-set xs n (record block { words = slice_set block.words f w })
 

@@ -1,7 +1,7 @@
 -- Inputs that fit still fit with one input more, and with another base.
 use Rattle.std.proofs.Common.{◌≡◌, ◌∙◌, ℕ, zero, suc, Bool, true, false, Option, Some, None, List, [], ◌∷◌, ◌++◌, length, refl, sym, ap, subst, slice_get, slice_set, arith}
 use Rattle.std.specs.List.{list_all}
-use Rattle.ceal_base.specs.Block.{Block, alone, block_at, changed, written_at}
+use Rattle.ceal_base.specs.Block.{Block, alone, block_at, with_field, written_at}
 use Rattle.ceal_base.specs.Fitting.{kind_in, kind_at, fits_field, block_fits, inputs_fit}
 use Rattle.ceal_base.specs.Shapes.{kinds_of_shape}
 use Rattle.ceal_base.specs.declared.kind.FieldKind.{FieldKind}
@@ -89,7 +89,7 @@ module _ (structs : List StructInfo) where
 
   base-is : (inputs : List Block) (n f : ℕ) (w : Word) (block : Block) → slice_get inputs n ≡ Some block
       → rebased inputs (record { block = Input n; field = f }) w ≡ slice_set inputs n (altered block f w)
-  base-is inputs n f w block e = ap (λ o. changed inputs o n f w) e
+  base-is inputs n f w block e = ap (λ o. with_field inputs o n f w) e
 
   length-set : (xs : List Block) (n : ℕ) (x : Block) → length (slice_set xs n x) ≡ length xs
   length-set [] n x = refl

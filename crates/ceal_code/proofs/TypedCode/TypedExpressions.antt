@@ -5,7 +5,7 @@ use Rattle.ceal_base.specs.Access.{of_struct, is_struct}
 use Rattle.ceal_base.specs.Block.{Block, Blocks, block_at}
 use Rattle.ceal_base.specs.Fitting.{kind_in, kind_at, fits_kind, fits_field, fields_fit}
 use Rattle.ceal_base.specs.Kinds.{is_pointer}
-use Rattle.ceal_base.specs.Operators.{unary_value, binary_value, picked, truth}
+use Rattle.ceal_base.specs.Operators.{unary_value, binary_value, picked_element, truth}
 use Rattle.ceal_base.specs.Shapes.{default_of_kind, kinds_of_shape, row_at}
 use Rattle.ceal_base.specs.declared.kind.FieldKind.{FieldKind}
 use Rattle.ceal_base.specs.declared.kind.FieldKind.TheVariants.{Plain as PlainField, CellInt, CellPtr}
@@ -274,7 +274,7 @@ module _ (structs : List StructInfo) (m : Blocks) where
       below-row : (n : ℕ) (c : Bool) → (nat_lt n row && c) ≡ true → n < row
       below-row n c h = let p = both (nat_lt n row) c h in grind (arith, p.0)
 
-      element-type : (k : Option FieldKind) → field_kind structs (Struct s) f ≡ k → (i : Word) → HasType structs m (cell_type k) (picked row (At (record { block = b; field = f })) i)
+      element-type : (k : Option FieldKind) → field_kind structs (Struct s) f ≡ k → (i : Word) → HasType structs m (cell_type k) (picked_element row (At (record { block = b; field = f })) i)
       element-type k e (Num (pos n)) = element-if k e n (nat_lt n row && nat_lt (f + n) (2 ^ 32)) (below-row n (nat_lt (f + n) (2 ^ 32)))
       element-type k e (Num (negsuc n)) = null-type k
       element-type k e Null = null-type k
@@ -283,18 +283,18 @@ module _ (structs : List StructInfo) (m : Blocks) where
 
     module _ (s f row : ℕ) (starts : is_row_of row (row_at structs s f) ≡ true) (i : Word) where
       pick-if : (b : BlockId) (k : Option FieldKind) → field_kind structs (Struct s) f ≡ k → (t u : Bool) → is_some (of_struct s (block_at m b)) ≡ u
-          → HasType structs m (cell_type k) (picked row (if t && u then At (record { block = b; field = f }) else Null) i)
+          → HasType structs m (cell_type k) (picked_element row (if t && u then At (record { block = b; field = f }) else Null) i)
       pick-if b k e true true g = element-type s f row b g starts k e i
       pick-if b k e true false g = null-type k
       pick-if b k e false u g = null-type k
 
-      pick-null : (k : Option FieldKind) (t u : Bool) → HasType structs m (cell_type k) (picked row (if t && u then Null else Null) i)
+      pick-null : (k : Option FieldKind) (t u : Bool) → HasType structs m (cell_type k) (picked_element row (if t && u then Null else Null) i)
       pick-null k true true = null-type k
       pick-null k true false = null-type k
       pick-null k false u = null-type k
 
       -- what is picked from the row that an address begins
-      pick-type : (w : Word) → HasType structs m (cell_type (field_kind structs (Struct s) f)) (picked row (address_value structs (block_at m) w s f) i)
+      pick-type : (w : Word) → HasType structs m (cell_type (field_kind structs (Struct s) f)) (picked_element row (address_value structs (block_at m) w s f) i)
       pick-type (Num n) = pick-null (field_kind structs (Struct s) f) (is_cell (field_kind structs (Struct s) f)) false
       pick-type Null = pick-null (field_kind structs (Struct s) f) (is_cell (field_kind structs (Struct s) f)) false
       pick-type (BlockWord b) = pick-if b (field_kind structs (Struct s) f) refl (is_cell (field_kind structs (Struct s) f)) (is_some (of_struct s (block_at m b))) refl
@@ -324,10 +324,11 @@ module _ (structs : List StructInfo) (m : Blocks) where
         unfolding type_of expr_value
 
         picked-type : (row : ℕ) (e : CodeExpr) (i : Word) → starts_row structs row e ≡ true
-            → HasType structs m (element_type (type_of structs kinds known e)) (picked row (expr_value structs (block_at m) env e) i)
+            → HasType structs m (element_type (type_of structs kinds known e)) (picked_element row (expr_value structs (block_at m) env e) i)
         picked-type row NullExpr i h = refl
         picked-type row (Address' _ a s f) i h =
-            element-cell (field_kind structs (Struct s) f) (points_to s (operand_type structs kinds known a)) (picked row (address_value structs (block_at m) (operand_value structs (block_at m) env a) s f) i)
+            element-cell (field_kind structs (Struct s) f) (points_to s (operand_type structs kinds known a))
+            (picked_element row (address_value structs (block_at m) (operand_value structs (block_at m) env a) s f) i)
             (pick-type s f row h i (operand_value structs (block_at m) env a))
         picked-type row (NumExpr n) i h = absurd (grind (arith, h))
         picked-type row (Var v) i h = absurd (grind (arith, h))
@@ -352,7 +353,7 @@ module _ (structs : List StructInfo) (m : Blocks) where
         binary-type Or a t i h = int-type (fits Int (operand_type structs kinds known a) && fits Int t) (binary_value Or (operand_value structs (block_at m) env a) i) (truth-int _)
         binary-type (Pick row) end_of-CodeExpr t i h = absurd (grind (arith, h))
         binary-type (Pick row) (more_of-CodeExpr e rest) t i h =
-            points-if (fits Int t) (element_type (type_of structs kinds known e)) (picked row (expr_value structs (block_at m) env e) i) (λ k. picked-type row e i h)
+            points-if (fits Int t) (element_type (type_of structs kinds known e)) (picked_element row (expr_value structs (block_at m) env e) i) (λ k. picked-type row e i h)
 
         pub value-type : (e : CodeExpr) → HasType structs m (type_of structs kinds known e) (expr_value structs (block_at m) env e)
         value-type (NumExpr n) = refl

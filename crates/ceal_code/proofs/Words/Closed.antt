@@ -4,7 +4,7 @@ use Rattle.std.proofs.Common.{◌≡◌, ℕ, ℤ, pos, zero, suc, ◌+◌, ◌=
 use Rattle.std.specs.Prelude.{⊤}
 use Rattle.ceal_base.specs.Access.{holds}
 use Rattle.ceal_base.specs.Block.{Block}
-use Rattle.ceal_base.specs.Operators.{unary_value, binary_value, picked, truth}
+use Rattle.ceal_base.specs.Operators.{unary_value, binary_value, picked_element, truth}
 use Rattle.ceal_base.specs.Shapes.{default_of_kind, default_of}
 use Rattle.ceal_base.specs.declared.forest.Key.{Key}
 use Rattle.ceal_base.specs.declared.forest.Key.TheVariants.{Init, ModInt as IntKey, ModPtr as PtrKey}
@@ -65,7 +65,7 @@ pub record Closed (structs : List StructInfo) (x : Plain) (S : ℕ → CodeExpr 
   pub null : W Null
   pub field : (b : BlockId) (s f : ℕ) → W (BlockWord b) → W (field_value structs x (BlockWord b) s f)
   pub address : (b : BlockId) (s f : ℕ) → W (BlockWord b) → W (address_value structs x (BlockWord b) s f)
-  pub element : (env : Variables) (row : ℕ) (a : CodeExpr) (i : Word) → S row a → W (expr_value structs x env a) → W (picked row (expr_value structs x env a) i)
+  pub element : (env : Variables) (row : ℕ) (a : CodeExpr) (i : Word) → S row a → W (expr_value structs x env a) → W (picked_element row (expr_value structs x env a) i)
 
 -- where a block's word has it, both plain words lead to the same
 pub record Equal (structs : List StructInfo) (x y : Plain) (W : Word → Type 0) : Type 0 where
@@ -157,7 +157,7 @@ module _ (W : Word → Type 0) (num : (n : ℤ) → W (Num n)) (null : W Null) w
   unary-of Neg w = num _
   unary-of Not w = truth-of _
 
-  pub binary-of : (op : Binary) (v w : Word) → IfPick op (λ row. W (picked row v w)) → W (binary_value op v w)
+  pub binary-of : (op : Binary) (v w : Word) → IfPick op (λ row. W (picked_element row v w)) → W (binary_value op v w)
   binary-of Add v w h = num _
   binary-of Sub v w h = num _
   binary-of Mul v w h = num _
@@ -192,7 +192,7 @@ module _ (S : ℕ → CodeExpr → Type 0) (W : Word → Type 0) (structs : List
 
   module _ (env : Variables) (all : (v : ℕ) → W (env v)) where
     element-of : (op : Binary) {n : _} (row : Row_of-CodeExpr n) (i : Word) → IfPick op (λ length. PicksRow S length row) → W (operand_value structs x env row)
-        → IfPick op (λ length. W (picked length (operand_value structs x env row) i))
+        → IfPick op (λ length. W (picked_element length (operand_value structs x env row) i))
     unfolding operand_value
     element-of (Pick length) end_of-CodeExpr i h k = closed.null
     element-of (Pick length) (more_of-CodeExpr e rest) i h k = closed.element env length e i h k

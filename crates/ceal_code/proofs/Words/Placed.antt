@@ -5,7 +5,7 @@ use Rattle.ceal_base.specs.Access.{of_struct, is_struct, place_in}
 use Rattle.ceal_base.specs.Block.{Block, Blocks, block_at, written_at}
 use Rattle.ceal_base.specs.Finished.{with_block}
 use Rattle.ceal_base.specs.Fitting.{kind_in, kind_at}
-use Rattle.ceal_base.specs.Operators.{picked, same_block}
+use Rattle.ceal_base.specs.Operators.{picked_element, same_block}
 use Rattle.ceal_base.specs.Shapes.{kinds_of_shape, row_at}
 use Rattle.ceal_base.specs.declared.forest.Key.{Key}
 use Rattle.ceal_base.specs.declared.forest.Key.TheVariants.{Init, ModInt as IntKey, ModPtr as PtrKey}
@@ -95,7 +95,8 @@ module _ (structs : List StructInfo) (m : Blocks) (well : WellPlaced structs m) 
     element-if b n true l h =
         cell-placed b s (f + n) (block_at m b) refl (subst (λ k. (is_cell k && is_some (of_struct s (block_at m b))) ≡ true) (sym (rows s f row starts n (l refl))) h)
 
-    element-placed : (b : BlockId) (i : Word) → (is_cell (field_kind structs (Struct s) f) && is_some (of_struct s (block_at m b))) ≡ true → Placed structs m (picked row (At (record { block = b; field = f })) i)
+    element-placed : (b : BlockId) (i : Word) → (is_cell (field_kind structs (Struct s) f) && is_some (of_struct s (block_at m b))) ≡ true
+        → Placed structs m (picked_element row (At (record { block = b; field = f })) i)
     element-placed b (Num (pos n)) h = element-if b n (nat_lt n row && nat_lt (f + n) (2 ^ 32)) (below-row n (nat_lt (f + n) (2 ^ 32))) h
     element-placed b (Num (negsuc n)) h = tt
     element-placed b Null h = tt
@@ -103,22 +104,22 @@ module _ (structs : List StructInfo) (m : Blocks) (well : WellPlaced structs m) 
     element-placed b (At p) h = tt
 
     pick-if : (b : BlockId) (i : Word) (t : Bool) → (is_cell (field_kind structs (Struct s) f) && is_some (of_struct s (block_at m b))) ≡ t
-        → Placed structs m (picked row (if t then At (record { block = b; field = f }) else Null) i)
+        → Placed structs m (picked_element row (if t then At (record { block = b; field = f }) else Null) i)
     pick-if b i true h = element-placed b i h
     pick-if b i false h = tt
 
-    pick-null : (i : Word) (t : Bool) → Placed structs m (picked row (if t then Null else Null) i)
+    pick-null : (i : Word) (t : Bool) → Placed structs m (picked_element row (if t then Null else Null) i)
     pick-null i true = tt
     pick-null i false = tt
 
     -- what is picked from the row that an address begins
-    pick-placed : (w i : Word) → Placed structs m (picked row (address_value structs (block_at m) w s f) i)
+    pick-placed : (w i : Word) → Placed structs m (picked_element row (address_value structs (block_at m) w s f) i)
     pick-placed (Num n) i = pick-null i _
     pick-placed Null i = pick-null i _
     pick-placed (BlockWord b) i = pick-if b i (is_cell (field_kind structs (Struct s) f) && is_some (of_struct s (block_at m b))) refl
     pick-placed (At p) i = pick-null i _
 
-  picked-placed : RowsHold structs → (env : Variables) (row : ℕ) (a : CodeExpr) (i : Word) → Starts structs row a → Placed structs m (picked row (expr_value structs (block_at m) env a) i)
+  picked-placed : RowsHold structs → (env : Variables) (row : ℕ) (a : CodeExpr) (i : Word) → Starts structs row a → Placed structs m (picked_element row (expr_value structs (block_at m) env a) i)
   unfolding expr_value
   picked-placed rows env row NullExpr i h = tt
   picked-placed rows env row (Address' _ a s f) i h = pick-placed rows s f row h (operand_value structs (block_at m) env a) i

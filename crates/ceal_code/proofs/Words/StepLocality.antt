@@ -3,7 +3,7 @@ use Rattle.std.proofs.Common.{◌≡◌, ℕ, ◌+◌, ◌^◌, nat_lt, pos, neg
 use Rattle.ceal_base.specs.Access.{of_struct, is_struct, place_in}
 use Rattle.ceal_base.specs.declared.forest.Key.{Key}
 use Rattle.ceal_base.specs.declared.forest.Key.TheVariants.{Init, ModInt as IntKey, ModPtr as PtrKey}
-use Rattle.ceal_base.specs.Operators.{picked}
+use Rattle.ceal_base.specs.Operators.{picked_element}
 use Rattle.ceal_base.specs.declared.kind.Shape.TheVariants.{Struct}
 use Rattle.ceal_base.specs.declared.typed.StructInfo.{StructInfo}
 use Rattle.ceal_base.specs.declared.word.BlockId.{BlockId}
@@ -106,7 +106,7 @@ module _ (inputs : ℕ) (bs : List ℕ) where
     known-if row p f true h = h
     known-if row p f false h = tt
 
-    element-known : (row : ℕ) (w i : Word) → KnownWord inputs bs w → KnownWord inputs bs (picked row w i)
+    element-known : (row : ℕ) (w i : Word) → KnownWord inputs bs w → KnownWord inputs bs (picked_element row w i)
     element-known row (At p) (Num (pos i)) h = known-if row p (p.field + i) (nat_lt i row && nat_lt (p.field + i) (2 ^ 32)) h
     element-known row (At p) (Num (negsuc i)) h = tt
     element-known row (At p) Null h = tt

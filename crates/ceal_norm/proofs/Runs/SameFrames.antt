@@ -15,7 +15,7 @@ use Rattle.ceal_code.specs.Step.{Stack, Empty, Run, bound, unit_at, command_at, 
 use Rattle.ceal_code.specs.Value.{Plain, Variables, values}
 use Rattle.ceal_code.specs.declared.command.Cmd.{Cmd}
 use Rattle.ceal_code.specs.declared.command.Cmd.TheVariants.{Move, Tick, Alloc, Modref, Write as WriteCmd, If, Done as DoneCmd, Tail, Read, Call as CallCmd}
-use Rattle.ceal_flow.specs.Fresh.{Point, is_over, settled}
+use Rattle.ceal_flow.specs.Fresh.{Point, is_over, points_to_run}
 use Rattle.ceal_flow.specs.Lowering.{end_of, first_of, core_at, graph_of}
 use Rattle.ceal_flow.specs.Program.{Graph}
 use Rattle.ceal_flow.specs.Sets.{is_in, set_at}
@@ -311,20 +311,20 @@ module _ (p : Typed) (sets : List (List ℕ)) where
       pub index : ℕ
       pub env : Variables
       pub below : Stack
-      pub points_are : settled g qs ≡ point ∷ points
+      pub points_are : points_to_run g qs ≡ point ∷ points
       pub stack_is : stack_after_quiet code x st ≡ Run unit index env below
       pub along : Along T point unit index env
       pub others : AllAlong points below
       pub runs : over point.block ≡ false
 
     abbrev pub Settled : Plain → List Point → Stack → Type 0
-    Settled x qs st = ((settled g qs ≡ []) × (stack_after_quiet code x st ≡ Empty)) ⊎ Running x qs st
+    Settled x qs st = ((points_to_run g qs ≡ []) × (stack_after_quiet code x st ≡ Empty)) ⊎ Running x qs st
 
     settle-first : (x : Plain) (q : Point) (qs : List Point) (u i : ℕ) (env : Variables) (below : Stack) → AllAlong qs below → Settles x q u i env below (stack_after_quiet code x below)
         → Settled x qs below → (b : Bool) → over q.block ≡ b → Settled x (q ∷ qs) (Run u i env below)
     unfolding stack_after_quiet
     settle-first x q qs u i env below others h later true o =
-        let e : settled g (q ∷ qs) ≡ settled g qs = ap (λ b. if b then settled g qs else q ∷ qs) o in
+        let e : points_to_run g (q ∷ qs) ≡ points_to_run g qs = ap (λ b. if b then points_to_run g qs else q ∷ qs) o in
         let f : stack_after_quiet code x (Run u i env below) ≡ stack_after_quiet code x below = h.done o in
         elim later [
           | inl n ↦ inl (e ∙ n.0, f ∙ n.1)
@@ -349,7 +349,7 @@ module _ (p : Typed) (sets : List (List ℕ)) where
       index = h.index;
       env = h.words;
       below = below;
-      points_are = ap (λ b. if b then settled g qs else q ∷ qs) o;
+      points_are = ap (λ b. if b then points_to_run g qs else q ∷ qs) o;
       stack_is = h.runs o;
       along = h.along;
       others = others;

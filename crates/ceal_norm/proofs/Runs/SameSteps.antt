@@ -4,7 +4,7 @@ use Rattle.std.proofs.Common.{Some, None, IsSome, IsSomeAnd, IsNone, List, [], �
 use Rattle.std.proofs.Common.{slice_set, unwrap_or, Contains, All, refl, sym, ap, ap₂, ◌∙◌, subst, arith}
 use Rattle.std.proofs.lemmas.Bool.Decides.{eqb_tells}
 use Rattle.std.proofs.lemmas.List.Elements.{Contains-push, Contains-append_left, Contains-append_right}
-use Rattle.ceal_base.specs.Access.{content_of, written, holds}
+use Rattle.ceal_base.specs.Access.{content_of, memory_after_write, holds}
 use Rattle.ceal_base.specs.Block.{Blocks, block_at}
 use Rattle.ceal_base.specs.Finished.{Finished, with_block}
 use Rattle.ceal_base.specs.Shapes.{default_of_kind, default_block, default_of}
@@ -31,7 +31,7 @@ use Rattle.ceal_code.specs.Step.{Stack, Run, Act as CodeAct, command_at, entry_o
 use Rattle.ceal_code.specs.Value.{Variables, set as set_variable, expr_value, values}
 use Rattle.ceal_code.specs.declared.command.Cmd.{Cmd}
 use Rattle.ceal_code.specs.declared.command.Cmd.TheVariants.{Move, Alloc, Modref, Write as WriteCmd, If, Read, Call as CallCmd}
-use Rattle.ceal_flow.specs.Fresh.{Point, State, initialiser_in, taken, entered, given, is_over, acted, stepped, point_in}
+use Rattle.ceal_flow.specs.Fresh.{Point, State, initialiser_in, value_given, points_at_entry, state_given, is_over, state_after_act, state_after_block, point_in}
 use Rattle.ceal_flow.specs.Laws.{IsSimple}
 use Rattle.ceal_flow.specs.Live.{AreLiveSets, mentions, all_mentions, value_mentions, stmt_uses, uses, stmt_assigns, assigns, keeps}
 use Rattle.ceal_flow.specs.Lowering.{first_of, graph_of}
@@ -103,7 +103,7 @@ read-steps code k m (BlockWord b) u v args below = refl
 read-steps code k m (At p) u v args below = refl
 
 write-ran : (code : Code) (again : Blocks → Stack → Option Finished) (k : ℕ) (m : Blocks) (w value : Word) (after : Stack)
-    → ran code again k m (writes_at (place_of w) value after) ≡ again (written m w value) after
+    → ran code again k m (writes_at (place_of w) value after) ≡ again (memory_after_write m w value) after
 write-ran code again k m (Num n) value after = refl
 write-ran code again k m Null value after = refl
 write-ran code again k m (BlockWord b) value after = refl
@@ -243,7 +243,7 @@ module _ (p : Typed) (sets : List (List ℕ)) (typed : WellTyped p) (kept : Keep
 
     test-step : (test : TypedExpr) (x y : ℕ) (inner : List ℕ) → slice_get graph.blocks q.block ≡ Some (Test test x y) → ExprTyped (context p along.spot.function.f) inner test
         → Stand inner x → Stand inner y
-        → Step (now (command_at the_code u i)) (stepped graph m q.env points (Some (Test test x y)))
+        → Step (now (command_at the_code u i)) (state_after_block graph m q.env points (Some (Test test x y)))
     test-step test x y inner look t one two =
         let first = jump_at x (i + 1) in
         let second = jump_at y (i + 1 + length first) in
@@ -325,7 +325,7 @@ module _ (p : Typed) (sets : List (List ℕ)) (typed : WellTyped p) (kept : Keep
 
         value-step : (value : TypedValue) → stmt_uses st ≡ value_mentions value → has_closure st ≡ is_read value → stmt_code source jump_at next i st ≡ value_code source jump_at next i n value
             → ValueTyped (context p along.spot.function.f) inner kind value → ValueUsage p.functions value
-            → Step (now (command_at the_code u i)) (given (taken graph q.env m value) n next q.env points)
+            → Step (now (command_at the_code u i)) (state_given (value_given graph q.env m value) n next q.env points)
         value-step (PlainValue e) mention closes is t usage =
             let same = expr-same (context p along.spot.function.f) inner m env q.env e t.0 (λ v h. used (Act st next) look v (rw mention h)) in
             step-by _ (Move (variable n) (expr_code e)) (jump_at next (i + 1)) _ part-there is (record {
@@ -379,7 +379,7 @@ module _ (p : Typed) (sets : List (List ℕ)) (typed : WellTyped p) (kept : Keep
           → stmt_code source jump_at next i st ≡ WriteCmd (expr_code place) (expr_code e) ∷ jump_at next (i + 1)
           → ExprTyped (context p along.spot.function.f) inner place → ExprTyped (context p along.spot.function.f) inner e
           → Step (now (command_at the_code u i))
-          (record { memory = written m (value_of q.env m place) (value_of q.env m e); points = record { block = next; env = q.env } ∷ points })
+          (record { memory = memory_after_write m (value_of q.env m place) (value_of q.env m e); points = record { block = next; env = q.env } ∷ points })
       write-step place e mention none is t t' =
           let one = expr-same (context p along.spot.function.f) inner m env q.env place t
           (λ v h. used (Act st next) look v (rw mention (in-left v (mentions place) (mentions e) h))) in
@@ -389,7 +389,7 @@ module _ (p : Typed) (sets : List (List ℕ)) (typed : WellTyped p) (kept : Keep
           let value = expr_value p.structs (block_at m) env (expr_code e) in
           step-by _ (WriteCmd (expr_code place) (expr_code e)) (jump_at next (i + 1)) _ part-there is (record {
             after = Run u (i + 1) env below;
-            goes_on = λ again k. write-ran the_code again k m w value (Run u (i + 1) env below) ∙ ap₂ (λ a b. again (written m a b) (Run u (i + 1) env below)) one two;
+            goes_on = λ again k. write-ran the_code again k m w value (Run u (i + 1) env below) ∙ ap₂ (λ a b. again (memory_after_write m a b) (Run u (i + 1) env below)) one two;
             steps = λ k. write-steps k m w value (Run u (i + 1) env below);
             along = kept-along _ is none;
           })
@@ -408,7 +408,7 @@ module _ (p : Typed) (sets : List (List ℕ)) (typed : WellTyped p) (kept : Keep
       call-step : (f : ℕ) (args : List TypedExpr) → stmt_uses st ≡ all_mentions args → stmt_assigns st ≡ None → has_closure st ≡ true
           → stmt_code source jump_at next i st ≡ CallCmd f (call_args args (entry_set source (slice_get graph.functions f))) (unit_of source next) (args_of source next) ∷ []
           → All (ExprTyped (context p along.spot.function.f) inner) args → IsCore (slice_get p.functions f)
-          → Step (now (command_at the_code u i)) (record { memory = m; points = entered graph f (values_of q.env m args) ++ record { block = next; env = q.env } ∷ points })
+          → Step (now (command_at the_code u i)) (record { memory = m; points = points_at_entry graph f (values_of q.env m args) ++ record { block = next; env = q.env } ∷ points })
       call-step f args mention none closes is t core =
           let fn = core-function f core in
           let first = first_of fn.f.body fn.home.start in
@@ -419,7 +419,7 @@ module _ (p : Typed) (sets : List (List ℕ)) (typed : WellTyped p) (kept : Keep
           ap (λ o. values p.structs (block_at m) env (call_args args (entry_set source o))) fn.home.function
           ∙ values-map p.structs (block_at m) env (λ v. arg_at (slice_get args v)) (λ v. variable_of ws v)
           (arg-same (context p along.spot.function.f) inner m env q.env args t (λ v h. used (Act st next) look v (rw mention h))) (live_at first) in
-          let called : entered graph f ws ≡ called_point p sets f fn ws ∷ [] = ap (λ o. point_in o ws) fn.home.function in
+          let called : points_at_entry graph f ws ≡ called_point p sets f fn ws ∷ [] = ap (λ o. point_in o ws) fn.home.function in
           let after_rest = code_entered the_code (entry_unit p sets next) (values p.structs (block_at m) env (args_of source next)) below in
           let all : AllAlong p sets (called_point p sets f fn ws ∷ record { block = next; env = q.env } ∷ points) (code_entered the_code (entry_of the_code f) words after_rest) =
           (inl (call-along p sets f fn ws words words_are), rest-along entry none) in
@@ -431,7 +431,7 @@ module _ (p : Typed) (sets : List (List ℕ)) (typed : WellTyped p) (kept : Keep
           })
 
     act-step : (st : TypedStmt) (next nx : ℕ) (inner after : List ℕ) → slice_get graph.blocks q.block ≡ Some (Act st next) → StmtTyped (context p along.spot.function.f) inner nx st
-        → CoreUsage p.functions true st → IsSimple st → Stand after next → Step (now (command_at the_code u i)) (acted graph m next q.env points st)
+        → CoreUsage p.functions true st → IsSimple st → Stand after next → Step (now (command_at the_code u i)) (state_after_act graph m next q.env points st)
     unfolding StmtTyped CoreUsage
     act-step (Declare at n kind value) next nx inner after look t usage simple stands =
         value-step (Declare at n kind value) next look inner after stands n kind refl t.1 value refl refl refl t.2 usage
@@ -451,12 +451,12 @@ module _ (p : Typed) (sets : List (List ℕ)) (typed : WellTyped p) (kept : Keep
     act-step (Continue at) next nx inner after look t usage simple stands = absurd simple
 
     step-seen : ViewIn p along.spot.k along.spot.function along.spot.seen q.block → over p sets q.block ≡ false
-        → Step (now (command_at the_code u i)) (stepped graph m q.env points (slice_get graph.blocks q.block))
+        → Step (now (command_at the_code u i)) (state_after_block graph m q.env points (slice_get graph.blocks q.block))
     step-seen (is_end look) runs = let ends : true ≡ false = sym (ap is_over look) ∙ runs in cc
     step-seen (tests test x y inner look within t int one two) runs =
-        subst (λ o. Step (now (command_at the_code u i)) (stepped graph m q.env points o)) (sym look) (test-step test x y inner look t one two)
+        subst (λ o. Step (now (command_at the_code u i)) (state_after_block graph m q.env points o)) (sym look) (test-step test x y inner look t one two)
     step-seen (acts st next nx inner look within t usage simple stands) runs =
-        subst (λ o. Step (now (command_at the_code u i)) (stepped graph m q.env points o)) (sym look) (act-step st next nx inner _ look t usage simple stands)
+        subst (λ o. Step (now (command_at the_code u i)) (state_after_block graph m q.env points o)) (sym look) (act-step st next nx inner _ look t usage simple stands)
 
-    pub step-along : over p sets q.block ≡ false → Step (now (command_at the_code u i)) (stepped graph m q.env points (slice_get graph.blocks q.block))
+    pub step-along : over p sets q.block ≡ false → Step (now (command_at the_code u i)) (state_after_block graph m q.env points (slice_get graph.blocks q.block))
     step-along runs = step-seen (view-in p along.spot.k along.spot.function along.spot.seen q.block along.spot.stands) runs

@@ -43,7 +43,7 @@ use Rattle.ceal_theory.specs.Cover.{known_after}
 use Rattle.ceal_theory.specs.Groves.{Grove, bare}
 use Rattle.ceal_theory.specs.Levels.{first, around, levels}
 use Rattle.ceal_theory.specs.Repair.{State}
-use Rattle.ceal_theory.specs.Turns.{Went, turn}
+use Rattle.ceal_theory.specs.Moves.{Went, next_move}
 use Rattle.ceal_trace.proofs.Entries.{has-held, has-read, stamps-changed, ends-changed}
 use Rattle.ceal_trace.proofs.Parts.{not_before, entry-part, position-part, changed-part}
 use Rattle.ceal_trace.specs.Items.{ticks, forest_of}
@@ -90,8 +90,8 @@ bare-ticks code s st ws n is = record {
 
 -- the end of a taken read that was kept
 end-turn : (code : Code) (names : ℕ → ℕ) (s : State) (below : Stack) (ws : List Wait) (is : List Item)
-    → turn code names (fixing_at s (Takes below ∷ ws) (item.End ∷ is)) ≡ Went (item.End ∷ []) (running_at s below ws is)
-unfolding turn
+    → next_move code names (fixing_at s (Takes below ∷ ws) (item.End ∷ is)) ≡ Went (item.End ∷ []) (running_at s below ws is)
+unfolding next_move
 end-turn code names s below ws is = refl
 
 -- where nothing is queued before a node, the reads before it have the contents of their moments

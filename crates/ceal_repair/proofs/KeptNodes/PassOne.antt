@@ -39,7 +39,7 @@ use Rattle.ceal_theory.specs.Cover.{known_after}
 use Rattle.ceal_theory.specs.Groves.{Grove, Bare, Made, Put, Got, joined}
 use Rattle.ceal_theory.specs.Known.{Sure}
 use Rattle.ceal_theory.specs.Repair.{State}
-use Rattle.ceal_theory.specs.Turns.{Went, turn}
+use Rattle.ceal_theory.specs.Moves.{Went, next_move}
 use Rattle.ceal_trace.proofs.Parts.{forest-append, not_before, entry-part}
 use Rattle.ceal_trace.specs.Items.{ticks, item_of, forest_of, unclosed}
 use Rattle.ceal_trace.specs.Nodes.{Entry, stamps_in, has_node, node_at, held_by, is_read}
@@ -197,7 +197,7 @@ module _ (code : Code) (inputs : List Block) (start : Start) (v : View) (has : H
   At front items ws is = CourseNow code inputs start v front items (λ s. fixing_at s ws is)
 
   pub pass-ticks : (front : List Entry) (ws : List Wait) (is : List Item) (n : ℕ) (items : List Item) → At front items ws (ticks n ++ is) → At front (items ++ ticks n) ws is
-  unfolding turn
+  unfolding next_move
   pass-ticks front ws is zero items c = subst (λ js. At front js ws is) (sym (append-nil items)) c
   pass-ticks front ws is (suc n) items c =
       subst (λ js. At front js ws is) (append_assoc items (item.Step ∷ []) (ticks n))
@@ -219,7 +219,7 @@ module _ (code : Code) (inputs : List Block) (start : Start) (v : View) (has : H
   module _ (front : List Entry) (ws : List Wait) where
     pass-write : (s : ℕ) (p : Place) (w : Word) (n : ℕ) (is : List Item) → At front (forest_of front) ws (item.Write p w ∷ is)
         → At (front ++ entry s (Write p w) n ∷ []) (forest_of front ++ item.Write p w ∷ []) ws is
-    unfolding turn
+    unfolding next_move
     pass-write s p w n is c =
         course-turn code inputs start v front (forest_of front) (λ s. fixing_at s ws (item.Write p w ∷ is)) c v (front ++ entry s (Write p w) n ∷ []) (forest_of front ++ item.Write p w ∷ [])
         (λ s. fixing_at s ws is) (item.Write p w ∷ []) (stored c.store p w) refl (λ names. refl) refl
@@ -229,7 +229,7 @@ module _ (code : Code) (inputs : List Block) (start : Start) (v : View) (has : H
         c.given
 
     pass-end : (e r m : ℕ) (is : List Item) → At front (forest_of front) (Fixes ∷ ws) (item.End ∷ is) → At (front ++ end_entry e r m ∷ []) (forest_of front ++ item.End ∷ []) ws is
-    unfolding turn
+    unfolding next_move
     pass-end e r m is c =
         course-turn code inputs start v front (forest_of front) (λ s. fixing_at s (Fixes ∷ ws) (item.End ∷ is)) c v (front ++ end_entry e r m ∷ []) (forest_of front ++ item.End ∷ [])
         (λ s. fixing_at s ws is) (item.End ∷ []) c.store refl (λ names. refl) refl
@@ -245,8 +245,8 @@ module _ (code : Code) (inputs : List Block) (start : Start) (v : View) (has : H
         (record { plain = c.knows.plain; old = c.knows.old; store = c.knows.store; mode = c.knows.mode; frames = tt })).0
 
     kept-turn : (s : State) (p : Place) (w : Word) (u : UnitId) (x : ℕ) (args : List Word) (is : List Item) → same_word (s.store p) w ≡ true → (names : ℕ → ℕ)
-        → turn code names (fixing_at s ws (item.Read p w u x args ∷ is)) ≡ Went (item.Read p (s.store p) u x args ∷ []) (fixing_at s (Fixes ∷ ws) is)
-    unfolding turn
+        → next_move code names (fixing_at s ws (item.Read p w u x args ∷ is)) ≡ Went (item.Read p (s.store p) u x args ∷ []) (fixing_at s (Fixes ∷ ws) is)
+    unfolding next_move
     kept-turn s p w u x args is h names = rw h refl
 
     pass-read : (s : ℕ) (p : Place) (w : Word) (u : UnitId) (x : ℕ) (args : List Word) (n : ℕ) (is : List Item) → w ≡ contents_after (base_in v.tables.mods) front p
@@ -298,7 +298,7 @@ module _ (code : Code) (inputs : List Block) (start : Start) (v : View) (has : H
         ]
 
     pass-core : At (front ++ entry s (Alloc (Core b) key) n ∷ []) (forest_of front ++ item.Alloc (Core b) key ∷ []) ws is
-    unfolding turn
+    unfolding next_move
     pass-core =
         course-turn code inputs start v front (forest_of front) (λ s. fixing_at s ws (item.Alloc (Core b) key ∷ is)) c v (front ++ entry s (Alloc (Core b) key) n ∷ [])
         (forest_of front ++ item.Alloc (Core b) key ∷ []) (λ s. fixing_at s ws is) (item.Alloc (Core b) key ∷ []) (cleared code c.store (Core b) key) refl (λ names. refl) refl

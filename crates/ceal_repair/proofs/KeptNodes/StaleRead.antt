@@ -36,7 +36,7 @@ use Rattle.ceal_repair.specs.declared.tables.Tables.{Tables}
 use Rattle.ceal_theory.specs.Course.{Wait, Fixes, Takes, running_at, fixing_at}
 use Rattle.ceal_theory.specs.Cover.{known_after}
 use Rattle.ceal_theory.specs.Repair.{State, resumed}
-use Rattle.ceal_theory.specs.Turns.{Went, turn}
+use Rattle.ceal_theory.specs.Moves.{Went, next_move}
 use Rattle.ceal_trace.proofs.Entries.{has-held, stamps-changed, ends-changed}
 use Rattle.ceal_trace.proofs.Parts.{not_before, entry-part, position-part, changed-part}
 use Rattle.ceal_trace.specs.Items.{ticks, forest_of}
@@ -78,8 +78,8 @@ limit-of (Some s) e x h some none = let both = sym h ∙ some in let same : s.0 
 -- ---- the turn
 
 mend-turn : (code : Code) (names : ℕ → ℕ) (s : State) (ws : List Wait) (p : Place) (w : Word) (u : UnitId) (x : ℕ) (args : List Word) (is : List Item) → same_word (s.store p) w ≡ false
-    → turn code names (fixing_at s ws (item.Read p w u x args ∷ is)) ≡ Went (item.Read p (s.store p) u x args ∷ []) (running_at s (resumed code u x args (s.store p)) (Fixes ∷ ws) is)
-unfolding turn
+    → next_move code names (fixing_at s ws (item.Read p w u x args ∷ is)) ≡ Went (item.Read p (s.store p) u x args ∷ []) (running_at s (resumed code u x args (s.store p)) (Fixes ∷ ws) is)
+unfolding next_move
 mend-turn code names s ws p w u x args is h = rw h refl
 
 module _ (code : Code) (inputs : List Block) (start : Start) (until : Stamp) (v : View) (now : PassingNow code inputs start until v)
@@ -238,7 +238,7 @@ module _ (code : Code) (inputs : List Block) (start : Start) (until : Stamp) (v 
     known-then q c = subst (λ bs. KnownBlock (length inputs) bs q.block) (ap (known_after []) (forest-put walked read (Read the-read.place word the-read.unit the-read.var the-read.args))
         ∙ known-append [] (forest_of walked) (item.Read the-read.place word the-read.unit the-read.var the-read.args ∷ [])) c
 
-    turn-now : (names : ℕ → ℕ) → turn code names
+    turn-now : (names : ℕ → ℕ) → next_move code names
         (fixing_at (state_at code inputs v moment-read.course.store (start.chosen ++ moment-read.course.made)) the-read.waits (forest_of (read-entry the-read.value the-read.steps ∷ read-tail)))
         ≡ Went (item.Read the-read.place word the-read.unit the-read.var the-read.args ∷ [])
         (running_at (state_at code inputs v moment-read.course.store (start.chosen ++ moment-read.course.made)) (resumed code the-read.unit the-read.var the-read.args word) (Fixes ∷ the-read.waits)

@@ -34,7 +34,7 @@ use Rattle.ceal_theory.specs.Course.{Wait, Fixes, frames_at, running_at, fixing_
 use Rattle.ceal_theory.specs.Groves.{Bare}
 use Rattle.ceal_theory.specs.Levels.{first, around, levels}
 use Rattle.ceal_theory.specs.Repair.{State}
-use Rattle.ceal_theory.specs.Turns.{Machine, Fixing, Went, turn}
+use Rattle.ceal_theory.specs.Moves.{Machine, Fixing, Went, next_move}
 use Rattle.ceal_trace.proofs.Entries.{has-held, has-read}
 use Rattle.ceal_trace.proofs.Parts.{not_before, entry-part, position-part}
 use Rattle.ceal_trace.specs.Items.{ticks, forest_of, unclosed, unclosed_after}
@@ -68,8 +68,8 @@ comes-kept (Tails.kept {ws = ws} {rs = rs} {back = back} e r m p) =
     record { end = e; read = r; steps = m; waits = ws; reads = rs; back = back; now_is = refl; waits_are = refl; reads_are = refl; tail_is = refl; passes = p }
 
 over-turn : (code : Code) (names : ℕ → ℕ) (s : State) (st : Stack) (ws vs : List Wait) (is : List Item) → ws ≡ Fixes ∷ vs → next code s.plain st ≡ Over
-    → turn code names (running_at s st ws is) ≡ Went (item.End ∷ []) (record { state = s; mode = Fixing (first (around (levels is))); frames = frames_at vs (around (around (levels is))) })
-unfolding turn
+    → next_move code names (running_at s st ws is) ≡ Went (item.End ∷ []) (record { state = s; mode = Fixing (first (around (levels is))); frames = frames_at vs (around (around (levels is))) })
+unfolding next_move
 over-turn code names s st ws vs is e over = rw (over, e) refl
 
 module _ (code : Code) (inputs : List Block) (start : Start) (st : Stack) (w : View) (until : Stamp)
@@ -137,7 +137,7 @@ module _ (code : Code) (inputs : List Block) (start : Start) (st : Stack) (w : V
       frames = frames_at next-kept.waits (around (around (levels (forest_of (entries now.left ++ now.tail)))));
     }
 
-    left-turn : (names : ℕ → ℕ) → turn code names
+    left-turn : (names : ℕ → ℕ) → next_move code names
         (running_at (state_at code inputs view-before now.course.store (start.chosen ++ now.course.made)) st now.waits (forest_of (entries now.left ++ now.tail))) ≡ Went (item.End ∷ []) mid-machine
     unfolding mid-machine
     left-turn names = over-turn code names (state_at code inputs view-before now.course.store (start.chosen ++ now.course.made)) st now.waits next-kept.waits

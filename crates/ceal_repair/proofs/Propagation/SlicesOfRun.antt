@@ -25,7 +25,7 @@ use Rattle.ceal_repair.specs.declared.advance.Progress.{Progress}
 use Rattle.ceal_repair.specs.declared.advance.Progress.TheVariants.{More, Done, Spent, OutOfFuel}
 use Rattle.ceal_repair.specs.Turning.{Since, since_begun, turns_more, later, NamesOff, IsOrigin, StandsFor}
 use Rattle.ceal_repair.specs.declared.running.Running.{Running}
-use Rattle.ceal_theory.specs.Carried.{counted_anew}
+use Rattle.ceal_theory.specs.Carried.{numbered_from_zero}
 use Rattle.ceal_theory.proofs.SlicedRepair.SliceLaws.{other-names-law, slices-law, turns-law}
 use Rattle.ceal_theory.specs.SliceLaws.{Turned, Turns}
 use Rattle.ceal_theory.specs.Slices.{Repair, Slices, repair_at, goes_on, with_inputs}
@@ -45,7 +45,7 @@ there-in (Some k) block e = cc
 
 module _ (code : Code) (inputs : List Block) (f : ℕ) (args : List Word) (fuel : ℕ) (r : Repair) (run : Running) (part : IsPartRun code inputs f args fuel r run) where
   abbrev pub since : Since
-  since = record { repair = counted_anew r; first = part.blocks.blocks; numbers = next run.heap; turns = 0 }
+  since = record { repair = numbered_from_zero r; first = part.blocks.blocks; numbers = next run.heap; turns = 0 }
 
   -- a name that is none of the known blocks is not known
   pub not-known : (names : ℕ → ℕ) → NamesOff names part.blocks.blocks → (k : ℕ) → r.known (Core (names k)) ≡ None
@@ -66,7 +66,7 @@ module _ (code : Code) (inputs : List Block) (f : ℕ) (args : List Word) (fuel 
   abbrev some_names : GoesOn [] part.blocks.blocks
   some_names = goes-on part.blocks.blocks [] (λ b. omega arith) (λ b i. absurd (elim i [ ]))
 
-  stands : StandsFor code inputs f args (counted_anew r) run
+  stands : StandsFor code inputs f args (numbered_from_zero r) run
   stands = record {
     kept = part.stands.kept;
     nests = part.stands.nests;
@@ -84,7 +84,7 @@ module _ (code : Code) (inputs : List Block) (f : ℕ) (args : List Word) (fuel 
     called = origin;
     items = part.stands.items;
     so_far = record {
-      repair = counted_anew r;
+      repair = numbered_from_zero r;
       stands = stands;
       chosen = [];
       number = refl;
@@ -110,17 +110,17 @@ module _ (code : Code) (inputs : List Block) (f : ℕ) (args : List Word) (fuel 
     abbrev pub going_on : GoesOn come.so_far.chosen part.blocks.blocks
     going_on = goes-on part.blocks.blocks come.so_far.chosen come.so_far.given.distinct come.so_far.given.apart
 
-    turned : Turned code going_on.names inputs n (counted_anew r) last
-    turned = subst (λ m. Turned code going_on.names inputs m (counted_anew r) last) (no-turns-more n)
-        (turns-law code going_on.names inputs f args part.fits (counted_anew r) (origin.sound going_on.names going_on.single going_on.apart) (turns_more n 0) last
+    turned : Turned code going_on.names inputs n (numbered_from_zero r) last
+    turned = subst (λ m. Turned code going_on.names inputs m (numbered_from_zero r) last) (no-turns-more n)
+        (turns-law code going_on.names inputs f args part.fits (numbered_from_zero r) (origin.sound going_on.names going_on.single going_on.apart) (turns_more n 0) last
         (come.so_far.history going_on.names going_on.continues))
 
-    within : (reads : Option ℕ) (z : Repair) → Slices code going_on.names inputs reads (counted_anew r) z → z.spent ≤ fuel → IsSliceOf code inputs reads fuel r (Some z)
+    within : (reads : Option ℕ) (z : Repair) → Slices code going_on.names inputs reads (numbered_from_zero r) z → z.spent ≤ fuel → IsSliceOf code inputs reads fuel r (Some z)
     within reads z s few = record {
       names = going_on.names;
       single = going_on.single;
       off = not-known going_on.names going_on.apart;
-      is = (slices-law code going_on.names inputs reads fuel (counted_anew r) z).1 (s, few);
+      is = (slices-law code going_on.names inputs reads fuel (numbered_from_zero r) z).1 (s, few);
     }
 
     spent-few : now.spent ≤ fuel → last.spent ≤ fuel
@@ -129,7 +129,7 @@ module _ (code : Code) (inputs : List Block) (f : ℕ) (args : List Word) (fuel 
     -- no more blocks were made than steps were spent since
     few-made-so : length part.blocks.blocks + length come.so_far.chosen ≤ fuel + now.spent
     few-made-so =
-        let room = turns-room code inputs f args (later n since) come.called going_on.names (counted_anew r) last (turns_more n 0) (origin.sound going_on.names going_on.single going_on.apart)
+        let room = turns-room code inputs f args (later n since) come.called going_on.names (numbered_from_zero r) last (turns_more n 0) (origin.sound going_on.names going_on.single going_on.apart)
         (come.so_far.history going_on.names going_on.continues) in
         omega (arith, room, come.so_far.number, come.so_far.stands.spent, part.stands.spent, part.blocks.few)
 

@@ -57,7 +57,7 @@ use Rattle.ceal_theory.specs.Listed.{Listed, ListedLaw}
 use Rattle.ceal_theory.specs.Repair.{resumed}
 use Rattle.ceal_theory.specs.SliceLaws.{KnownThere, ReadyLaw}
 use Rattle.ceal_theory.specs.Slices.{Repair, with_inputs, starting}
-use Rattle.ceal_theory.specs.Turns.{Machine}
+use Rattle.ceal_theory.specs.Moves.{Machine}
 use Rattle.ceal_theory.specs.Walk.{store_after, AgreesAll}
 use Rattle.ceal_trace.proofs.Entries.{stamps-changed}
 use Rattle.ceal_trace.proofs.Parts.{not_before, entry-part, position-part, changed-part}

@@ -26,7 +26,7 @@ use Rattle.ceal_theory.specs.Course.{TurnCourse, running_at}
 use Rattle.ceal_theory.specs.Groves.{stepped, trace_in}
 use Rattle.ceal_theory.specs.SliceLaws.{TurnedOver}
 use Rattle.ceal_theory.specs.Slices.{starting, sliced}
-use Rattle.ceal_theory.specs.Turns.{Machine}
+use Rattle.ceal_theory.specs.Moves.{Machine}
 use Rattle.ceal_theory.specs.Walk.{store_after}
 use Rattle.ceal_trace.specs.Items.{ticks, forest_of}
 

@@ -32,7 +32,7 @@ use Rattle.ceal_theory.specs.Groves.{Bare}
 use Rattle.ceal_theory.specs.Repair.{State}
 use Rattle.ceal_theory.specs.SliceLaws.{Turns}
 use Rattle.ceal_theory.specs.Slices.{Slices, repair_at, with_inputs}
-use Rattle.ceal_theory.specs.Turns.{Ended, turn}
+use Rattle.ceal_theory.specs.Moves.{Ended, next_move}
 use Rattle.ceal_trace.proofs.Parting.{unclosed-append}
 use Rattle.ceal_trace.proofs.Parts.{forest-append}
 use Rattle.ceal_trace.specs.Items.{forest_of, unclosed, Nests}
@@ -40,8 +40,8 @@ use Rattle.ceal_trace.specs.Nodes.{Entry}
 use Rattle.ceal_trace.specs.declared.node.Node.TheVariants.{Read}
 
 -- where a unit is over and nothing waits the machine has ended
-turn-ended : (code : Code) (names : ℕ → ℕ) (s : State) (st : Stack) (ws : List Wait) (is : List Item) → ws ≡ [] → next code s.plain st ≡ Over → turn code names (running_at s st ws is) ≡ Ended
-unfolding turn
+turn-ended : (code : Code) (names : ℕ → ℕ) (s : State) (st : Stack) (ws : List Wait) (is : List Item) → ws ≡ [] → next code s.plain st ≡ Over → next_move code names (running_at s st ws is) ≡ Ended
+unfolding next_move
 turn-ended code names s st ws is e over = rw (over, e) refl
 
 -- the words of core blocks whose state is the same

@@ -10,7 +10,7 @@ use Rattle.ceal_code.specs.Replay.{Store, cleared, stored}
 use Rattle.ceal_repair.proofs.QueueCover.Chain.{stored-same}
 use Rattle.ceal_repair.specs.AsItems.{nodes_of, StartsAt, StartsAll}
 use Rattle.ceal_repair.specs.Covered.{Queue, Seen, content_after, with_seen, seen_after, Covers}
-use Rattle.ceal_theory.specs.Cover.{Covered, Waiting, none_waits, closed, opened}
+use Rattle.ceal_theory.specs.Cover.{Covered, Waiting, none_waits, waiting_after_write, waiting_after_read}
 use Rattle.ceal_trace.specs.Nodes.{Entry}
 use Rattle.ceal_trace.specs.declared.node.Node.{Node}
 use Rattle.ceal_trace.specs.declared.node.Node.TheVariants.{Root, Alloc, Write, Read, End}
@@ -23,16 +23,17 @@ cleared-same : (code : Code) (s s' : Store) (b : BlockId) (key : Key) → ((p : 
 unfolding cleared
 cleared-same code s s' b key h k p = picked (same_block p.block b) _ (s p) (s' p) (k p) (h p)
 
-closed-more : (g : Seen) (w : Waiting) (p : Place) → ((x : Place) → g x ≡ true → w x ≡ true) → (x : Place) → with_seen g p false x ≡ true → closed w p x ≡ true
-unfolding with_seen closed
+closed-more : (g : Seen) (w : Waiting) (p : Place) → ((x : Place) → g x ≡ true → w x ≡ true) → (x : Place) → with_seen g p false x ≡ true → waiting_after_write w p x ≡ true
+unfolding with_seen waiting_after_write
 closed-more g w p k x e = go (same_place x p) e
   where
     go : (t : Bool) → (if t then false else g x) ≡ true → (if t then false else w x) ≡ true
     go true e = e
     go false e = k x e
 
-opened-more : (g : Seen) (w : Waiting) (p : Place) (b : Bool) → ((x : Place) → g x ≡ true → w x ≡ true) → (x : Place) → (if b then with_seen g p true else g) x ≡ true → opened w p b x ≡ true
-unfolding with_seen opened
+opened-more : (g : Seen) (w : Waiting) (p : Place) (b : Bool) → ((x : Place) → g x ≡ true → w x ≡ true) → (x : Place) → (if b then with_seen g p true else g) x ≡ true → waiting_after_read w p b x
+    ≡ true
+unfolding with_seen waiting_after_read
 opened-more g w p true k x e = go (same_place x p) (w x) (k x) e
   where
     go : (t v : Bool) → (g x ≡ true → v ≡ true) → (if t then true else g x) ≡ true → (if t then v || true else v) ≡ true
@@ -65,13 +66,13 @@ node-too code q e es on s s' g w h k a c = go e.node refl
     go (Alloc b key) is = let r = rest (Alloc b key) is in rw is (on s (cleared code s' b key) g w (cleared-same code s s' b key h (starts (Alloc b key) is)) k r.0 r.1)
     go (Write p v) is =
         let r = rest (Write p v) is in
-        rw is (on (stored s p v) (stored s' p v) (with_seen g p false) (closed w p) (λ x. stored-same s s' p v x (h x)) (closed-more g w p k) r.0 r.1)
+        rw is (on (stored s p v) (stored s' p v) (with_seen g p false) (waiting_after_write w p) (λ x. stored-same s s' p v x (h x)) (closed-more g w p k) r.0 r.1)
     go (Read p v u y args) is =
         let r = rest (Read p v u y args) is in
         let own : (s p ≡ v) ⊎ ((if q e.stamp then with_seen g p true else g) p ≡ true) = rw is at c.0 in
         rw is (
           elim own [ inl x ↦ inl (sym (h p) ∙ x) | inr x ↦ inr (opened-more g w p (q e.stamp) k p x) ],
-          on s s' (if q e.stamp then with_seen g p true else g) (opened w p (q e.stamp)) h (opened-more g w p (q e.stamp) k) r.0 r.1,
+          on s s' (if q e.stamp then with_seen g p true else g) (waiting_after_read w p (q e.stamp)) h (opened-more g w p (q e.stamp) k) r.0 r.1,
         )
 
 pub covered-too : (code : Code) (q : Queue) (es : List Entry) → Too code q es

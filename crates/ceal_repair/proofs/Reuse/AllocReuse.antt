@@ -53,7 +53,7 @@ use Rattle.ceal_theory.specs.Slices.{with_inputs}
 use Rattle.ceal_theory.specs.Levels.{first, around, levels}
 use Rattle.ceal_theory.specs.Course.{frames_at, running_at, BareMode, BareFrames, BareSame}
 use Rattle.ceal_theory.specs.Known.{Sure, Knows, KnownItems, GoesKnowing}
-use Rattle.ceal_theory.specs.Turns.{Machine, Running, Went, turn, BecomesBy}
+use Rattle.ceal_theory.specs.Moves.{Machine, Running, Went, next_move, BecomesBy}
 use Rattle.ceal_theory.specs.Repair.{State, works, clears}
 use Rattle.ceal_theory.proofs.TurnMachine.ChosenNumbers.{chosen-law}
 use Rattle.ceal_theory.proofs.Store.KnownBlocks.{knowing-law}
@@ -195,7 +195,7 @@ blocks-through (e ∷ es) last = ap (node_blocks e.node) (blocks-through es last
 -- after one turn that makes no block, where steps are dropped of what is left over
 module _ (code : Code) (inputs : List Block) (start : Start) (v : View) (front : List Entry) (items : List Item) (m : State → Machine) (c : CourseNow code inputs start v front items m) where
   pub course-bare : (v' : View) (front' : List Entry) (items' : List Item) (m' : State → Machine) (w : List Item) (store' : Store) (mid : Machine) → items' ≡ items ++ w
-      → ((names : ℕ → ℕ) → turn code names (m (state_at code inputs v c.store (start.chosen ++ c.made))) ≡ Went w mid)
+      → ((names : ℕ → ℕ) → next_move code names (m (state_at code inputs v c.store (start.chosen ++ c.made))) ≡ Went w mid)
       → mid.state.number ≡ (m (state_at code inputs v c.store (start.chosen ++ c.made))).state.number
       → BareSame mid (m' (state_at code inputs v' store' (start.chosen ++ c.made)))
       → ((p : Place) → KnownBlock (length inputs) (known_after [] items') p.block → store' p ≡ contents_after (base_in v'.tables.mods) front' p)
@@ -401,9 +401,9 @@ module _ (code : Code) (inputs : List Block) (start : Start) (st : Stack) (v : V
   }
 
   taken-turn : (x u i : ℕ) (env : Variables) (below : Stack) → next code (words_of code inputs v.heap) st ≡ Makes key x u i env below → (names : ℕ → ℕ)
-      → turn code names (running_at (state_at code inputs v now.course.store (start.chosen ++ now.course.made)) st now.waits (forest_of (entries now.left ++ now.tail)))
+      → next_move code names (running_at (state_at code inputs v now.course.store (start.chosen ++ now.course.made)) st now.waits (forest_of (entries now.left ++ now.tail)))
       ≡ Went (item.Step ∷ item.Alloc the-match.block key ∷ []) (mid-machine (Run u i (set env x (pointer key the-match.block)) below))
-  unfolding turn mid-machine
+  unfolding next_move mid-machine
   taken-turn x u i env below does names = rw (does, is-left, the-taken.is) refl
 
   state-then : clears code (works (state_at code inputs v now.course.store (start.chosen ++ now.course.made))) the-match.block key

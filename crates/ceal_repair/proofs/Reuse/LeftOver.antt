@@ -1,7 +1,7 @@
 -- What is left over to a unit, as the machine has it.
 use Rattle.std.proofs.Common.{◌≡◌, ℕ, inl, inr, ◌⊎◌, true, false, Option, Some, None, List, [], ◌∷◌, ◌++◌, refl, sym, ap, subst, ◌∙◌}
 use Rattle.std.proofs.lemmas.Bool.{cases_Bool, eq-eqb}
-use Rattle.ceal_base.specs.Trace.{Trace, Nothing, Stepped, Allocated, Wrote, WasRead, flat, followed}
+use Rattle.ceal_base.specs.Trace.{Trace, Nothing, Stepped, Allocated, Wrote, WasRead, flat, trace_then}
 use Rattle.ceal_base.specs.declared.forest.Key.{Key}
 use Rattle.ceal_base.specs.declared.word.BlockId.{BlockId}
 use Rattle.ceal_base.specs.declared.word.BlockId.TheVariants.{Input, Core}
@@ -25,7 +25,7 @@ use Rattle.ceal_theory.specs.Groves.{Grove, Bare, Made, Put, Got, cut, trace_in,
 use Rattle.ceal_theory.specs.Known.{Sure, Knows, KnowsMode, KnowsFrames}
 use Rattle.ceal_theory.specs.Levels.{first, around, levels}
 use Rattle.ceal_theory.specs.Take.{TakenAlloc, same_key, take_alloc}
-use Rattle.ceal_theory.specs.Turns.{Machine, Mode, Frames}
+use Rattle.ceal_theory.specs.Moves.{Machine, Mode, Frames}
 use Rattle.ceal_trace.proofs.Parts.{forest-append}
 use Rattle.ceal_trace.proofs.Stamped.{head_in, in_tail}
 use Rattle.ceal_trace.specs.Items.{forest_of}
@@ -37,7 +37,7 @@ pub forest-left : (g : Grove) (tail : List Entry) → forest_of (entries g ++ ta
 forest-left g tail = forest-append (entries g) tail
     ∙ ap (λ is. is ++ forest_of tail) (sym (items-knots-of (entries g) (rootless-entries g)) ∙ (ap items_in (knots-entries g) ∙ items-knots g))
 
-closed-first : (until : Option Stamp) (tail : List Entry) → Bounds until tail → (t : Trace) → followed t (first (levels (forest_of tail))) ≡ t
+closed-first : (until : Option Stamp) (tail : List Entry) → Bounds until tail → (t : Trace) → trace_then t (first (levels (forest_of tail))) ≡ t
 closed-first None tail b t = rw b (followed-nothing t)
 closed-first (Some e) tail b t = rw b.3 (followed-nothing t)
 

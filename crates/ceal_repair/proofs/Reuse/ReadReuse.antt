@@ -48,7 +48,7 @@ use Rattle.ceal_theory.specs.Groves.{Grove, trace_in, bare, stepped}
 use Rattle.ceal_theory.specs.Levels.{first, around, levels}
 use Rattle.ceal_theory.specs.Repair.{works, resumed}
 use Rattle.ceal_theory.specs.Take.{take_read}
-use Rattle.ceal_theory.specs.Turns.{Machine, Fixing, Running, AfterMend, Went, turn}
+use Rattle.ceal_theory.specs.Moves.{Machine, Fixing, Running, AfterMend, Went, next_move}
 use Rattle.ceal_trace.proofs.Entries.{stamps-changed, ends-changed}
 use Rattle.ceal_trace.proofs.Parts.{not_before, entry-part, changed-part}
 use Rattle.ceal_trace.specs.Items.{ticks, item_of, forest_of}
@@ -275,12 +275,12 @@ module _ (code : Code) (inputs : List Block) (start : Start) (st : Stack) (v : V
   }
 
   stale-turn : (w : Word) → now.course.store p ≡ w → same_word w the-match.taken.value ≡ false → (names : ℕ → ℕ)
-      → turn code names (running_at (state_at code inputs v now.course.store (start.chosen ++ now.course.made)) st now.waits (forest_of (entries now.left ++ now.tail)))
+      → next_move code names (running_at (state_at code inputs v now.course.store (start.chosen ++ now.course.made)) st now.waits (forest_of (entries now.left ++ now.tail)))
       ≡ Went (item.Step ∷ item.Read p w u x args ∷ []) (mid-running w)
-  unfolding turn mid-running
+  unfolding next_move mid-running
   stale-turn w is other names =
       subst (λ z. same_word z the-match.taken.value ≡ false
-      → turn code names (running_at (state_at code inputs v now.course.store (start.chosen ++ now.course.made)) st now.waits (forest_of (entries now.left ++ now.tail)))
+      → next_move code names (running_at (state_at code inputs v now.course.store (start.chosen ++ now.course.made)) st now.waits (forest_of (entries now.left ++ now.tail)))
       ≡ Went (item.Step ∷ item.Read p z u x args ∷ []) (mid-running z)) is (λ differs. rw (does, takes-left, differs) refl) other
 
   state-then : works (state_at code inputs v now.course.store (start.chosen ++ now.course.made))
@@ -402,12 +402,12 @@ module _ (code : Code) (inputs : List Block) (start : Start) (st : Stack) (v : V
   }
 
   honest-turn : (w : Word) → now.course.store p ≡ w → same_word w the-match.taken.value ≡ true → (names : ℕ → ℕ)
-      → turn code names (running_at (state_at code inputs v now.course.store (start.chosen ++ now.course.made)) st now.waits (forest_of (entries now.left ++ now.tail)))
+      → next_move code names (running_at (state_at code inputs v now.course.store (start.chosen ++ now.course.made)) st now.waits (forest_of (entries now.left ++ now.tail)))
       ≡ Went (item.Step ∷ item.Read p w u x args ∷ []) (mid-fixing w)
-  unfolding turn mid-fixing
+  unfolding next_move mid-fixing
   honest-turn w is one names =
       subst (λ z. same_word z the-match.taken.value ≡ true
-      → turn code names (running_at (state_at code inputs v now.course.store (start.chosen ++ now.course.made)) st now.waits (forest_of (entries now.left ++ now.tail)))
+      → next_move code names (running_at (state_at code inputs v now.course.store (start.chosen ++ now.course.made)) st now.waits (forest_of (entries now.left ++ now.tail)))
       ≡ Went (item.Step ∷ item.Read p z u x args ∷ []) (mid-fixing z)) is (λ same. rw (does, takes-left, same) refl) one
 
   bare-fixing : (w : Word) → BareSame (mid-fixing w)

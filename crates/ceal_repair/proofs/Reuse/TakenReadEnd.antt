@@ -37,7 +37,7 @@ use Rattle.ceal_theory.specs.Cover.{known_after}
 use Rattle.ceal_theory.specs.Groves.{Grove, Bare, bare}
 use Rattle.ceal_theory.specs.Levels.{first, around, levels}
 use Rattle.ceal_theory.specs.Repair.{State}
-use Rattle.ceal_theory.specs.Turns.{Machine, Running, Went, turn}
+use Rattle.ceal_theory.specs.Moves.{Machine, Running, Went, next_move}
 use Rattle.ceal_trace.proofs.Entries.{has-held, has-read, stamps-changed, ends-changed}
 use Rattle.ceal_trace.proofs.Parts.{not_before, entry-part, position-part, changed-part}
 use Rattle.ceal_trace.specs.Items.{ticks, forest_of, unclosed, unclosed_after}
@@ -73,8 +73,8 @@ comes-taken (Tails.taken {ws = ws} {rs = rs} {tail = tail} below e r m g t) =
 comes-taken (Tails.kept e r m t) = tt
 
 leave-turn : (code : Code) (names : ℕ → ℕ) (s : State) (st below : Stack) (ws vs : List Wait) (is : List Item) → ws ≡ Takes below ∷ vs → next code s.plain st ≡ Over
-    → turn code names (running_at s st ws is) ≡ Went (item.End ∷ []) (record { state = s; mode = Running below (first (around (levels is))); frames = frames_at vs (around (around (levels is))) })
-unfolding turn
+    → next_move code names (running_at s st ws is) ≡ Went (item.End ∷ []) (record { state = s; mode = Running below (first (around (levels is))); frames = frames_at vs (around (around (levels is))) })
+unfolding next_move
 leave-turn code names s st below ws vs is e over = rw (over, e) refl
 
 module _ (code : Code) (inputs : List Block) (start : Start) (st : Stack) (w : View) (below : Stack) (until : Stamp)
@@ -164,7 +164,7 @@ module _ (code : Code) (inputs : List Block) (start : Start) (st : Stack) (w : V
     }
 
     left-turn : (names : ℕ → ℕ)
-        → turn code names (running_at (state_at code inputs (record {
+        → next_move code names (running_at (state_at code inputs (record {
           tables = w.tables;
           heap = w.heap;
           spent = w.spent;

@@ -54,7 +54,7 @@ use Rattle.ceal_theory.specs.Levels.{first, levels}
 use Rattle.ceal_theory.specs.Repair.{State, works, grows}
 use Rattle.ceal_theory.specs.Slices.{with_inputs}
 use Rattle.ceal_theory.specs.Take.{take_alloc}
-use Rattle.ceal_theory.specs.Turns.{Machine, Went, turn}
+use Rattle.ceal_theory.specs.Moves.{Machine, Went, next_move}
 use Rattle.ceal_trace.proofs.Entries.{ends-after, entry-old}
 use Rattle.ceal_trace.specs.Items.{ticks, item_of, forest_of}
 use Rattle.ceal_trace.specs.Nodes.{Entry, has_node, position, node_at, end_in, held_by, new_entry, with_entry_after}
@@ -398,7 +398,7 @@ module _ (code : Code) (inputs : List Block) (start : Start) (v : View) (front :
   course-made : (v' : View) (front' : List Entry) (items' : List Item) (m' : State → Machine) (w : List Item) (store' : Store) (b : ℕ) → items' ≡ items ++ w
       → (m (state_at code inputs v c.store (start.chosen ++ c.made))).state.plain (Core b) ≡ None
       → ((names : ℕ → ℕ) → names (m (state_at code inputs v c.store (start.chosen ++ c.made))).state.number ≡ b
-      → turn code names (m (state_at code inputs v c.store (start.chosen ++ c.made))) ≡ Went w (m' (state_at code inputs v' store' (start.chosen ++ (c.made ++ b ∷ [])))))
+      → next_move code names (m (state_at code inputs v c.store (start.chosen ++ c.made))) ≡ Went w (m' (state_at code inputs v' store' (start.chosen ++ (c.made ++ b ∷ [])))))
       → (m' (state_at code inputs v' store' (start.chosen ++ (c.made ++ b ∷ [])))).state.number ≡ (m (state_at code inputs v c.store (start.chosen ++ c.made))).state.number + 1
       → ((p : Place) → KnownBlock (length inputs) (known_after [] items') p.block → store' p ≡ contents_after (base_in v'.tables.mods) front' p)
       → Given start.first start.numbers (start.chosen ++ (c.made ++ b ∷ [])) v'.heap
@@ -460,13 +460,13 @@ module _ (code : Code) (inputs : List Block) (start : Start) (st : Stack) (v : V
   made-turn : take_alloc key (first (levels (forest_of (entries now.left ++ now.tail)))) ≡ None → (x u i : ℕ) (env : Variables) (below : Stack)
       → next code (words_of code inputs v.heap) st ≡ Makes key x u i env below
       → (names : ℕ → ℕ) → names (length (start.chosen ++ now.course.made)) ≡ b
-      → turn code names (running_at (state_at code inputs v now.course.store (start.chosen ++ now.course.made)) st now.waits (forest_of (entries now.left ++ now.tail)))
+      → next_move code names (running_at (state_at code inputs v now.course.store (start.chosen ++ now.course.made)) st now.waits (forest_of (entries now.left ++ now.tail)))
       ≡ Went (item.Step ∷ item.Alloc (Core b) key ∷ []) (running_at (state_at code inputs (record { tables = t; heap = heap; spent = v.spent + 1; cursor = s; limit = v.limit; frames = v.frames })
       (cleared code now.course.store (Core b) key) (start.chosen ++ (now.course.made ++ b ∷ [])))
       (Run u i (set env x (pointer key (Core b))) below) now.waits (forest_of (entries now.left ++ now.tail)))
-  unfolding turn
+  unfolding next_move
   made-turn none x u i env below does names e =
-      subst (λ z. turn code names (running_at (state_at code inputs v now.course.store (start.chosen ++ now.course.made)) st now.waits (forest_of (entries now.left ++ now.tail)))
+      subst (λ z. next_move code names (running_at (state_at code inputs v now.course.store (start.chosen ++ now.course.made)) st now.waits (forest_of (entries now.left ++ now.tail)))
       ≡ Went (item.Step ∷ item.Alloc (Core b) key ∷ []) (running_at z (Run u i (set env x (pointer key (Core b))) below) now.waits (forest_of (entries now.left ++ now.tail)))) grown
       (rw (does, none, e) refl)
 

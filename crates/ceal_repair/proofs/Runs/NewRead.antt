@@ -33,7 +33,7 @@ use Rattle.ceal_theory.specs.Levels.{first, levels}
 use Rattle.ceal_theory.specs.Repair.{works, resumed}
 use Rattle.ceal_theory.specs.Slices.{with_inputs}
 use Rattle.ceal_theory.specs.Take.{take_read}
-use Rattle.ceal_theory.specs.Turns.{Went, turn}
+use Rattle.ceal_theory.specs.Moves.{Went, next_move}
 use Rattle.ceal_trace.proofs.Entries.{ends-after}
 use Rattle.ceal_trace.specs.Items.{forest_of}
 use Rattle.ceal_trace.specs.Nodes.{Entry, end_in, new_entry}
@@ -69,12 +69,12 @@ module _ (code : Code) (inputs : List Block) (start : Start) (st : Stack) (v : V
   begun-turn : (p : Place) (u : UnitId) (x : ℕ) (args : List Word) (below : Stack) (word : Word) → take_read p u x args (first (levels (forest_of (entries now.left ++ now.tail)))) ≡ None
       → next code (words_of code inputs v.heap) st ≡ Reads p u x args below
       → now.course.store p ≡ word → (names : ℕ → ℕ)
-      → turn code names (running_at (state_at code inputs v now.course.store (start.chosen ++ now.course.made)) st now.waits (forest_of (entries now.left ++ now.tail)))
+      → next_move code names (running_at (state_at code inputs v now.course.store (start.chosen ++ now.course.made)) st now.waits (forest_of (entries now.left ++ now.tail)))
       ≡ Went (item.Step ∷ item.Read p word u x args ∷ []) (running_at (works (state_at code inputs v now.course.store (start.chosen ++ now.course.made))) (resumed code u x args word)
       (Begins below ∷ now.waits) (forest_of (entries now.left ++ now.tail)))
-  unfolding turn
+  unfolding next_move
   begun-turn p u x args below word none does is names =
-      subst (λ w. turn code names (running_at (state_at code inputs v now.course.store (start.chosen ++ now.course.made)) st now.waits (forest_of (entries now.left ++ now.tail)))
+      subst (λ w. next_move code names (running_at (state_at code inputs v now.course.store (start.chosen ++ now.course.made)) st now.waits (forest_of (entries now.left ++ now.tail)))
       ≡ Went (item.Step ∷ item.Read p w u x args ∷ []) (running_at (works (state_at code inputs v now.course.store (start.chosen ++ now.course.made))) (resumed code u x args w)
       (Begins below ∷ now.waits) (forest_of (entries now.left ++ now.tail))))
       is (rw (does, none) refl)

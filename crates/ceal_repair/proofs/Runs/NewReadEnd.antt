@@ -22,7 +22,7 @@ use Rattle.ceal_repair.specs.declared.tables.Tables.{Tables}
 use Rattle.ceal_theory.specs.Course.{Wait, Begins, running_at}
 use Rattle.ceal_theory.specs.Cover.{known_after}
 use Rattle.ceal_theory.specs.Repair.{State}
-use Rattle.ceal_theory.specs.Turns.{Went, turn}
+use Rattle.ceal_theory.specs.Moves.{Went, next_move}
 use Rattle.ceal_trace.proofs.Entries.{has-read, ends-after, ends_other}
 use Rattle.ceal_trace.proofs.Stamped.{in_head}
 use Rattle.ceal_trace.specs.Items.{forest_of, unclosed_after, unclosed}
@@ -58,8 +58,8 @@ module _ (start : Start) (v : View) (reads : List ℕ) (behind : List Entry) (p 
       (position-front r p.done p.last behind front-has)))
 
 end-turn : (code : Code) (names : ℕ → ℕ) (s : State) (st below : Stack) (ws vs : List Wait) (is : List Item) → ws ≡ Begins below ∷ vs → next code s.plain st ≡ Over
-    → turn code names (running_at s st ws is) ≡ Went (item.End ∷ []) (running_at s below vs is)
-unfolding turn
+    → next_move code names (running_at s st ws is) ≡ Went (item.End ∷ []) (running_at s below vs is)
+unfolding next_move
 end-turn code names s st below ws vs is e over = rw (over, e) refl
 
 module _ (code : Code) (inputs : List Block) (start : Start) (st : Stack) (w : View) (below : Stack) (read : Stamp)
@@ -71,7 +71,7 @@ module _ (code : Code) (inputs : List Block) (start : Start) (st : Stack) (w : V
   among = subst (λ rs. is_in read.0 rs ≡ true) (sym (comes-next now.tails).reads_are) (in_head read.0 (comes-next now.tails).reads)
 
   ended-turn : next code (words_of code inputs w.heap) st ≡ Over → (names : ℕ → ℕ)
-      → turn code names (running_at (state_at code inputs (record {
+      → next_move code names (running_at (state_at code inputs (record {
         tables = w.tables;
         heap = w.heap;
         spent = w.spent;

@@ -33,7 +33,7 @@ use Rattle.ceal_theory.specs.Known.{KnownItems}
 use Rattle.ceal_theory.specs.Named.{then_from}
 use Rattle.ceal_theory.specs.Cover.{known_after}
 use Rattle.ceal_theory.specs.Repair.{State}
-use Rattle.ceal_theory.specs.Turns.{Ended, TakesTurn, turn}
+use Rattle.ceal_theory.specs.Moves.{Ended, IsMove, next_move}
 use Rattle.ceal_theory.proofs.SlicedRepair.AddedBlocks.{anew-adds}
 use Rattle.ceal_theory.proofs.TurnMachine.MachineLaws.{machine-law}
 use Rattle.ceal_trace.proofs.Entries.{has-read}
@@ -79,8 +79,8 @@ module _ (code : Code) (inputs : List Block) (f : ℕ) (args : List Word) (fits 
     comes = subst (λ ws. ComesBy code (first_begins code inputs f args) (running_at state st ws []) now.course.made now.course.out) bottom.1
         (subst (λ es. ComesBy code (first_begins code inputs f args) (running_at state st now.waits (forest_of es)) now.course.made now.course.out) behind-none now.course.comes)
 
-    ends : (names : ℕ → ℕ) → turn code names (running_at state st [] []) ≡ Ended
-    unfolding turn
+    ends : (names : ℕ → ℕ) → next_move code names (running_at state st [] []) ≡ Ended
+    unfolding next_move
     ends names = rw over refl
 
     abbrev ended : EndedFirst code inputs f args now.course.made state now.course.out
@@ -109,7 +109,7 @@ module _ (code : Code) (inputs : List Block) (f : ℕ) (args : List Word) (fits 
     few-numbers =
         let g = goes-on [] now.course.made now.course.given.distinct (λ b i. refl) in
         let m = machine-law code g.names in
-        let last = subst (λ t. TakesTurn code g.names (running_at state st [] []) t) (ends g.names) (m.turns (running_at state st [] [])) in
+        let last = subst (λ t. IsMove code g.names (running_at state st [] []) t) (ends g.names) (m.turns (running_at state st [] [])) in
         let done = (comes.leads g.names g.continues).back state [] last.back in
         let whole = (m.runs (first_begins code inputs f args).state state (started code f args) Nothing (now.course.out ++ [])).0 done in
         let room = (anew-adds code whole.3).work in

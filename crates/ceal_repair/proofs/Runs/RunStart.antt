@@ -30,7 +30,7 @@ use Rattle.ceal_theory.specs.Groves.{Bare}
 use Rattle.ceal_theory.specs.Known.{KnowingLaws, Knows, none}
 use Rattle.ceal_theory.specs.KnownContent.{allocs}
 use Rattle.ceal_theory.specs.Slices.{with_inputs}
-use Rattle.ceal_theory.specs.Turns.{Machine}
+use Rattle.ceal_theory.specs.Moves.{Machine}
 use Rattle.ceal_trace.specs.Items.{forest_of}
 use Rattle.ceal_trace.specs.Nodes.{Entry, stamps_in, node_at, new_entry, held_by}
 use Rattle.ceal_trace.specs.declared.node.Node.TheVariants.{Root, Alloc, Read}

@@ -36,7 +36,7 @@ use Rattle.ceal_theory.specs.Cover.{known_after}
 use Rattle.ceal_theory.specs.Known.{Knows, KnownItems, GoesKnowing}
 use Rattle.ceal_theory.specs.KnownContent.{allocs}
 use Rattle.ceal_theory.specs.Repair.{State}
-use Rattle.ceal_theory.specs.Turns.{Machine, Went, turn}
+use Rattle.ceal_theory.specs.Moves.{Machine, Went, next_move}
 use Rattle.ceal_trace.proofs.Entries.{stamps-changed, ends-changed, ends-after, entry-old}
 use Rattle.ceal_trace.specs.Items.{item_of, forest_of, unclosed_after, unclosed}
 use Rattle.ceal_trace.specs.Nodes.{Entry, Inserted, stamps_in, has_node, node_at, steps_at, end_in, held_by, new_entry, with_entry_after, with_steps, steps_set}
@@ -162,7 +162,7 @@ module _ (code : Code) (inputs : List Block) (heap : Contents) (old new : Tables
 module _ (code : Code) (inputs : List Block) (start : Start) (v : View) (front : List Entry) (items : List Item) (m : State → Machine) (c : CourseNow code inputs start v front items m) where
   -- after one turn that makes no block
   pub course-turn : (v' : View) (front' : List Entry) (items' : List Item) (m' : State → Machine) (w : List Item) (store' : Store) → items' ≡ items ++ w
-      → ((names : ℕ → ℕ) → turn code names (m (state_at code inputs v c.store (start.chosen ++ c.made))) ≡ Went w (m' (state_at code inputs v' store' (start.chosen ++ c.made))))
+      → ((names : ℕ → ℕ) → next_move code names (m (state_at code inputs v c.store (start.chosen ++ c.made))) ≡ Went w (m' (state_at code inputs v' store' (start.chosen ++ c.made))))
       → (m' (state_at code inputs v' store' (start.chosen ++ c.made))).state.number ≡ (m (state_at code inputs v c.store (start.chosen ++ c.made))).state.number
       → ((p : Place) → KnownBlock (length inputs) (known_after [] items') p.block → store' p ≡ contents_after (base_in v'.tables.mods) front' p)
       → Given start.first start.numbers (start.chosen ++ c.made) v'.heap
@@ -192,7 +192,7 @@ module _ (code : Code) (inputs : List Block) (start : Start) (st : Stack) (v : V
   -- a step that leaves no item but itself
   pub now-quiet : (after : Stack) (t : Tables) → next code (words_of code inputs v.heap) st ≡ Quiet after → StepMore v.cursor v.tables t
       → RunningNow code inputs start after (record { tables = t; heap = v.heap; spent = v.spent + 1; cursor = v.cursor; limit = v.limit; frames = v.frames })
-  unfolding turn placed-step
+  unfolding next_move placed-step
   now-quiet after t does h = record {
     reads = now.reads;
     left = now.left;
@@ -246,7 +246,7 @@ module _ (code : Code) (inputs : List Block) (start : Start) (st : Stack) (v : V
   pub now-write : (after : Stack) (p : Place) (value : Word) (t1 t : Tables) (s : ℕ) → next code (words_of code inputs v.heap) st ≡ Writes p value after
       → StepMore v.cursor v.tables t1 → NodeMore v.cursor s (Write p value) t1 t
       → RunningNow code inputs start after (record { tables = t; heap = v.heap; spent = v.spent + 1; cursor = s; limit = v.limit; frames = v.frames })
-  unfolding turn placed-step placed-put
+  unfolding next_move placed-step placed-put
   now-write after p value t1 t s does h k = record {
     reads = now.reads;
     left = now.left;

@@ -3,14 +3,14 @@ use Rattle.std.proofs.Common.{◌≡◌, ◌+◌, ℕ, Bool, List, [], ◌∷◌
 use Rattle.std.proofs.lemmas.List.{length-append}
 use Rattle.ceal_lex.specs.Characters.{STAR, SLASH}
 use Rattle.ceal_lex.specs.Pieces.{Piece, space, line_comment, block_comment, token, spelled}
-use Rattle.ceal_lex.specs.Tokens.{AreTokens, ending, tokens_from}
+use Rattle.ceal_lex.specs.Tokens.{AreTokens, last_token, tokens_from}
 use Rattle.ceal_lex.specs.declared.token.Token.{Token}
 use Rattle.ceal_serve.proofs.Places.Near.{Each, Near}
 
 abbrev pub TokenNear : ℕ → Token → Type 0
 TokenNear n t = Near n t.span
 
-pieces-near : (ps : List Piece) (at to : ℕ) (marked : Bool) → at + length (spelled ps []) ≡ to → Each (TokenNear to) (tokens_from at ps ++ ending marked to ∷ [])
+pieces-near : (ps : List Piece) (at to : ℕ) (marked : Bool) → at + length (spelled ps []) ≡ to → Each (TokenNear to) (tokens_from at ps ++ last_token marked to ∷ [])
 unfolding spelled tokens_from Each
 pieces-near [] at to marked e = (omega arith, tt)
 pieces-near (space b ∷ ps) at to marked e = pieces-near ps (at + 1) to marked (omega (arith, e))

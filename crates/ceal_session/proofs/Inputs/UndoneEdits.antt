@@ -1,6 +1,6 @@
 -- Edits of bases that are undone.
 use Rattle.std.proofs.Common.{◌≡◌, ℕ, zero, suc, ◌<◌, Option, Some, None, List, [], ◌∷◌, ◌++◌, length, slice_get, slice_set, unwrap_or, refl, sym, ap, ◌∙◌, subst, arith}
-use Rattle.ceal_base.specs.Block.{Block, changed, with_word, written_at, alone}
+use Rattle.ceal_base.specs.Block.{Block, with_field, with_word, written_at, alone}
 use Rattle.ceal_base.specs.declared.word.BlockId.{BlockId}
 use Rattle.ceal_base.specs.declared.word.BlockId.TheVariants.{Input, Core}
 use Rattle.ceal_base.specs.declared.word.Place.{Place}
@@ -48,7 +48,7 @@ set-count [] n x = refl
 set-count (z ∷ xs) zero x = refl
 set-count (z ∷ xs) (suc n) x = omega (arith, set-count xs n x)
 
-changed-count : (inputs : List Block) (o : Option Block) (n field : ℕ) (w : Word) → length (changed inputs o n field w) ≡ length inputs
+changed-count : (inputs : List Block) (o : Option Block) (n field : ℕ) (w : Word) → length (with_field inputs o n field w) ≡ length inputs
 changed-count inputs None n field w = refl
 changed-count inputs (Some b) n field w = set-count inputs n _
 
@@ -68,7 +68,7 @@ undone-more (d ∷ es) e inputs = ap (λ i. with_base i d.place d.base) (undone-
 pub put-back : (inputs : List Block) (p : Place) (word : Word) → with_base (with_base inputs p word) p (base_at inputs p) ≡ inputs
 put-back inputs p word = go p.block
   where
-    in-block : (n : ℕ) (o : Option Block) → slice_get inputs n ≡ o → with_word (changed inputs o n p.field word) n p.field (word_of o p.field) ≡ inputs
+    in-block : (n : ℕ) (o : Option Block) → slice_get inputs n ≡ o → with_word (with_field inputs o n p.field word) n p.field (word_of o p.field) ≡ inputs
     in-block n None e = rw e refl
     in-block n (Some b) e =
         rw (get-set inputs n (record b { words = slice_set b.words p.field word }) b e)
@@ -82,7 +82,7 @@ put-back inputs p word = go p.block
 base-longer : (inputs : List Block) (b : Block) (p : Place) (w : Word) → IsWithin (length inputs) p.block → with_base (inputs ++ b ∷ []) p w ≡ with_base inputs p w ++ b ∷ []
 base-longer inputs b p w h = go p.block h
   where
-    in-block : (n : ℕ) (o : Option Block) → n < length inputs → changed (inputs ++ b ∷ []) o n p.field w ≡ changed inputs o n p.field w ++ b ∷ []
+    in-block : (n : ℕ) (o : Option Block) → n < length inputs → with_field (inputs ++ b ∷ []) o n p.field w ≡ with_field inputs o n p.field w ++ b ∷ []
     in-block n None h = refl
     in-block n (Some c) h = set-longer inputs (b ∷ []) n _ h
 
@@ -127,7 +127,7 @@ pub shapes-base : (inputs : List Block) (p : Place) (w : Word) → ShapesKept (a
 shapes-base inputs p w (Core c) y h = none-some y h
 shapes-base inputs p w (Input i) y h = go p.block
   where
-    in-block : (n : ℕ) (o : Option Block) → slice_get inputs n ≡ o → (z : Block) × (slice_get (changed inputs o n p.field w) i ≡ Some z) × (z.shape ≡ y.shape)
+    in-block : (n : ℕ) (o : Option Block) → slice_get inputs n ≡ o → (z : Block) × (slice_get (with_field inputs o n p.field w) i ≡ Some z) × (z.shape ≡ y.shape)
     in-block n None e = (y, h, refl)
     in-block n (Some b) e = shape-set inputs n i (record b { words = slice_set b.words p.field w }) b e y h refl
 

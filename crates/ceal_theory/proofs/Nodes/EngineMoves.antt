@@ -1,7 +1,7 @@
 -- What an engine does to its nodes, as moves of the machine and steps that are dropped.
 use Rattle.std.proofs.Common.{◌≡◌, ℕ, zero, suc, true, false, Some, None, List, [], ◌∷◌, ◌++◌, refl, sym, ap, ◌∙◌, subst, append_assoc, append-nil}
 use Rattle.ceal_base.specs.Operators.{same_word}
-use Rattle.ceal_base.specs.Trace.{Trace, Stepped, flat, followed}
+use Rattle.ceal_base.specs.Trace.{Trace, Stepped, flat, trace_then}
 use Rattle.ceal_base.specs.declared.forest.Item.{Item}
 use Rattle.ceal_base.specs.declared.forest.Item.TheVariants.{Step, Alloc, Write, Read, End}
 use Rattle.ceal_base.specs.declared.forest.Key.{Key}
@@ -23,7 +23,7 @@ use Rattle.ceal_theory.specs.Groves.{Knot, Grove, Bare, Made, Put, Got, stepped,
 use Rattle.ceal_theory.specs.Levels.{first, around, levels}
 use Rattle.ceal_theory.specs.Repair.{State, clears, puts, works, grows, resumed}
 use Rattle.ceal_theory.specs.Take.{TakenAlloc, TakenRead, take_alloc, take_read}
-use Rattle.ceal_theory.specs.Turns.{Fixing, Running, AfterMend, Machine, Went, turn, BecomesBy}
+use Rattle.ceal_theory.specs.Moves.{Fixing, Running, AfterMend, Machine, Went, next_move, BecomesBy}
 use Rattle.ceal_theory.specs.Walk.{with_store, store_after, AgreesAll}
 
 -- steps in front of items
@@ -56,7 +56,7 @@ items-knots (Got s p v u x args n inside e m rest) =
 pub first-knots : (g : Grove) {tail : List Knot} → Closes tail → first (levels (items_in (knots g ++ tail))) ≡ trace_in g
 first-knots g {tail} c = rw (items-append (knots g) tail, items-knots g, first-flat (trace_in g) (items_in tail)) (go c)
   where
-    go : {tail : List Knot} → Closes tail → followed (trace_in g) (first (levels (items_in tail))) ≡ trace_in g
+    go : {tail : List Knot} → Closes tail → trace_then (trace_in g) (first (levels (items_in tail))) ≡ trace_in g
     go Closes.nothing = followed-nothing (trace_in g)
     go (Closes.closes e m rest) = followed-nothing (trace_in g)
 
@@ -79,19 +79,19 @@ module _ (code : Code) (names : ℕ → ℕ) where
   bare-self m = record { state = refl; mode = mode-self code names m.mode; frames = frames-self code names m.frames }
 
   -- one move, and then steps that are dropped
-  turn-then : (m m1 m2 : Machine) (w : List Item) → turn code names m ≡ Went w m1 → BareSame m1 m2 → BecomesBy code names m m2 w
+  turn-then : (m m1 m2 : Machine) (w : List Item) → next_move code names m ≡ Went w m1 → BareSame m1 m2 → BecomesBy code names m m2 w
   turn-then m m1 m2 w e d = subst (λ o. BecomesBy code names m m2 o) (append-nil w) (leads-then code names m m1 m2 w [] (leads-turn code names m m1 w e) (bare-law code names m1 m2 d))
 
-  one-turn : (m m1 : Machine) (w : List Item) → turn code names m ≡ Went w m1 → BecomesBy code names m m1 w
+  one-turn : (m m1 : Machine) (w : List Item) → next_move code names m ≡ Went w m1 → BecomesBy code names m m1 w
   one-turn m m1 w e = leads-turn code names m m1 w e
 
   -- one move, and what follows
-  and-on : (m m1 m2 : Machine) (i : Item) (is : List Item) → turn code names m ≡ Went (i ∷ []) m1 → BecomesBy code names m1 m2 is → BecomesBy code names m m2 (i ∷ is)
+  and-on : (m m1 m2 : Machine) (i : Item) (is : List Item) → next_move code names m ≡ Went (i ∷ []) m1 → BecomesBy code names m1 m2 is → BecomesBy code names m m2 (i ∷ is)
   and-on m m1 m2 i is e l = leads-then code names m m1 m2 (i ∷ []) is (leads-turn code names m m1 (i ∷ []) e) l
 
   pub passes : {ws vs : List Wait} {is : List Item} → Nested ws is vs → (s : State) → AgreesAll code s.store is → (rest : List Item)
       → BecomesBy code names (fixing_at s ws (is ++ rest)) (fixing_at (with_store s (store_after code s.store is)) vs rest) is
-  unfolding turn
+  unfolding next_move
   passes {ws} Nested.none s h rest = leads-stays code names (fixing_at s ws rest)
   passes {ws} {vs} (Nested.step {is = is} n) s h rest =
       and-on (fixing_at s ws (Step ∷ (is ++ rest))) (fixing_at s ws (is ++ rest)) (fixing_at (with_store s (store_after code s.store is)) vs rest) Step is refl (passes n s h.1 rest)
@@ -115,7 +115,7 @@ module _ (code : Code) (names : ℕ → ℕ) where
       → Comes (fixing_at s ws (items_in (knot stamp (Read p value u v args) n ∷ back)))
       (Read p (s.store p) u v args ∷ []) (running_at s (resumed code u v args (s.store p)) (Fixes ∷ ws)
       (items_in back))
-  unfolding turn
+  unfolding next_move
   repairs s ws p value u v args stamp n back e =
       turn-then (fixing_at s ws (items_in (knot stamp (Read p value u v args) n ∷ back))) (running_at s (resumed code u v args (s.store p)) (Fixes ∷ ws) (ticks n ++ items_in back))
       (running_at s (resumed code u v args (s.store p)) (Fixes ∷ ws) (items_in back))
@@ -125,7 +125,7 @@ module _ (code : Code) (names : ℕ → ℕ) where
   -- its unit is over: what is left over is revoked, and what is kept continues after its end
   pub repaired : (s : State) (st : Stack) (ws : List Wait) (g : Grove) (e m : ℕ) (rest : List Knot) → next code s.plain st ≡ Over
       → Comes (running_at s st (Fixes ∷ ws) (items_in (knots g ++ knot e End m ∷ rest))) (End ∷ []) (fixing_at s ws (ticks m ++ items_in rest))
-  unfolding turn
+  unfolding next_move
   repaired s st ws g e m rest h =
       rw (around-knots g (knot e End m ∷ rest))
       (one-turn (record {
@@ -140,7 +140,7 @@ module _ (code : Code) (names : ℕ → ℕ) where
   -- a taken read that was re-executed is over: what was left over after it is used from here on
   pub retaken : (s : State) (st below : Stack) (ws : List Wait) (g : Grove) (e m : ℕ) (rest : List Knot) → next code s.plain st ≡ Over
       → Comes (running_at s st (Takes below ∷ ws) (items_in (knots g ++ knot e End m ∷ rest))) (End ∷ []) (running_at s below ws (items_in rest))
-  unfolding turn
+  unfolding next_move
   retaken s st below ws g e m rest h =
       rw (around-knots g (knot e End m ∷ rest))
       (turn-then (record {
@@ -155,7 +155,7 @@ module _ (code : Code) (names : ℕ → ℕ) where
   -- a taken read that was kept is over
   pub passed : (s : State) (below : Stack) (ws : List Wait) (e m : ℕ) (rest : List Knot)
       → Comes (fixing_at s (Takes below ∷ ws) (items_in (knot e End m ∷ rest))) (End ∷ []) (running_at s below ws (items_in rest))
-  unfolding turn
+  unfolding next_move
   passed s below ws e m rest =
       turn-then (fixing_at s (Takes below ∷ ws) (items_in (knot e End m ∷ rest)))
       (running_at s below ws (ticks m ++ items_in rest)) (running_at s below ws (items_in rest)) (End ∷ []) refl
@@ -164,7 +164,7 @@ module _ (code : Code) (names : ℕ → ℕ) where
   -- a new read is over: its end is put in
   pub finished : (s : State) (st below : Stack) (ws : List Wait) (is : List Item) → next code s.plain st ≡ Over
       → Comes (running_at s st (Begins below ∷ ws) is) (End ∷ []) (running_at s below ws is)
-  unfolding turn
+  unfolding next_move
   finished s st below ws is h = one-turn (running_at s st (Begins below ∷ ws) is) (running_at s below ws is) (End ∷ []) (rw h refl)
 
   -- an allocation is taken, and all before it is revoked: it is the one that the definition takes
@@ -173,7 +173,7 @@ module _ (code : Code) (names : ℕ → ℕ) where
       → take_alloc key (trace_in g) ≡ Some t → bare t.leftover ≡ bare (trace_in rest)
       → Comes (running_at s st ws (items_in (knots g ++ tail))) (Step ∷ Alloc t.block key ∷ [])
       (running_at (clears code (works s) t.block key) (Run u i (set env v (pointer key t.block)) below) ws (items_in (knots rest ++ tail)))
-  unfolding turn
+  unfolding next_move
   alloc-taken s st ws g tail key v u i env below t rest c h k b =
       let after : Stack = Run u i (set env v (pointer key t.block)) below in
       let s1 : State = clears code (works s) t.block key in
@@ -190,7 +190,7 @@ module _ (code : Code) (names : ℕ → ℕ) where
       → names s.number ≡ b → Closes tail → next code s.plain st ≡ Makes key v u i env below → take_alloc key (trace_in g) ≡ None
       → Comes (running_at s st ws (items_in (knots g ++ tail))) (Step ∷ Alloc (Core b) key ∷ [])
       (running_at (grows code (λ k. b) (works s) key) (Run u i (set env v (pointer key (Core b))) below) ws (items_in (knots g ++ tail)))
-  unfolding turn
+  unfolding next_move
   alloc-made s st ws g tail key v u i env below b e c h k =
       let after : Stack = Run u i (set env v (pointer key (Core b))) below in
       let s1 : State = grows code (λ k. b) (works s) key in
@@ -202,13 +202,13 @@ module _ (code : Code) (names : ℕ → ℕ) where
   -- a write
   pub write-put : (s : State) (st after : Stack) (ws : List Wait) (is : List Item) (p : Place) (value : Word) → next code s.plain st ≡ Writes p value after
       → Comes (running_at s st ws is) (Step ∷ Write p value ∷ []) (running_at (puts (works s) p value) after ws is)
-  unfolding turn
+  unfolding next_move
   write-put s st after ws is p value h = one-turn (running_at s st ws is) (running_at (puts (works s) p value) after ws is) (Step ∷ Write p value ∷ []) (rw h refl)
 
   -- a step
   pub step-done : (s : State) (st after : Stack) (ws : List Wait) (is : List Item) → next code s.plain st ≡ Quiet after
       → Comes (running_at s st ws is) (Step ∷ []) (running_at (works s) after ws is)
-  unfolding turn
+  unfolding next_move
   step-done s st after ws is h = one-turn (running_at s st ws is) (running_at (works s) after ws is) (Step ∷ []) (rw h refl)
 
   -- a new read, which shares what is left over
@@ -216,7 +216,7 @@ module _ (code : Code) (names : ℕ → ℕ) where
       → next code s.plain st ≡ Reads p u v args below → take_read p u v args (trace_in g) ≡ None
       → Comes (running_at s st ws (items_in (knots g ++ tail))) (Step ∷ Read p (s.store p) u v args ∷ [])
       (running_at (works s) (resumed code u v args (s.store p)) (Begins below ∷ ws) (items_in (knots g ++ tail)))
-  unfolding turn
+  unfolding next_move
   read-begun s st below ws g tail p u v args c h k =
       one-turn (running_at s st ws (items_in (knots g ++ tail)))
       (running_at (works s) (resumed code u v args (s.store p)) (Begins below ∷ ws) (items_in (knots g ++ tail)))
@@ -246,7 +246,7 @@ module _ (code : Code) (names : ℕ → ℕ) where
     -- it is honest, and what is inside it is gone through
     pub read-taken : same_word (s.store p) t.value ≡ true
         → Comes (running_at s st ws (items_in (knots g ++ tail))) (Step ∷ Read p (s.store p) u v args ∷ []) (fixing_at (works s) (Takes below ∷ ws) (ticks n ++ items_in taken_nodes))
-    unfolding turn
+    unfolding next_move
     read-taken same =
         turn-then (running_at s st ws (items_in (knots g ++ tail)))
         (record {
@@ -266,7 +266,7 @@ module _ (code : Code) (names : ℕ → ℕ) where
     pub read-retaken : same_word (s.store p) t.value ≡ false
         → Comes (running_at s st ws (items_in (knots g ++ tail))) (Step ∷ Read p (s.store p) u v args ∷ [])
         (running_at (works s) (resumed code u v args (s.store p)) (Takes below ∷ ws) (items_in taken_nodes))
-    unfolding turn
+    unfolding next_move
     read-retaken other =
         turn-then (running_at s st ws (items_in (knots g ++ tail)))
         (record {

@@ -24,7 +24,7 @@ use Rattle.ceal_theory.specs.Levels.{first, levels}
 use Rattle.ceal_theory.specs.Repair.{resumed}
 use Rattle.ceal_theory.specs.SliceLaws.{unit_alone, FirstStale}
 use Rattle.ceal_theory.specs.Slices.{with_inputs, Uses, starting}
-use Rattle.ceal_theory.specs.Turns.{Machine, Ended, turn, Finishes, Goes, Ends, TakesTurn, BecomesBy}
+use Rattle.ceal_theory.specs.Moves.{Machine, Ended, next_move, Finishes, Goes, Ends, IsMove, BecomesBy}
 use Rattle.ceal_theory.specs.Walk.{AgreesAll}
 
 steps-front : (is js : List Item) → steps_in is ≤ steps_in (is ++ js)
@@ -42,8 +42,8 @@ work-law code names start m out l t items f = of (l.ahead t items f)
     of g = (finishes-rises g.finishes, subst (λ is. steps_in out ≤ steps_in is) (sym g.same) (steps-front out g.rest))
 
 -- a machine whose move is its last finishes with what it has
-ended-finishes : (code : Code) (names : ℕ → ℕ) (m : Machine) → turn code names m ≡ Ended → Finishes code names m m.state []
-ended-finishes code names m e = of (subst (TakesTurn code names m) e (takes-turn code names m))
+ended-finishes : (code : Code) (names : ℕ → ℕ) (m : Machine) → next_move code names m ≡ Ended → Finishes code names m m.state []
+ended-finishes code names m e = of (subst (IsMove code names m) e (takes-turn code names m))
   where
     of : Ends code names m → Finishes code names m m.state []
     of h = h.back

@@ -21,7 +21,7 @@ use Rattle.ceal_theory.proofs.Store.WordsGrow.{anew-grows}
 use Rattle.ceal_theory.proofs.Repair.Honesty.{anew-honest}
 use Rattle.ceal_theory.proofs.Repair.RepairYields.{anew-plays}
 use Rattle.ceal_theory.proofs.Store.EqualContents.{stored-equal, cleared-equal}
-use Rattle.ceal_theory.specs.Repair.{State, resumed, Anew}
+use Rattle.ceal_theory.specs.Repair.{State, resumed, Reruns}
 use Rattle.ceal_theory.proofs.Store.KnownPlaces.{honest-again}
 use Rattle.ceal_theory.proofs.QueueCover.Cover.{same-on, cover, covered-front, covered-behind, honest-front, none-waits}
 use Rattle.ceal_theory.proofs.Store.Walk.{agrees-append, flat-honest}
@@ -135,7 +135,7 @@ module _ {names : ℕ → ℕ} (code : Code) (inputs : List Block) (f : ℕ) (ws
 module _ {names : ℕ → ℕ} (code : Code) (inputs : List Block) (f : ℕ) (ws : List Word) (fits : Fits code inputs f ws)
     (r : Repair) (h : RepairHolds code names inputs f ws r) {front back : List Item} {w : Store} {p : Place} {value : Word} {u : UnitId} {v : ℕ} {args : List Word} {inside : Trace}
     (at : At code (starting code inputs r.known) r.items front w p value u v args inside back) (t : State)
-    (new left : Trace) (a : Anew code names (with_store (goes_on code inputs r) w)
+    (new left : Trace) (a : Reruns code names (with_store (goes_on code inputs r) w)
     (resumed code u v args (w p)) inside t new left) where
   ready : Ready names h.single code (length inputs) (with_inputs code inputs r.known) (known_after [] front) (with_store (goes_on code inputs r) w) p value u v args inside
   ready = sound-ready code inputs f ws fits r h at

@@ -25,7 +25,7 @@ use Rattle.ceal_theory.proofs.Renaming.RenamedTrace.{honest-renamed}
 use Rattle.ceal_theory.proofs.Renaming.RepairSideBySide.{given-too, equal-too, apart-too, twin-clears, twin-puts, Sides, ComesFrom, Twin, RanToo, fix-too, anew-too}
 use Rattle.ceal_theory.specs.Repair.{Single, State, clears, puts, resumed}
 use Rattle.ceal_theory.proofs.SlicedRepair.SliceFunction.{sliced-sound, sliced-found}
-use Rattle.ceal_theory.specs.Slices.{Repair, with_inputs, default_in, starting_in, starting, goes_on, Part, Runs, repair_at, Slices, sliced, AlikeRepairs, ComesBehind, RenamedSlices}
+use Rattle.ceal_theory.specs.Slices.{Repair, with_inputs, default_in, starting_in, starting, goes_on, Part, Runs, repair_at, Slices, sliced, AlikeRepairs, IsOldOrNewPair, RenamedSlices}
 
 module _ (code : Code) (sides : Sides) where
   pub record PartToo (ps : Pairs) (k j : ℕ) (s' : State) (new : Trace) (t : State) (old' : Trace) : Type 0 where
@@ -189,11 +189,11 @@ module _ (code : Code) (inputs : List Block) (fit : inputs_fit code.structs inpu
       pub pairs : Pairs
       pub wider : Within ps pairs
       pub alike : AlikeRepairs code names names' inputs pairs r' repair
-      pub from : (b c : ℕ) → Tied b c pairs → ComesBehind names names' ps r q b c
+      pub from : (b c : ℕ) → Tied b c pairs → IsOldOrNewPair names names' ps r q b c
 
-    behind : (ps : Pairs) (r q : Repair) (b c : ℕ) → ComesFrom (sides ps r q) b c → ComesBehind names names' ps r q b c
-    behind ps r q b c (ComesFrom.begun t) = ComesBehind.old t
-    behind ps r q b c (ComesFrom.grown k e e') = ComesBehind.new k e e'
+    behind : (ps : Pairs) (r q : Repair) (b c : ℕ) → ComesFrom (sides ps r q) b c → IsOldOrNewPair names names' ps r q b c
+    behind ps r q b c (ComesFrom.begun t) = IsOldOrNewPair.old t
+    behind ps r q b c (ComesFrom.grown k e e') = IsOldOrNewPair.new k e e'
 
     pub slice-too : (ps : Pairs) (r q : Repair) → AlikeRepairs code names names' inputs ps r q → (k : Option ℕ) (r' : Repair) → Slices code names inputs k r r' → SlicesToo ps k r r' q
     slice-too ps r q h k r' s = subst (λ r'. SlicesToo ps k r r' q) (sym s.is) (finish (runs-too code (sides ps r q) s.runs ps (goes_on code inputs q) h.items (twin ps r q h)))

@@ -2,7 +2,7 @@
 use Rattle.std.proofs.Common.{◌≡◌, ℕ, ◌+◌, ◌≤◌, Bool, true, false, ◌==◌, ◌&&◌, if◌then◌else◌, Option, Some, None, List, ◌∷◌, ◌⊎◌, inl, inr, refl, sym, ap, ap₂, ◌∙◌, subst, arith}
 use Rattle.ceal_base.specs.Block.{Block}
 use Rattle.ceal_base.specs.Operators.{same_place, same_word}
-use Rattle.ceal_base.specs.Trace.{Trace, Nothing, Stepped, Allocated, Wrote, WasRead, followed}
+use Rattle.ceal_base.specs.Trace.{Trace, Nothing, Stepped, Allocated, Wrote, WasRead, trace_then}
 use Rattle.ceal_base.specs.declared.forest.Key.{Key}
 use Rattle.ceal_base.specs.declared.forest.UnitId.{UnitId}
 use Rattle.ceal_base.specs.declared.word.BlockId.{BlockId}
@@ -26,7 +26,7 @@ use Rattle.ceal_code.specs.Replay.{learnt}
 use Rattle.ceal_code.specs.Step.{Stack, Run, Act, Over, Quiet, Makes, Writes, Reads, next}
 use Rattle.ceal_code.specs.Value.{Plain, Variables, set}
 use Rattle.ceal_theory.proofs.Store.WordsGrow.{learnt-here}
-use Rattle.ceal_theory.specs.Repair.{State, Single, clears, puts, works, grows, resumed, Fix, Mend, Anew}
+use Rattle.ceal_theory.specs.Repair.{State, Single, clears, puts, works, grows, resumed, Fix, Mend, Reruns}
 use Rattle.ceal_theory.specs.Take.{TakenAlloc, TakenRead, same_words, same_key, alloc_then, read_then, take_alloc, take_read}
 
 -- what two takings have in common
@@ -56,7 +56,7 @@ module _ (ps : Pairs) (one : OneToOne ps) where
   key-both KeyAlike.pointer KeyAlike.int = refl
   key-both KeyAlike.pointer KeyAlike.pointer = refl
 
-  followed-alike : {f g h k : Trace} → TraceAlike ps f g → TraceAlike ps h k → TraceAlike ps (followed f h) (followed g k)
+  followed-alike : {f g h k : Trace} → TraceAlike ps f g → TraceAlike ps h k → TraceAlike ps (trace_then f h) (trace_then g k)
   followed-alike TraceAlike.nothing t = t
   followed-alike (TraceAlike.stepped s) t = TraceAlike.stepped (followed-alike s t)
   followed-alike (TraceAlike.allocated b k s) t = TraceAlike.allocated b k (followed-alike s t)
@@ -314,7 +314,7 @@ pub record RanToo (code : Code) (sides : Sides) (ps : Pairs) (s' : State) (new l
   pub state : State
   pub items : Trace
   pub over : Trace
-  pub anew : Anew code sides.right t st' old' state items over
+  pub anew : Reruns code sides.right t st' old' state items over
   pub pairs : Pairs
   pub wider : Within ps pairs
   pub alike : TraceAlike pairs new items
@@ -364,7 +364,7 @@ module _ (code : Code) (sides : Sides) where
         state = x.state;
         items = Stepped (WasRead q (t.store q) u y args' mend.items x.items);
         over = x.over;
-        anew = Anew.takes_read e w mend.mend x.anew;
+        anew = Reruns.takes_read e w mend.mend x.anew;
         pairs = x.pairs;
         wider = within-trans ps mend.pairs x.pairs mend.wider x.wider;
         alike = TraceAlike.stepped (TraceAlike.was_read
@@ -388,7 +388,7 @@ module _ (code : Code) (sides : Sides) where
         state = x.state;
         items = Stepped (WasRead q (t.store q) u y args' r.items x.items);
         over = x.over;
-        anew = Anew.reads e w r.anew x.anew;
+        anew = Reruns.reads e w r.anew x.anew;
         pairs = x.pairs;
         wider = within-trans ps r.pairs x.pairs r.wider x.wider;
         alike = TraceAlike.stepped (TraceAlike.was_read
@@ -433,7 +433,7 @@ module _ (code : Code) (sides : Sides) where
     state = x.state;
     items = Stepped x.items;
     over = x.over;
-    anew = Anew.quiet e x.anew;
+    anew = Reruns.quiet e x.anew;
     pairs = x.pairs;
     wider = x.wider;
     alike = TraceAlike.stepped x.alike;
@@ -448,7 +448,7 @@ module _ (code : Code) (sides : Sides) where
     state = x.state;
     items = Stepped (Wrote q w x.items);
     over = x.over;
-    anew = Anew.writes e x.anew;
+    anew = Reruns.writes e x.anew;
     pairs = x.pairs;
     wider = x.wider;
     alike = TraceAlike.stepped (TraceAlike.wrote (place-wider ps x.pairs x.wider kp) (word-wider ps x.pairs x.wider kv) x.alike);
@@ -465,7 +465,7 @@ module _ (code : Code) (sides : Sides) where
     state = x.state;
     items = Stepped (Allocated x'.block key' x.items);
     over = x.over;
-    anew = Anew.takes_alloc e w x.anew;
+    anew = Reruns.takes_alloc e w x.anew;
     pairs = x.pairs;
     wider = x.wider;
     alike = TraceAlike.stepped (TraceAlike.allocated (id-wider ps x.pairs x.wider j) (key-wider ps x.pairs x.wider k) x.alike);
@@ -485,7 +485,7 @@ module _ (code : Code) (sides : Sides) where
         state = x.state;
         items = Stepped (Allocated (Core (sides.right t.number)) key' x.items);
         over = x.over;
-        anew = Anew.makes e w x.anew;
+        anew = Reruns.makes e w x.anew;
         pairs = x.pairs;
         wider = more;
         alike = TraceAlike.stepped (TraceAlike.allocated (IdAlike.core (x.wider b (sides.right t.number) Tied.here)) (key-wider ps x.pairs more k) x.alike);
@@ -543,29 +543,29 @@ module _ (code : Code) (sides : Sides) where
           twin = x.twin;
         }
 
-    pub anew-too : {s s' : State} {st : Stack} {old new left : Trace} → Anew code sides.left s st old s' new left →
+    pub anew-too : {s s' : State} {st : Stack} {old new left : Trace} → Reruns code sides.left s st old s' new left →
         (ps : Pairs) (t : State) {st' : Stack} → StackAlike ps st st' → {old' : Trace} → TraceAlike ps old old'
         → Twin code sides ps s t
         → RanToo code sides ps s' new left t st' old'
-    anew-too {s} {s'} {st} (Anew.over e) ps t {st'} ks {old'} h k = record {
+    anew-too {s} {s'} {st} (Reruns.over e) ps t {st'} ks {old'} h k = record {
       state = t;
       items = Nothing;
       over = old';
-      anew = Anew.over (over-too ps (next code t.plain st') (next-too ps s t k st st' ks Over e));
+      anew = Reruns.over (over-too ps (next code t.plain st') (next-too ps s t k st st' ks Over e));
       pairs = ps;
       wider = λ b c i. i;
       alike = TraceAlike.nothing;
       over-alike = h;
       twin = k;
     }
-    anew-too {s} {s'} {st} (Anew.quiet {after = after} {new = new} {left = left} e a) ps t {st'} ks {old'} h k =
+    anew-too {s} {s'} {st} (Reruns.quiet {after = after} {new = new} {left = left} e a) ps t {st'} ks {old'} h k =
         go (quiet-too ps after (next code t.plain st') (next-too ps s t k st st' ks (Quiet after) e)) (λ after' alike. anew-too a ps (works t) alike h (twin-works code sides ps s t k))
       where
         go : QuietToo ps after (next code t.plain st') →
             ((after' : Stack) → StackAlike ps after after' → RanToo code sides ps s' new left (works t) after' old')
             → RanToo code sides ps s' (Stepped new) left t st' old'
         go q f = quietly-too ps s' t st' new left old' q.after' q.is (f q.after' q.alike)
-    anew-too {s} {s'} {st} {old} (Anew.takes_alloc {below = below} {key = key} {v = v} {u = u} {i = i} {env = env} {new = new} {left = left} {t = x} e w a) ps t {st'} ks {old'} h k =
+    anew-too {s} {s'} {st} {old} (Reruns.takes_alloc {below = below} {key = key} {v = v} {u = u} {i = i} {env = env} {new = new} {left = left} {t = x} e w a) ps t {st'} ks {old'} h k =
         go (makes-too ps key v u i env below (next code t.plain st') (next-too ps s t k st st' ks (Makes key v u i env below) e))
         (λ key' env' below' b kk kv kb j l' l. anew-too a ps (clears code (works t) b key')
         (ran-alike ps key key' x.block b v u i env env' below below' j kk kv kb) l
@@ -581,7 +581,7 @@ module _ (code : Code) (sides : Sides) where
             let y : AllocToo ps x (take_alloc q.key' old') = alloc-too ps x (take_alloc q.key' old') (subst (λ o. TookAlloc ps o (take_alloc q.key' old')) w (take-alloc-alike ps k.one q.keys h)) in
             taking-too ps s' t st' q.below' new left old' x.block key q.key' v u i q.env' y.x' q.is y.is y.blocks q.keys
             (f q.key' q.env' q.below' y.x'.block q.keys q.envs q.alike y.blocks y.x'.leftover y.left)
-    anew-too {s} {s'} {st} {old} (Anew.makes {below = below} {key = key} {v = v} {u = u} {i = i} {env = env} {new = new} {left = left} e w a) ps t {st'} ks {old'} h k =
+    anew-too {s} {s'} {st} {old} (Reruns.makes {below = below} {key = key} {v = v} {u = u} {i = i} {env = env} {new = new} {left = left} e w a) ps t {st'} ks {old'} h k =
         go (makes-too ps key v u i env below (next code t.plain st') (next-too ps s t k st st' ks (Makes key v u i env below) e))
         (λ key' env' below' kk kv kb. anew-too a (record { left = sides.left s.number; right = sides.right t.number } ∷ ps) (grows code sides.right (works t) key')
         (ran-alike (record { left = sides.left s.number; right = sides.right t.number } ∷ ps) key key'
@@ -602,7 +602,7 @@ module _ (code : Code) (sides : Sides) where
         go q f =
             let y = no-alloc-too ps (take_alloc q.key' old') (subst (λ o. TookAlloc ps o (take_alloc q.key' old')) w (take-alloc-alike ps k.one q.keys h)) in
             making-too ps s' t st' q.below' new left old' (sides.left s.number) key q.key' v u i q.env' q.is y q.keys (f q.key' q.env' q.below' q.keys q.envs q.alike)
-    anew-too {s} {s'} {st} (Anew.writes {after = after} {p = p} {value = v} {new = new} {left = left} e a) ps t {st'} ks {old'} h k =
+    anew-too {s} {s'} {st} (Reruns.writes {after = after} {p = p} {value = v} {new = new} {left = left} e a) ps t {st'} ks {old'} h k =
         go (writes-too ps p v after (next code t.plain st') (next-too ps s t k st st' ks (Writes p v after) e))
         (λ q w after' kp kv alike. anew-too a ps (puts (works t) q w) alike h (twin-puts code sides ps (works s) (works t) p q v w kp kv (twin-works code sides ps s t k)))
       where
@@ -610,7 +610,7 @@ module _ (code : Code) (sides : Sides) where
             → ((q : Place) (w : Word) (after' : Stack) → PlaceAlike ps p q → WordAlike ps v w → StackAlike ps after after' → RanToo code sides ps s' new left (puts (works t) q w) after' old')
             → RanToo code sides ps s' (Stepped (Wrote p v new)) left t st' old'
         go q f = writing-too ps s' t st' new left old' p q.p' v q.value' q.after' q.is q.places q.words (f q.p' q.value' q.after' q.places q.words q.alike)
-    anew-too {s} {s'} {st} {old} (Anew.takes_read {t = s1} {below = below} {p = p} {u = u} {v = y} {args = args} {inside' = i'} {new = new} {left = left} {r = x} e w m a) ps t {st'} ks {old'} h k =
+    anew-too {s} {s'} {st} {old} (Reruns.takes_read {t = s1} {below = below} {p = p} {u = u} {v = y} {args = args} {inside' = i'} {new = new} {left = left} {r = x} e w m a) ps t {st'} ks {old'} h k =
         go (reads-too ps p u y args below (next code t.plain st') (next-too ps s t k st st' ks (Reads p u y args below) e))
         (λ q args' kp ka w' kv j kj. mend-too m ps (works t) kp ka kv kj (twin-works code sides ps s t k))
         (λ qs t1 below' kb l' kl k1. anew-too a qs t1 kb kl k1)
@@ -629,7 +629,7 @@ module _ (code : Code) (sides : Sides) where
             took-read-too ps s' t st' q.below' p q.p' (s.store p) u y args q.args' i' new left old' z.x' s1 q.is z.is q.places (k.store p q.p' q.places) q.words
             (f q.p' q.args' q.places q.words z.x'.value z.value z.x'.inside z.inside)
             (λ qs t1 wide k1. g qs t1 q.below' (stack-wider ps qs wide q.alike) z.x'.leftover (trace-wider ps qs wide z.left) k1)
-    anew-too {s} {s'} {st} {old} (Anew.reads {t = s1} {below = below} {p = p} {u = u} {v = y} {args = args} {between =
+    anew-too {s} {s'} {st} {old} (Reruns.reads {t = s1} {below = below} {p = p} {u = u} {v = y} {args = args} {between =
         between} {inside' = i'} {new = new} {left = left} e w m a) ps t {st'} ks {old'} h k =
         go (reads-too ps p u y args below (next code t.plain st') (next-too ps s t k st st' ks (Reads p u y args below) e))
         (λ q args' kp ka. anew-too m ps (works t) (given-too code ps u y args args' (s.store p) (t.store q) ka (k.store p q kp)) h (twin-works code sides ps s t k))

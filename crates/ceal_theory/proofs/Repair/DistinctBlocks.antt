@@ -3,7 +3,7 @@
 use Rattle.std.proofs.Common.{◌≡◌, ℕ, zero, suc, ◌+◌, ◌-◌, ◌<◌, ◌≤◌, min, Bool, true, false, ◌==◌, ◌&&◌, if◌then◌else◌}
 use Rattle.std.proofs.Common.{Option, Some, None, List, [], ◌∷◌, ◌++◌, nat_le, refl, sym, ap, ◌∙◌, subst, arith}
 use Rattle.ceal_base.specs.Operators.{same_place}
-use Rattle.ceal_base.specs.Trace.{Trace, Nothing, Stepped, Allocated, Wrote, WasRead, followed, blocks_of}
+use Rattle.ceal_base.specs.Trace.{Trace, Nothing, Stepped, Allocated, Wrote, WasRead, trace_then, blocks_of}
 use Rattle.ceal_base.specs.declared.forest.Key.{Key}
 use Rattle.ceal_base.specs.declared.forest.UnitId.{UnitId}
 use Rattle.ceal_base.specs.declared.word.BlockId.{BlockId}
@@ -15,7 +15,7 @@ use Rattle.ceal_code.proofs.Words.SameIsEqual.{some-same, none-some}
 use Rattle.ceal_code.specs.Program.{Code}
 use Rattle.ceal_code.specs.Replay.{count, Distinct, core_numbers}
 use Rattle.ceal_code.specs.Step.{Stack}
-use Rattle.ceal_theory.specs.Repair.{Single, State, Fix, Mend, Anew}
+use Rattle.ceal_theory.specs.Repair.{Single, State, Fix, Mend, Reruns}
 use Rattle.ceal_theory.specs.Take.{TakenAlloc, TakenRead, same_words, same_key, alloc_then, read_then, take_alloc, take_read}
 
 -- how often a core block occurs among the blocks, and in the items
@@ -42,13 +42,13 @@ pub times-append : (b : ℕ) (bs cs : List BlockId) → times b (bs ++ cs) ≡ t
 times-append b [] cs = omega arith
 times-append b (c ∷ bs) cs = omega (arith, times-append b bs cs, times-cons b c (bs ++ cs), times-cons b c bs)
 
-pub uses-followed : (b : ℕ) (f g : Trace) → uses b (followed f g) ≡ uses b f + uses b g
+pub uses-followed : (b : ℕ) (f g : Trace) → uses b (trace_then f g) ≡ uses b f + uses b g
 uses-followed b Nothing g = omega arith
 uses-followed b (Stepped rest) g = uses-followed b rest g
-uses-followed b (Allocated c key rest) g = omega (arith, uses-followed b rest g, times-cons b c (blocks_of (followed rest g)), times-cons b c (blocks_of rest))
+uses-followed b (Allocated c key rest) g = omega (arith, uses-followed b rest g, times-cons b c (blocks_of (trace_then rest g)), times-cons b c (blocks_of rest))
 uses-followed b (Wrote p v rest) g = uses-followed b rest g
 uses-followed b (WasRead p v u y args inside rest) g =
-    omega (arith, uses-followed b rest g, times-append b (blocks_of inside) (blocks_of (followed rest g)), times-append b (blocks_of inside) (blocks_of rest))
+    omega (arith, uses-followed b rest g, times-append b (blocks_of inside) (blocks_of (trace_then rest g)), times-append b (blocks_of inside) (blocks_of rest))
 
 alloc-then : (b : ℕ) (inside rest : Trace) (first second : Option TakenAlloc) (t : TakenAlloc)
     → ((t : TakenAlloc) → first ≡ Some t → one_at b t.block + uses b t.leftover ≤ uses b inside)
@@ -57,7 +57,7 @@ alloc-then : (b : ℕ) (inside rest : Trace) (first second : Option TakenAlloc) 
     → one_at b t.block + uses b t.leftover ≤ uses b inside + uses b rest
 alloc-then b inside rest None second t f g e = omega (arith, g t e)
 alloc-then b inside rest (Some a) second t f g e =
-    subst (λ t. one_at b t.block + uses b t.leftover ≤ uses b inside + uses b rest) (some-same (record a { leftover = followed a.leftover rest }) t e)
+    subst (λ t. one_at b t.block + uses b t.leftover ≤ uses b inside + uses b rest) (some-same (record a { leftover = trace_then a.leftover rest }) t e)
     (omega (arith, f a refl, uses-followed b a.leftover rest))
 
 alloc-if : (b : ℕ) (c : BlockId) (test : Bool) (key : Key) (rest : Trace) (t : TakenAlloc)
@@ -85,7 +85,7 @@ read-then : (b : ℕ) (inside rest : Trace) (first second : Option TakenRead) (t
     → uses b t.inside + uses b t.leftover ≤ uses b inside + uses b rest
 read-then b inside rest None second t f g e = omega (arith, g t e)
 read-then b inside rest (Some a) second t f g e =
-    subst (λ t. uses b t.inside + uses b t.leftover ≤ uses b inside + uses b rest) (some-same (record a { leftover = followed a.leftover rest }) t e)
+    subst (λ t. uses b t.inside + uses b t.leftover ≤ uses b inside + uses b rest) (some-same (record a { leftover = trace_then a.leftover rest }) t e)
     (omega (arith, f a refl, uses-followed b a.leftover rest))
 
 read-if : (b : ℕ) (test : Bool) (v : Word) (inside rest : Trace) (other : Option TakenRead) (t : TakenRead)
@@ -220,16 +220,16 @@ module _ (code : Code) {names : ℕ → ℕ} (b : ℕ) where
     mend-uses (Mend.kept e f) = fix-uses f
     mend-uses (Mend.stale e a) = omega (arith, anew-uses a)
 
-    pub anew-uses : {s s' : State} {st : Stack} {old new left : Trace} → Anew code names s st old s' new left
+    pub anew-uses : {s s' : State} {st : Stack} {old new left : Trace} → Reruns code names s st old s' new left
         → uses b new + uses b left + named names s.number b ≤ uses b old + named names s'.number b
-    anew-uses (Anew.over e) = omega arith
-    anew-uses (Anew.quiet e a) = anew-uses a
-    anew-uses {s} {s'} {st} {old} (Anew.takes_alloc {key = key} {new = new} {t = t} e w a) = omega (arith, anew-uses a, alloc-uses b key old t w, times-cons b t.block (blocks_of new))
-    anew-uses {s} (Anew.makes e w a) = omega (arith, anew-uses a, next-named names s.number b)
-    anew-uses (Anew.writes e a) = anew-uses a
-    anew-uses {s} {s'} {st} {old} (Anew.takes_read {p = p} {u = u} {v = v} {args = args} {inside' = inside'} {new = new} {r = r} e w m a) =
+    anew-uses (Reruns.over e) = omega arith
+    anew-uses (Reruns.quiet e a) = anew-uses a
+    anew-uses {s} {s'} {st} {old} (Reruns.takes_alloc {key = key} {new = new} {t = t} e w a) = omega (arith, anew-uses a, alloc-uses b key old t w, times-cons b t.block (blocks_of new))
+    anew-uses {s} (Reruns.makes e w a) = omega (arith, anew-uses a, next-named names s.number b)
+    anew-uses (Reruns.writes e a) = anew-uses a
+    anew-uses {s} {s'} {st} {old} (Reruns.takes_read {p = p} {u = u} {v = v} {args = args} {inside' = inside'} {new = new} {r = r} e w m a) =
         omega (arith, mend-uses m, anew-uses a, read-uses b p u v args old r w, times-append b (blocks_of inside') (blocks_of new))
-    anew-uses (Anew.reads {inside' = inside'} {new = new} e w m a) =
+    anew-uses (Reruns.reads {inside' = inside'} {new = new} e w m a) =
         omega (arith, anew-uses m, anew-uses a, times-append b (blocks_of inside') (blocks_of new))
 
 -- the new items' blocks are distinct, where the old ones' are, of which none has a name of a number from the next one

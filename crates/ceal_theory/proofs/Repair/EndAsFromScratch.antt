@@ -34,17 +34,17 @@ use Rattle.ceal_theory.proofs.Store.WordsOfWalk.{Walked, walked}
 use Rattle.ceal_theory.specs.Adjust.{FirstsAs, Extended, Above, Adjusts, Firsts}
 use Rattle.ceal_theory.specs.Computed.{Repaired, adjusted, first_of}
 use Rattle.ceal_theory.specs.Laws.{numbers, FirstTrace, FirstOutcome}
-use Rattle.ceal_theory.specs.Repair.{own, Single, State, begins, works, Anew}
+use Rattle.ceal_theory.specs.Repair.{own, Single, State, begins, works, Reruns}
 
 -- where nothing is left over, each step is made again
-first-work : {code : Code} {s s' : State} {st : Stack} {old new left : Trace} → Anew code own s st old s' new left → old ≡ Nothing → (left ≡ Nothing) × (s'.work ≡ s.work + steps_of new)
-first-work (Anew.over e) o = (o, omega arith)
-first-work (Anew.quiet e a) o = let q = first-work a o in (q.0, omega (arith, q.1))
-first-work (Anew.takes_alloc {key = key} {t = t} e w a) o = none-some t (sym (take-none key) ∙ rw o at w)
-first-work (Anew.makes e w a) o = let q = first-work a o in (q.0, omega (arith, q.1))
-first-work (Anew.writes e a) o = let q = first-work a o in (q.0, omega (arith, q.1))
-first-work (Anew.takes_read {p = p} {u = u} {v = v} {args = args} {r = r} e w m a) o = none-some r (sym (read-none p u v args) ∙ rw o at w)
-first-work (Anew.reads e w m a) o = let q1 = first-work m o in let q2 = first-work a q1.0 in (q2.0, omega (arith, q1.1, q2.1))
+first-work : {code : Code} {s s' : State} {st : Stack} {old new left : Trace} → Reruns code own s st old s' new left → old ≡ Nothing → (left ≡ Nothing) × (s'.work ≡ s.work + steps_of new)
+first-work (Reruns.over e) o = (o, omega arith)
+first-work (Reruns.quiet e a) o = let q = first-work a o in (q.0, omega (arith, q.1))
+first-work (Reruns.takes_alloc {key = key} {t = t} e w a) o = none-some t (sym (take-none key) ∙ rw o at w)
+first-work (Reruns.makes e w a) o = let q = first-work a o in (q.0, omega (arith, q.1))
+first-work (Reruns.writes e a) o = let q = first-work a o in (q.0, omega (arith, q.1))
+first-work (Reruns.takes_read {p = p} {u = u} {v = v} {args = args} {r = r} e w m a) o = none-some r (sym (read-none p u v args) ∙ rw o at w)
+first-work (Reruns.reads e w m a) o = let q1 = first-work m o in let q2 = first-work a q1.0 in (q2.0, omega (arith, q1.1, q2.1))
 
 numbers-append : (from n m to : ℕ) → to ≡ from + n → numbers from (n + m) ≡ numbers from n ++ numbers to m
 numbers-append from zero m to e = let i : 0 + m ≡ m = omega arith in let j : from ≡ to = omega (arith, e) in rw (i, j)
@@ -67,15 +67,15 @@ new-both s t s' bs cs between left q1 q2 = record {
   blocks = cores-append bs cs ∙ (ap (λ ns. ns ++ core_numbers cs) q1.blocks ∙ (ap (λ ns. numbers s.number q1.many ++ ns) q2.blocks ∙ sym (numbers-append s.number q1.many q2.many t.number q1.after)));
 }
 
-first-blocks : {code : Code} {s s' : State} {st : Stack} {old new left : Trace} → Anew code own s st old s' new left → old ≡ Nothing → NewBlocks s s' (blocks_of new) left
-first-blocks (Anew.over e) o = record { left' = o; many = 0; after = omega arith; blocks = refl }
-first-blocks (Anew.quiet e a) o = let q = first-blocks a o in record { left' = q.left'; many = q.many; after = q.after; blocks = q.blocks }
-first-blocks (Anew.takes_alloc {key = key} {t = t} e w a) o = none-some t (sym (take-none key) ∙ rw o at w)
-first-blocks {s = s} (Anew.makes e w a) o =
+first-blocks : {code : Code} {s s' : State} {st : Stack} {old new left : Trace} → Reruns code own s st old s' new left → old ≡ Nothing → NewBlocks s s' (blocks_of new) left
+first-blocks (Reruns.over e) o = record { left' = o; many = 0; after = omega arith; blocks = refl }
+first-blocks (Reruns.quiet e a) o = let q = first-blocks a o in record { left' = q.left'; many = q.many; after = q.after; blocks = q.blocks }
+first-blocks (Reruns.takes_alloc {key = key} {t = t} e w a) o = none-some t (sym (take-none key) ∙ rw o at w)
+first-blocks {s = s} (Reruns.makes e w a) o =
     let q = first-blocks a o in record { left' = q.left'; many = suc q.many; after = omega (arith, q.after); blocks = ap (λ ns. s.number ∷ ns) q.blocks }
-first-blocks (Anew.writes e a) o = let q = first-blocks a o in record { left' = q.left'; many = q.many; after = q.after; blocks = q.blocks }
-first-blocks (Anew.takes_read {p = p} {u = u} {v = v} {args = args} {r = r} e w m a) o = none-some r (sym (read-none p u v args) ∙ rw o at w)
-first-blocks {s = s} {s' = s'} {left = left} (Anew.reads {t = t} {between = between} {inside' = i} {new = l} e w m a) o = go (first-blocks m o) (λ e. first-blocks a e)
+first-blocks (Reruns.writes e a) o = let q = first-blocks a o in record { left' = q.left'; many = q.many; after = q.after; blocks = q.blocks }
+first-blocks (Reruns.takes_read {p = p} {u = u} {v = v} {args = args} {r = r} e w m a) o = none-some r (sym (read-none p u v args) ∙ rw o at w)
+first-blocks {s = s} {s' = s'} {left = left} (Reruns.reads {t = t} {between = between} {inside' = i} {new = l} e w m a) o = go (first-blocks m o) (λ e. first-blocks a e)
   where
     go : NewBlocks (works s) t (blocks_of i) between → (between ≡ Nothing → NewBlocks t s' (blocks_of l) left) → NewBlocks s s' (blocks_of i ++ blocks_of l) left
     go q f = new-both s t s' (blocks_of i) (blocks_of l) between left (record { left' = q.left'; many = q.many; after = q.after; blocks = q.blocks }) (f q.left')

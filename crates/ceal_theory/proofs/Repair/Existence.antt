@@ -29,7 +29,7 @@ use Rattle.ceal_theory.proofs.Repair.RepairInvariant.{Extends, FreeFrom}
 use Rattle.ceal_theory.proofs.Store.WordsGrow.{own-single, learnt-extends, learnt-here, learnt-free, Grown, mend-grows}
 use Rattle.ceal_theory.proofs.Reuse.OldBlocksOnly.{knows, run-known, sure-more, later, sure-alloc, sure-read}
 use Rattle.ceal_theory.specs.Known.{Told, Sure}
-use Rattle.ceal_theory.specs.Repair.{own, State, clears, puts, works, grows, resumed, Fix, Mend, Anew}
+use Rattle.ceal_theory.specs.Repair.{own, State, clears, puts, works, grows, resumed, Fix, Mend, Reruns}
 use Rattle.ceal_theory.specs.Take.{TakenAlloc, TakenRead, take_alloc, take_read}
 
 -- a number that is learnt and occurs in no pair
@@ -77,7 +77,7 @@ module _ (code : Code) (n : ℕ) (ds : List ℕ) (y : Plain) where
     pub state : State
     pub items : Trace
     pub left : Trace
-    pub anew : Anew code own s st l state items left
+    pub anew : Reruns code own s st l state items left
     pub after : Pairs
     pub wider : Within ps after
     pub like : Like after state t' (blocks_of left) [] o r
@@ -246,7 +246,7 @@ module _ (code : Code) (n : ℕ) (ds : List ℕ) (y : Plain) where
         state = q.state;
         items = Stepped q.items;
         left = q.left;
-        anew = Anew.quiet e q.anew;
+        anew = Reruns.quiet e q.anew;
         after = q.after;
         wider = q.wider;
         like = q.like;
@@ -260,7 +260,7 @@ module _ (code : Code) (n : ℕ) (ds : List ℕ) (y : Plain) where
     state = q.state;
     items = Stepped (Allocated x.block key q.items);
     left = q.left;
-    anew = Anew.takes_alloc e w q.anew;
+    anew = Reruns.takes_alloc e w q.anew;
     after = q.after;
     wider = within-trans ps (record { left = b; right = c } ∷ ps) q.after (more-pair (record { left = b; right = c }) ps) q.wider;
     like = q.like;
@@ -274,7 +274,7 @@ module _ (code : Code) (n : ℕ) (ds : List ℕ) (y : Plain) where
     state = q.state;
     items = Stepped (Allocated (Core s.number) key q.items);
     left = q.left;
-    anew = Anew.makes e w q.anew;
+    anew = Reruns.makes e w q.anew;
     after = q.after;
     wider = within-trans ps (record { left = s.number; right = c } ∷ ps) q.after (more-pair (record { left = s.number; right = c }) ps) q.wider;
     like = q.like;
@@ -288,7 +288,7 @@ module _ (code : Code) (n : ℕ) (ds : List ℕ) (y : Plain) where
         state = q.state;
         items = Stepped (Wrote p v q.items);
         left = q.left;
-        anew = Anew.writes e q.anew;
+        anew = Reruns.writes e q.anew;
         after = q.after;
         wider = q.wider;
         like = q.like;
@@ -313,7 +313,7 @@ module _ (code : Code) (n : ℕ) (ds : List ℕ) (y : Plain) where
         state = q.state;
         items = Stepped (WasRead p (s.store p) u z args mend.items q.items);
         left = q.left;
-        anew = Anew.takes_read e w mend.mend q.anew;
+        anew = Reruns.takes_read e w mend.mend q.anew;
         after = q.after;
         wider = within-trans ps mend.after q.after mend.wider q.wider;
         like = q.like;
@@ -333,7 +333,7 @@ module _ (code : Code) (n : ℕ) (ds : List ℕ) (y : Plain) where
         state = q.state;
         items = Stepped (WasRead p (s.store p) u z args q1.items q.items);
         left = q.left;
-        anew = Anew.reads e w q1.anew q.anew;
+        anew = Reruns.reads e w q1.anew q.anew;
         after = q.after;
         wider = within-trans ps q1.after q.after q1.wider q.wider;
         like = q.like;
@@ -432,7 +432,7 @@ module _ (code : Code) (n : ℕ) (ds : List ℕ) (y : Plain) where
     pub anew-total : {a' : Act} {m : Trace} → Told code y a' m → (ps : Pairs) {a : Act} → ActAlike ps a a' → (s : State) (st : Stack) (old : Trace) → Sure code n ds s.plain old
         → next code s.plain st ≡ a → {t t' : Store} → Honest code t m t' → (o r : ℕ → ℕ) → Like ps s t (blocks_of old) (blocks_of m) o r → AnewTotal ps s st old t' o r
     anew-total Told.over ps ActAlike.over s st old sure e Honest.end o r like =
-        record { state = s; items = Nothing; left = old; anew = Anew.over e; after = ps; wider = λ b c t. t; like = like; sure = sure }
+        record { state = s; items = Nothing; left = old; anew = Reruns.over e; after = ps; wider = λ b c t. t; like = like; sure = sure }
     anew-total (Told.quiet {rest = m} d) ps (ActAlike.quiet {st = after} ks) s st old sure e {t} {t'} (Honest.step h) o r like =
         anew-stepped ps s st after old t' o r e (anew-total d ps
         (acts ps s t (blocks_of old) (blocks_of m) o r like ks) (works s) after old sure refl h o r

@@ -46,7 +46,7 @@ use Rattle.ceal_code.specs.Value.{set, field_kind, is_cell, field_in, plain_word
 use Rattle.ceal_theory.proofs.Repair.Honesty.{anew-rises}
 use Rattle.ceal_theory.proofs.Store.EqualContents.{stored-equal, cleared-equal}
 use Rattle.ceal_theory.specs.Adjust.{Firsts}
-use Rattle.ceal_theory.specs.Repair.{own, State, begins, puts, works, grows, resumed, Anew}
+use Rattle.ceal_theory.specs.Repair.{own, State, begins, puts, works, grows, resumed, Reruns}
 use Rattle.ceal_theory.specs.Take.{take_alloc, take_read}
 
 pub take-none : (key : Key) → take_alloc key Nothing ≡ None
@@ -219,7 +219,7 @@ module _ (code : Code) (ok : valid code ≡ true) where
   record FirstPart (n steps : ℕ) (s : State) (m : Blocks) (st below : Stack) (r : Finished) : Type 0 where
     pub state : State
     pub items : Trace
-    pub anew : Anew code own s st Nothing state items Nothing
+    pub anew : Reruns code own s st Nothing state items Nothing
     pub memory : Blocks
     pub matches : Matches state memory
     pub keeps : Keeps code.structs m memory
@@ -244,7 +244,7 @@ module _ (code : Code) (ok : valid code ≡ true) where
   runs-act b ih n k steps s m h st below c r g Over e = record {
     state = s;
     items = Nothing;
-    anew = Anew.over (same-step s m h st c ∙ e);
+    anew = Reruns.over (same-step s m h st c ∙ e);
     memory = m;
     matches = h;
     keeps = λ p i. i;
@@ -260,7 +260,7 @@ module _ (code : Code) (ok : valid code ≡ true) where
       record {
         state = q.state;
         items = Stepped q.items;
-        anew = Anew.quiet (same-step s m h st c ∙ e) q.anew;
+        anew = Reruns.quiet (same-step s m h st c ∙ e) q.anew;
         memory = q.memory;
         matches = q.matches;
         keeps = q.keeps;
@@ -289,7 +289,7 @@ module _ (code : Code) (ok : valid code ≡ true) where
       record {
         state = q.state;
         items = Stepped (Allocated (Core s.number) key q.items);
-        anew = Anew.makes (same-step s m h st c ∙ e) (take-none key) q.anew;
+        anew = Reruns.makes (same-step s m h st c ∙ e) (take-none key) q.anew;
         memory = q.memory;
         matches = q.matches;
         keeps = λ z i. q.keeps z (keeps z i);
@@ -309,7 +309,7 @@ module _ (code : Code) (ok : valid code ≡ true) where
       record {
         state = q.state;
         items = Stepped (Wrote p value q.items);
-        anew = Anew.writes (same-step s m h st c ∙ e) q.anew;
+        anew = Reruns.writes (same-step s m h st c ∙ e) q.anew;
         memory = q.memory;
         matches = q.matches;
         keeps = λ z i. q.keeps z (keeps z i);
@@ -340,7 +340,7 @@ module _ (code : Code) (ok : valid code ≡ true) where
       record {
         state = q2.state;
         items = Stepped (WasRead p (s.store p) u v args q1.items q2.items);
-        anew = Anew.reads (same-step s m h st c ∙ e) (read-none p u v args) q1.anew q2.anew;
+        anew = Reruns.reads (same-step s m h st c ∙ e) (read-none p u v args) q1.anew q2.anew;
         memory = q2.memory;
         matches = q2.matches;
         keeps = λ z i. q2.keeps z (q1.keeps z i);

@@ -8,7 +8,7 @@ use Rattle.ceal_base.specs.declared.word.Word.{Word}
 use Rattle.ceal_code.specs.Program.{Code}
 use Rattle.ceal_code.specs.Replay.{Honest}
 use Rattle.ceal_code.specs.Step.{Stack}
-use Rattle.ceal_theory.specs.Repair.{State, Fix, Mend, Anew}
+use Rattle.ceal_theory.specs.Repair.{State, Fix, Mend, Reruns}
 
 mutual
   pub fix-honest : {code : Code} {names : ℕ → ℕ} {s s' : State} {old new : Trace} → Fix code names s old s' new → Honest code s.store new s'.store
@@ -23,14 +23,14 @@ mutual
   mend-honest (Mend.kept e f) = fix-honest f
   mend-honest (Mend.stale e a) = anew-honest a
 
-  pub anew-honest : {code : Code} {names : ℕ → ℕ} {s s' : State} {st : Stack} {old new left : Trace} → Anew code names s st old s' new left → Honest code s.store new s'.store
-  anew-honest (Anew.over e) = Honest.end
-  anew-honest (Anew.quiet e a) = Honest.step (anew-honest a)
-  anew-honest (Anew.takes_alloc e t a) = Honest.step (Honest.alloc (anew-honest a))
-  anew-honest (Anew.makes e t a) = Honest.step (Honest.alloc (anew-honest a))
-  anew-honest (Anew.writes e a) = Honest.step (Honest.write (anew-honest a))
-  anew-honest (Anew.takes_read e t m a) = Honest.step (Honest.read refl (mend-honest m) (anew-honest a))
-  anew-honest (Anew.reads e t m a) = Honest.step (Honest.read refl (anew-honest m) (anew-honest a))
+  pub anew-honest : {code : Code} {names : ℕ → ℕ} {s s' : State} {st : Stack} {old new left : Trace} → Reruns code names s st old s' new left → Honest code s.store new s'.store
+  anew-honest (Reruns.over e) = Honest.end
+  anew-honest (Reruns.quiet e a) = Honest.step (anew-honest a)
+  anew-honest (Reruns.takes_alloc e t a) = Honest.step (Honest.alloc (anew-honest a))
+  anew-honest (Reruns.makes e t a) = Honest.step (Honest.alloc (anew-honest a))
+  anew-honest (Reruns.writes e a) = Honest.step (Honest.write (anew-honest a))
+  anew-honest (Reruns.takes_read e t m a) = Honest.step (Honest.read refl (mend-honest m) (anew-honest a))
+  anew-honest (Reruns.reads e t m a) = Honest.step (Honest.read refl (anew-honest m) (anew-honest a))
 
 mutual
   -- the work is at most the steps of the new items
@@ -46,14 +46,14 @@ mutual
   mend-work (Mend.kept e f) = fix-work f
   mend-work (Mend.stale e a) = omega (arith, anew-work a)
 
-  pub anew-work : {code : Code} {names : ℕ → ℕ} {s s' : State} {st : Stack} {old new left : Trace} → Anew code names s st old s' new left → s'.work ≤ s.work + steps_of new
-  anew-work (Anew.over e) = omega arith
-  anew-work (Anew.quiet e a) = omega (arith, anew-work a)
-  anew-work (Anew.takes_alloc e t a) = omega (arith, anew-work a)
-  anew-work (Anew.makes e t a) = omega (arith, anew-work a)
-  anew-work (Anew.writes e a) = omega (arith, anew-work a)
-  anew-work (Anew.takes_read e t m a) = omega (arith, mend-work m, anew-work a)
-  anew-work (Anew.reads e t m a) = omega (arith, anew-work m, anew-work a)
+  pub anew-work : {code : Code} {names : ℕ → ℕ} {s s' : State} {st : Stack} {old new left : Trace} → Reruns code names s st old s' new left → s'.work ≤ s.work + steps_of new
+  anew-work (Reruns.over e) = omega arith
+  anew-work (Reruns.quiet e a) = omega (arith, anew-work a)
+  anew-work (Reruns.takes_alloc e t a) = omega (arith, anew-work a)
+  anew-work (Reruns.makes e t a) = omega (arith, anew-work a)
+  anew-work (Reruns.writes e a) = omega (arith, anew-work a)
+  anew-work (Reruns.takes_read e t m a) = omega (arith, mend-work m, anew-work a)
+  anew-work (Reruns.reads e t m a) = omega (arith, anew-work m, anew-work a)
 
 mutual
   pub fix-rises : {code : Code} {names : ℕ → ℕ} {s s' : State} {old new : Trace} → Fix code names s old s' new → s.work ≤ s'.work
@@ -68,11 +68,11 @@ mutual
   mend-rises (Mend.kept e f) = fix-rises f
   mend-rises (Mend.stale e a) = anew-rises a
 
-  pub anew-rises : {code : Code} {names : ℕ → ℕ} {s s' : State} {st : Stack} {old new left : Trace} → Anew code names s st old s' new left → s.work ≤ s'.work
-  anew-rises (Anew.over e) = omega arith
-  anew-rises (Anew.quiet e a) = omega (arith, anew-rises a)
-  anew-rises (Anew.takes_alloc e t a) = omega (arith, anew-rises a)
-  anew-rises (Anew.makes e t a) = omega (arith, anew-rises a)
-  anew-rises (Anew.writes e a) = omega (arith, anew-rises a)
-  anew-rises (Anew.takes_read e t m a) = omega (arith, mend-rises m, anew-rises a)
-  anew-rises (Anew.reads e t m a) = omega (arith, anew-rises m, anew-rises a)
+  pub anew-rises : {code : Code} {names : ℕ → ℕ} {s s' : State} {st : Stack} {old new left : Trace} → Reruns code names s st old s' new left → s.work ≤ s'.work
+  anew-rises (Reruns.over e) = omega arith
+  anew-rises (Reruns.quiet e a) = omega (arith, anew-rises a)
+  anew-rises (Reruns.takes_alloc e t a) = omega (arith, anew-rises a)
+  anew-rises (Reruns.makes e t a) = omega (arith, anew-rises a)
+  anew-rises (Reruns.writes e a) = omega (arith, anew-rises a)
+  anew-rises (Reruns.takes_read e t m a) = omega (arith, mend-rises m, anew-rises a)
+  anew-rises (Reruns.reads e t m a) = omega (arith, anew-rises m, anew-rises a)

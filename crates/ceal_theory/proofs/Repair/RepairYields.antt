@@ -22,7 +22,7 @@ use Rattle.ceal_code.specs.Value.{Plain, Variables, set, field_kind, field_defau
 use Rattle.ceal_theory.proofs.Repair.RepairInvariant.{Extends, extends-trans, agrees, Good, Pieces}
 use Rattle.ceal_theory.proofs.Store.WordsGrow.{learnt-extends, learnt-here, learnt-free, fix-grows, mend-grows, anew-grows, mentions-subset, pieces-more}
 use Rattle.ceal_theory.proofs.Reuse.TakenItems.{take-alloc, take-read}
-use Rattle.ceal_theory.specs.Repair.{Single, State, clears, puts, works, grows, resumed, Fix, Mend, Anew}
+use Rattle.ceal_theory.specs.Repair.{Single, State, clears, puts, works, grows, resumed, Fix, Mend, Reruns}
 
 pub wider : (b : ℕ) (bs : List ℕ) → Subset bs (b ∷ bs)
 wider b bs c h = there h
@@ -208,25 +208,25 @@ module _ (names : ℕ → ℕ) (single : Single names) (code : Code) (inputs : �
           let q = anew-plays a ext bs g (words_after_read-known inputs bs code u.0 v args (s.store p) Empty k (g.store p) tt) h in
           record { known = q.known; mentions = q.mentions; yields = q.yields; good = q.good }
 
-      pub anew-plays : {s s' : State} {st : Stack} {old new left : Trace} → Anew code names s st old s' new left
+      pub anew-plays : {s s' : State} {st : Stack} {old new left : Trace} → Reruns code names s st old s' new left
           → Extends s'.plain y → (bs : List ℕ) → Good names inputs bs s
           → KnownStack inputs bs st → Pieces code s.plain y old
           → Left y bs st new left s'
-      anew-plays {s} {s'} {st} (Anew.over e) ext bs g k h =
+      anew-plays {s} {s'} {st} (Reruns.over e) ext bs g k h =
           let a = step-x code inputs y bs s.plain st Over g.plain ext k e in
           record { known = bs; mentions = Mentions.end; yields = Yields.over a.0; good = g; left = h }
-      anew-plays {s} {s'} {st} (Anew.quiet {after = after} e n) ext bs g k h =
+      anew-plays {s} {s'} {st} (Reruns.quiet {after = after} e n) ext bs g k h =
           let x = extends-trans s.plain s'.plain y (anew-grows single n g.free).plain ext in
           let a = step-x code inputs y bs s.plain st (Quiet after) g.plain x k e in
           let q = anew-plays n ext bs (good-works names inputs bs s g) a.1 h in
           record { known = q.known; mentions = Mentions.step q.mentions; yields = Yields.quiet a.0 q.yields; good = q.good; left = q.left }
-      anew-plays {s} {s'} {st} {old} (Anew.takes_alloc {below = below} {key = key} {v = v} {u = u} {i = i} {env = env} {new = new} {left = left} {t = t} e w n) ext bs g k h =
+      anew-plays {s} {s'} {st} {old} (Reruns.takes_alloc {below = below} {key = key} {v = v} {u = u} {i = i} {env = env} {new = new} {left = left} {t = t} e w n) ext bs g k h =
           let x = extends-trans s.plain s'.plain y (anew-grows single n g.free).plain ext in
           let a = step-x code inputs y bs s.plain st (Makes key v u i env below) g.plain x k e in
           let d = take-alloc code s.plain y key old h t w in
           took bs st below key v u i d.core env t.block new left (works s) s' d.is a.0 a.1.0 (x (Core d.core) (made code y key) d.held) (good-works names inputs bs s g)
           (held-key code inputs y bs s.plain key d.core g.plain x a.1.0 d.held) a.1.1 a.1.2 (λ g' k'. anew-plays n ext (d.core ∷ bs) g' k' d.left)
-      anew-plays {s} {s'} {st} {old} (Anew.makes {below = below} {key = key} {v = v} {u = u} {i = i} {env = env} e w n) ext bs g k h =
+      anew-plays {s} {s'} {st} {old} (Reruns.makes {below = below} {key = key} {v = v} {u = u} {i = i} {env = env} e w n) ext bs g k h =
           let block = made code s.plain key in
           let x' = extends-trans (learnt s.plain (Core (names s.number)) block) s'.plain y (anew-grows single n (learnt-free names single s.plain s.number block g.free)).plain ext in
           let x = extends-trans s.plain (learnt s.plain (Core (names s.number)) block) y (learnt-extends names s.plain s.number block g.free) x' in
@@ -238,12 +238,12 @@ module _ (names : ℕ → ℕ) (single : Single names) (code : Code) (inputs : �
           let there' : y (Core (names s.number)) ≡ Some (made code y key) =
           x' (Core (names s.number)) block (learnt-here s.plain (Core (names s.number)) block) ∙ ap Some (same-made code inputs y bs s.plain key g.plain x a.1.0) in
           record { known = q.known; mentions = Mentions.step (Mentions.alloc a.1.0 q.mentions); yields = Yields.makes a.0 there' q.yields; good = q.good; left = q.left }
-      anew-plays {s} {s'} {st} (Anew.writes {after = after} {p = p} {value = value} e n) ext bs g k h =
+      anew-plays {s} {s'} {st} (Reruns.writes {after = after} {p = p} {value = value} e n) ext bs g k h =
           let x = extends-trans s.plain s'.plain y (anew-grows single n g.free).plain ext in
           let a = step-x code inputs y bs s.plain st (Writes p value after) g.plain x k e in
           let q = anew-plays n ext bs (good-puts names inputs bs (works s) p value (good-works names inputs bs s g) a.1.1) a.1.2 h in
           record { known = q.known; mentions = Mentions.step (Mentions.write a.1.0 a.1.1 q.mentions); yields = Yields.writes a.0 q.yields; good = q.good; left = q.left }
-      anew-plays {s} {s'} {st} {old} (Anew.takes_read {t = t} {below = below} {p = p} {u = u} {v = v} {args = args} {r = r} e w m n) ext bs g k h =
+      anew-plays {s} {s'} {st} {old} (Reruns.takes_read {t = t} {below = below} {p = p} {u = u} {v = v} {args = args} {r = r} e w m n) ext bs g k h =
           let gm = mend-grows single m g.free in
           let xt = extends-trans t.plain s'.plain y (anew-grows single n gm.free).plain ext in
           let x = extends-trans s.plain t.plain y gm.plain xt in
@@ -260,7 +260,7 @@ module _ (names : ℕ → ℕ) (single : Single names) (code : Code) (inputs : �
             good = q2.good;
             left = q2.left;
           }
-      anew-plays {s} {s'} {st} {old} (Anew.reads {t = t} {below = below} {p = p} {u = u} {v = v} {args = args} e w m n) ext bs g k h =
+      anew-plays {s} {s'} {st} {old} (Reruns.reads {t = t} {below = below} {p = p} {u = u} {v = v} {args = args} e w m n) ext bs g k h =
           let gm = anew-grows single m g.free in
           let xt = extends-trans t.plain s'.plain y (anew-grows single n gm.free).plain ext in
           let x = extends-trans s.plain t.plain y gm.plain xt in

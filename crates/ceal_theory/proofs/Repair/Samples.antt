@@ -23,7 +23,7 @@ use Rattle.ceal_code.specs.declared.function.FunctionCode.TheVariants.{Core as C
 use Rattle.ceal_code.specs.declared.function.InitStmt.TheVariants.{Set}
 use Rattle.ceal_theory.proofs.SampleBox.{var, v, u, place, number, pointer, box, box_inputs, box_first}
 use Rattle.ceal_theory.specs.Cost.{aligned, cost_from}
-use Rattle.ceal_theory.specs.Computed.{anew, Repaired, adjusted, first_of}
+use Rattle.ceal_theory.specs.Computed.{rerun, Repaired, adjusted, first_of}
 use Rattle.ceal_theory.specs.Take.{take_alloc, take_read}
 
 -- work, steps and blocks
@@ -53,22 +53,22 @@ abbrev inc_items : ℕ → ℕ → Trace
 inc_items n m = Stepped (WasRead (place 0) (Num (pos n)) (u 1) 2 (At (place 1) ∷ []) (Stepped (Wrote (place 1) (Num (pos m)) Nothing)) Nothing)
 
 inc-first : first_of inc (inc_inputs 4) 2 0 inc_args ≡ Some (record { items = inc_items 4 5; work = 2 })
-unfolding first_of anew next stack_after_quiet chosen bound woven set unset expr_value values bases input_plain
+unfolding first_of rerun next stack_after_quiet chosen bound woven set unset expr_value values bases input_plain
     stored take_read hidden-the_row-CodeExpr-0 shape-the_row-CodeExpr-0 denote.Hole.Carrier.hidden
 inc-first = refl
 
 inc-out_of_fuel : first_of inc (inc_inputs 4) 1 0 inc_args ≡ None
-unfolding first_of anew next stack_after_quiet chosen bound woven set unset expr_value values bases input_plain
+unfolding first_of rerun next stack_after_quiet chosen bound woven set unset expr_value values bases input_plain
     stored take_read hidden-the_row-CodeExpr-0 shape-the_row-CodeExpr-0 denote.Hole.Carrier.hidden
 inc-out_of_fuel = refl
 
 inc-edited : adjusted inc (inc_inputs 9) 0 2 (inc_items 4 5) ≡ Some (record { items = inc_items 9 10; work = 1 })
-unfolding adjusted anew next stack_after_quiet chosen bound woven set unset expr_value values bases input_plain
+unfolding adjusted rerun next stack_after_quiet chosen bound woven set unset expr_value values bases input_plain
     plain_of stored hidden-the_row-CodeExpr-0 shape-the_row-CodeExpr-0 denote.Hole.Carrier.hidden
 inc-edited = refl
 
 inc-same_value : adjusted inc (inc_inputs 4) 0 2 (inc_items 4 5) ≡ Some (record { items = inc_items 4 5; work = 0 })
-unfolding adjusted anew next stack_after_quiet chosen bound woven set unset expr_value values bases input_plain
+unfolding adjusted rerun next stack_after_quiet chosen bound woven set unset expr_value values bases input_plain
     plain_of stored hidden-the_row-CodeExpr-0 shape-the_row-CodeExpr-0 denote.Hole.Carrier.hidden
 inc-same_value = refl
 
@@ -116,7 +116,7 @@ map_again None = None
 map_again (Some r) = adjusted mapping (map_inputs 5) 3 10 r.items
 
 mapped : report map_first ≡ 18 ∷ 18 ∷ 0 ∷ 1 ∷ 2 ∷ []
-unfolding first_of anew next stack_after_quiet chosen bound woven set unset expr_value values bases input_plain stored cleared
+unfolding first_of rerun next stack_after_quiet chosen bound woven set unset expr_value values bases input_plain stored cleared
     learnt made set_by set_by_all arguments take_read take_alloc hidden-the_row-CodeExpr-0 shape-the_row-CodeExpr-0
     denote.Hole.Carrier.hidden
 mapped = refl
@@ -124,7 +124,7 @@ mapped = refl
 -- a new first cell: five steps and a block for it, and five for the old first cell, whose block is taken and the read
 -- of whose tail is taken whole
 mapped_again : report (map_again map_first) ≡ 10 ∷ 23 ∷ 3 ∷ 0 ∷ 1 ∷ 2 ∷ []
-unfolding first_of adjusted anew next stack_after_quiet chosen bound woven set unset expr_value values bases input_plain
+unfolding first_of adjusted rerun next stack_after_quiet chosen bound woven set unset expr_value values bases input_plain
     plain_of stored cleared learnt made set_by set_by_all arguments take_read take_alloc hidden-the_row-CodeExpr-0
     shape-the_row-CodeExpr-0 denote.Hole.Carrier.hidden
 mapped_again = refl
@@ -134,7 +134,7 @@ box_again None = None
 box_again (Some r) = adjusted box (box_inputs 2) 1 5 r.items
 
 boxed : report box_first ≡ 11 ∷ 11 ∷ 0 ∷ []
-unfolding first_of anew next stack_after_quiet chosen bound woven set unset expr_value values bases input_plain stored cleared
+unfolding first_of rerun next stack_after_quiet chosen bound woven set unset expr_value values bases input_plain stored cleared
     learnt made set_by set_by_all arguments take_read take_alloc hidden-the_row-CodeExpr-0 shape-the_row-CodeExpr-0
     denote.Hole.Carrier.hidden
 boxed = refl
@@ -142,7 +142,7 @@ boxed = refl
 -- the first box is revoked and the second is new: were its number that of the first, the read of it would look
 -- unchanged
 boxed_again : report (box_again box_first) ≡ 5 ∷ 11 ∷ 1 ∷ []
-unfolding first_of adjusted anew next stack_after_quiet chosen bound woven set unset expr_value values bases input_plain
+unfolding first_of adjusted rerun next stack_after_quiet chosen bound woven set unset expr_value values bases input_plain
     plain_of stored cleared learnt made set_by set_by_all arguments take_read take_alloc hidden-the_row-CodeExpr-0
     shape-the_row-CodeExpr-0 denote.Hole.Carrier.hidden
 boxed_again = refl
@@ -156,7 +156,7 @@ abbrev map_other : Option Repaired
 map_other = first_of mapping (map_inputs 5) 23 1 inc_args
 
 mapped_cost : beside map_first map_other ≡ 22
-unfolding first_of anew next stack_after_quiet chosen bound woven set unset expr_value values bases input_plain stored cleared
+unfolding first_of rerun next stack_after_quiet chosen bound woven set unset expr_value values bases input_plain stored cleared
     learnt made set_by set_by_all arguments take_read take_alloc cost_from hidden-the_row-CodeExpr-0
     shape-the_row-CodeExpr-0 denote.Hole.Carrier.hidden
 mapped_cost = refl
@@ -169,7 +169,7 @@ abbrev box_other : Option Repaired
 box_other = first_of box (box_inputs 2) 11 3 (At (place 0) ∷ At (place 1) ∷ At (place 2) ∷ [])
 
 boxed_cost : beside box_first box_other ≡ 5
-unfolding first_of anew next stack_after_quiet chosen bound woven set unset expr_value values bases input_plain stored cleared
+unfolding first_of rerun next stack_after_quiet chosen bound woven set unset expr_value values bases input_plain stored cleared
     learnt made set_by set_by_all arguments take_read take_alloc cost_from hidden-the_row-CodeExpr-0
     shape-the_row-CodeExpr-0 denote.Hole.Carrier.hidden
 boxed_cost = refl

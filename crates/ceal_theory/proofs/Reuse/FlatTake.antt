@@ -1,7 +1,7 @@
 -- To take from old items is to find in a part of their flat list.
 use Rattle.std.proofs.Common.{◌≡◌, ℕ, zero, suc, ◌<◌, ◌≤◌, length, arith, Bool, true, false, if◌then◌else◌, Option}
 use Rattle.std.proofs.Common.{Some, None, List, [], ◌∷◌, ◌++◌, append_assoc, append-nil, refl, sym, ap, ◌∙◌, subst}
-use Rattle.ceal_base.specs.Trace.{Trace, Nothing, Stepped, Allocated, Wrote, WasRead, flat, followed}
+use Rattle.ceal_base.specs.Trace.{Trace, Nothing, Stepped, Allocated, Wrote, WasRead, flat, trace_then}
 use Rattle.ceal_base.specs.declared.forest.Item.{Item}
 use Rattle.ceal_base.specs.declared.forest.Item.TheVariants.{Step, Alloc, Write, Read, End}
 use Rattle.ceal_base.specs.declared.forest.Key.{Key}
@@ -15,14 +15,14 @@ use Rattle.ceal_theory.specs.Levels.{first, around, levels, loose, beyond, after
 use Rattle.ceal_theory.specs.Levels.{skipped, FoundAlloc, alloc_or, find_alloc, FoundRead, read_or, same_read}
 use Rattle.ceal_theory.specs.Levels.{find_read, taken_alloc, taken_read}
 
-pub followed-nothing : (f : Trace) → followed f Nothing ≡ f
+pub followed-nothing : (f : Trace) → trace_then f Nothing ≡ f
 followed-nothing Nothing = refl
 followed-nothing (Stepped rest) = ap Stepped (followed-nothing rest)
 followed-nothing (Allocated b k rest) = ap (Allocated b k) (followed-nothing rest)
 followed-nothing (Wrote p v rest) = ap (Wrote p v) (followed-nothing rest)
 followed-nothing (WasRead p v u x args inside rest) = ap (WasRead p v u x args inside) (followed-nothing rest)
 
-pub followed-followed : (f g h : Trace) → followed (followed f g) h ≡ followed f (followed g h)
+pub followed-followed : (f g h : Trace) → trace_then (trace_then f g) h ≡ trace_then f (trace_then g h)
 followed-followed Nothing g h = refl
 followed-followed (Stepped rest) g h = ap Stepped (followed-followed rest g h)
 followed-followed (Allocated b k rest) g h = ap (Allocated b k) (followed-followed rest g h)
@@ -38,7 +38,7 @@ around-flat (Wrote p v rest) is = around-flat rest is
 around-flat (WasRead p v u x args inside rest) is =
     rw (append_assoc (flat inside) (End ∷ flat rest) is, around-flat inside (End ∷ (flat rest ++ is))) (around-flat rest is)
 
-pub first-flat : (f : Trace) (is : List Item) → first (levels (flat f ++ is)) ≡ followed f (first (levels is))
+pub first-flat : (f : Trace) (is : List Item) → first (levels (flat f ++ is)) ≡ trace_then f (first (levels is))
 first-flat Nothing is = refl
 first-flat (Stepped rest) is = ap Stepped (first-flat rest is)
 first-flat (Allocated b k rest) is = ap (Allocated b k) (first-flat rest is)
@@ -60,24 +60,24 @@ loose-none (suc n) = loose-none n
 pub loose-one : (ts : List Trace) → loose 1 ts ≡ first ts
 loose-one ts = followed-nothing (first ts)
 
-then-then : (r g : Trace) (a b c : Option TakenAlloc) → alloc_then (followed r g) a (alloc_then g b c) ≡ alloc_then g (alloc_then r a b) c
+then-then : (r g : Trace) (a b c : Option TakenAlloc) → alloc_then (trace_then r g) a (alloc_then g b c) ≡ alloc_then g (alloc_then r a b) c
 then-then r g None b c = refl
 then-then r g (Some a) b c = ap (λ l. Some (record a { leftover = l })) (sym (followed-followed a.leftover r g))
 
 if-then : (b : BlockId) (r g : Trace) (t : Bool) (a c d : Option TakenAlloc) → a ≡ alloc_then g c d
-    → (if t then Some (record { block = b; leftover = followed r g }) else a) ≡ alloc_then g (if t then Some (record { block = b; leftover = r }) else c) d
+    → (if t then Some (record { block = b; leftover = trace_then r g }) else a) ≡ alloc_then g (if t then Some (record { block = b; leftover = r }) else c) d
 if-then b r g true a c d e = refl
 if-then b r g false a c d e = e
 
-pub alloc-followed : (key : Key) (f g : Trace) → take_alloc key (followed f g) ≡ alloc_then g (take_alloc key f) (take_alloc key g)
+pub alloc-followed : (key : Key) (f g : Trace) → take_alloc key (trace_then f g) ≡ alloc_then g (take_alloc key f) (take_alloc key g)
 unfolding take_alloc
 alloc-followed key Nothing g = refl
 alloc-followed key (Stepped rest) g = alloc-followed key rest g
 alloc-followed key (Allocated b k rest) g =
-    if-then b rest g (same_key k key) (take_alloc key (followed rest g)) (take_alloc key rest) (take_alloc key g) (alloc-followed key rest g)
+    if-then b rest g (same_key k key) (take_alloc key (trace_then rest g)) (take_alloc key rest) (take_alloc key g) (alloc-followed key rest g)
 alloc-followed key (Wrote p v rest) g = alloc-followed key rest g
 alloc-followed key (WasRead p v u x args inside rest) g =
-    ap (λ o. alloc_then (followed rest g) (take_alloc key inside) o) (alloc-followed key rest g) ∙ then-then rest g (take_alloc key inside) (take_alloc key rest) (take_alloc key g)
+    ap (λ o. alloc_then (trace_then rest g) (take_alloc key inside) o) (alloc-followed key rest g) ∙ then-then rest g (take_alloc key inside) (take_alloc key rest) (take_alloc key g)
 
 if-found : (b : BlockId) (is : List Item) (n : ℕ) (t : Bool) (a : Option TakenAlloc) (c : Option FoundAlloc) → a ≡ taken_alloc c
     → (if t then Some (record { block = b; leftover = loose n (levels is) }) else a) ≡ taken_alloc (alloc_or (if t then Some b else None) is n c)
@@ -115,16 +115,16 @@ found-beyond key (Write p v ∷ is) (suc n) f e = found-beyond key is (suc n) f 
 found-beyond key (Read p v u x args ∷ is) (suc n) f e = found-beyond key is (suc (suc n)) f e
 found-beyond key (End ∷ is) (suc n) f e = found-beyond key is n f e
 
-then-then-read : (r g : Trace) (a b c : Option TakenRead) → read_then (followed r g) a (read_then g b c) ≡ read_then g (read_then r a b) c
+then-then-read : (r g : Trace) (a b c : Option TakenRead) → read_then (trace_then r g) a (read_then g b c) ≡ read_then g (read_then r a b) c
 then-then-read r g None b c = refl
 then-then-read r g (Some a) b c = ap (λ l. Some (record a { leftover = l })) (sym (followed-followed a.leftover r g))
 
 if-then-read : (v : Word) (i r g : Trace) (t : Bool) (a c d : Option TakenRead) → a ≡ read_then g c d
-    → (if t then Some (record { value = v; inside = i; leftover = followed r g }) else a) ≡ read_then g (if t then Some (record { value = v; inside = i; leftover = r }) else c) d
+    → (if t then Some (record { value = v; inside = i; leftover = trace_then r g }) else a) ≡ read_then g (if t then Some (record { value = v; inside = i; leftover = r }) else c) d
 if-then-read v i r g true a c d e = refl
 if-then-read v i r g false a c d e = e
 
-pub read-followed : (p : Place) (u : UnitId) (x : ℕ) (ws : List Word) (f g : Trace) → take_read p u x ws (followed f g) ≡ read_then g (take_read p u x ws f) (take_read p u x ws g)
+pub read-followed : (p : Place) (u : UnitId) (x : ℕ) (ws : List Word) (f g : Trace) → take_read p u x ws (trace_then f g) ≡ read_then g (take_read p u x ws f) (take_read p u x ws g)
 unfolding take_read
 read-followed p u x ws Nothing g = refl
 read-followed p u x ws (Stepped rest) g = read-followed p u x ws rest g
@@ -132,8 +132,8 @@ read-followed p u x ws (Allocated b k rest) g = read-followed p u x ws rest g
 read-followed p u x ws (Wrote q v rest) g = read-followed p u x ws rest g
 read-followed p u x ws (WasRead q v w y args inside rest) g =
     if-then-read v inside rest g (same_read q w y args p u x ws)
-    (read_then (followed rest g) (take_read p u x ws inside) (take_read p u x ws (followed rest g))) (read_then rest (take_read p u x ws inside) (take_read p u x ws rest)) (take_read p u x ws g)
-    (ap (λ o. read_then (followed rest g) (take_read p u x ws inside) o) (read-followed p u x ws rest g)
+    (read_then (trace_then rest g) (take_read p u x ws inside) (take_read p u x ws (trace_then rest g))) (read_then rest (take_read p u x ws inside) (take_read p u x ws rest)) (take_read p u x ws g)
+    (ap (λ o. read_then (trace_then rest g) (take_read p u x ws inside) o) (read-followed p u x ws rest g)
     ∙ then-then-read rest g (take_read p u x ws inside) (take_read p u x ws rest) (take_read p u x ws g))
 
 if-found-read : (v : Word) (is : List Item) (n : ℕ) (t : Bool) (a : Option TakenRead) (c : Option FoundRead) → a ≡ taken_read c

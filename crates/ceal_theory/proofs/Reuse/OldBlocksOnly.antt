@@ -1,7 +1,7 @@
 -- Old items whose blocks are all old ones, also where what stood around them is gone, stay so as a repair learns more.
 use Rattle.std.proofs.Common.{◌≡◌, ℕ, Bool, true, false, ◌==◌, ◌&&◌, if◌then◌else◌, Option, Some, None, List, ◌∷◌, refl, ap, ◌∙◌, subst}
 use Rattle.ceal_base.specs.Operators.{same_place}
-use Rattle.ceal_base.specs.Trace.{Trace, Nothing, Stepped, Allocated, Wrote, WasRead, followed}
+use Rattle.ceal_base.specs.Trace.{Trace, Nothing, Stepped, Allocated, Wrote, WasRead, trace_then}
 use Rattle.ceal_base.specs.declared.forest.Key.{Key}
 use Rattle.ceal_base.specs.declared.forest.UnitId.{UnitId}
 use Rattle.ceal_base.specs.declared.word.BlockId.TheVariants.{Input, Core}
@@ -73,7 +73,7 @@ module _ (code : Code) (n : ℕ) (ds : List ℕ) where
   pub later : (x z : Plain) → Holds n ds x → Extends x z → (st : Stack) (l : Trace) → KnownStack n ds st → Sure code n ds x l → Told code x (next code x st) l → Told code z (next code z st) l
   later x z h e st l k s t = at-more x z h e st l k (told-more x z h e t (knows x h st k) s)
 
-  sure-followed : (x : Plain) (f g : Trace) → Sure code n ds x f → Sure code n ds x g → Sure code n ds x (followed f g)
+  sure-followed : (x : Plain) (f g : Trace) → Sure code n ds x f → Sure code n ds x g → Sure code n ds x (trace_then f g)
   sure-followed x Nothing g h k = k
   sure-followed x (Stepped rest) g h k = sure-followed x rest g h k
   sure-followed x (Allocated (Core b) key rest) g h k = (h.0, h.1, h.2, sure-followed x rest g h.3 k)
@@ -102,7 +102,7 @@ module _ (code : Code) (n : ℕ) (ds : List ℕ) where
     alloc-then key rest None second t h f g e = g t e
     alloc-then key rest (Some a) second t h f g e =
         let k = f a refl in
-        subst (λ t. SureAlloc x key t) (some-same (record a { leftover = followed a.leftover rest }) t e)
+        subst (λ t. SureAlloc x key t) (some-same (record a { leftover = trace_then a.leftover rest }) t e)
         (record { core = k.core; is = k.is; old = k.old; held = k.held; left = sure-followed x a.leftover rest k.left h })
 
     alloc-if : (test : Bool) (b : ℕ) (k key : Key) (rest : Trace) (t : TakenAlloc) → same_key k key ≡ test → In b ds → x (Core b) ≡ Some (made code x k) → Sure code n ds x rest
@@ -128,7 +128,7 @@ module _ (code : Code) (n : ℕ) (ds : List ℕ) where
     read-then u v args rest None second r h f g e = g r e
     read-then u v args rest (Some a) second r h f g e =
         let k = f a refl in
-        subst (λ r. SureRead x u v args r) (some-same (record a { leftover = followed a.leftover rest }) r e)
+        subst (λ r. SureRead x u v args r) (some-same (record a { leftover = trace_then a.leftover rest }) r e)
         (record { value = k.value; words = k.words; told = k.told; inside = k.inside; left = sure-followed x a.leftover rest k.left h })
 
     read-if : (test : Bool) (p q : Place) (value : Word) (u u' : UnitId) (v v' : ℕ) (args args' : List Word) (inside rest : Trace) (other : Option TakenRead) (r : TakenRead)

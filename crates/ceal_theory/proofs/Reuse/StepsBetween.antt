@@ -12,9 +12,9 @@ use Rattle.ceal_code.specs.Step.{Stack}
 use Rattle.ceal_theory.proofs.Reuse.TakenAfterRevocation.{bare-take, bare-take-read}
 use Rattle.ceal_theory.specs.Course.{BareMode, BareFrames, BareLaw}
 use Rattle.ceal_theory.specs.Groves.{bare, bare_alloc, bare_read}
-use Rattle.ceal_theory.specs.Repair.{State, Anew}
+use Rattle.ceal_theory.specs.Repair.{State, Reruns}
 use Rattle.ceal_theory.specs.Take.{TakenAlloc, TakenRead, take_alloc, take_read}
-use Rattle.ceal_theory.specs.Turns.{Mode, Fixing, Running, Frames, Bottom, AfterFix, AfterMend, AfterRun, Resumes, Finishes, BecomesBy}
+use Rattle.ceal_theory.specs.Moves.{Mode, Fixing, Running, Frames, Bottom, AfterFix, AfterMend, AfterRun, Resumes, Finishes, BecomesBy}
 
 -- what is taken from the other leftover
 pub record AllocToo (key : Key) (m : Trace) (t : TakenAlloc) : Type 0 where
@@ -76,27 +76,27 @@ read-none p u v args l m e h =
 module _ (code : Code) (names : ℕ → ℕ) where
   pub record RanBare (s : State) (st : Stack) (m : Trace) (s' : State) (new left : Trace) : Type 0 where
     pub over : Trace
-    pub anew : Anew code names s st m s' new over
+    pub anew : Reruns code names s st m s' new over
     pub same : bare left ≡ bare over
 
   -- a run is the same over the other leftover
-  pub anew-bare : {s s' : State} {st : Stack} {l new left : Trace} → Anew code names s st l s' new left → (m : Trace) → bare l ≡ bare m → RanBare s st m s' new left
-  anew-bare (Anew.over e) m h = record { over = m; anew = Anew.over e; same = h }
-  anew-bare (Anew.quiet e a) m h = let q = anew-bare a m h in record { over = q.over; anew = Anew.quiet e q.anew; same = q.same }
-  anew-bare {l = l} (Anew.takes_alloc {key = key} {t = t} e w a) m h =
+  pub anew-bare : {s s' : State} {st : Stack} {l new left : Trace} → Reruns code names s st l s' new left → (m : Trace) → bare l ≡ bare m → RanBare s st m s' new left
+  anew-bare (Reruns.over e) m h = record { over = m; anew = Reruns.over e; same = h }
+  anew-bare (Reruns.quiet e a) m h = let q = anew-bare a m h in record { over = q.over; anew = Reruns.quiet e q.anew; same = q.same }
+  anew-bare {l = l} (Reruns.takes_alloc {key = key} {t = t} e w a) m h =
       let x = alloc-too key l m h t w in
       let q = anew-bare a x.left x.same in
-      record { over = q.over; anew = Anew.takes_alloc e x.taken q.anew; same = q.same }
-  anew-bare {l = l} (Anew.makes {key = key} e w a) m h = let q = anew-bare a m h in record { over = q.over; anew = Anew.makes e (alloc-none key l m h w) q.anew; same = q.same }
-  anew-bare (Anew.writes e a) m h = let q = anew-bare a m h in record { over = q.over; anew = Anew.writes e q.anew; same = q.same }
-  anew-bare {l = l} (Anew.takes_read {p = p} {u = u} {v = v} {args = args} {r = r} e w n a) m h =
+      record { over = q.over; anew = Reruns.takes_alloc e x.taken q.anew; same = q.same }
+  anew-bare {l = l} (Reruns.makes {key = key} e w a) m h = let q = anew-bare a m h in record { over = q.over; anew = Reruns.makes e (alloc-none key l m h w) q.anew; same = q.same }
+  anew-bare (Reruns.writes e a) m h = let q = anew-bare a m h in record { over = q.over; anew = Reruns.writes e q.anew; same = q.same }
+  anew-bare {l = l} (Reruns.takes_read {p = p} {u = u} {v = v} {args = args} {r = r} e w n a) m h =
       let x = read-too p u v args l m h r w in
       let q = anew-bare a x.left x.same in
-      record { over = q.over; anew = Anew.takes_read e x.taken n q.anew; same = q.same }
-  anew-bare {l = l} (Anew.reads {p = p} {u = u} {v = v} {args = args} e w n a) m h =
+      record { over = q.over; anew = Reruns.takes_read e x.taken n q.anew; same = q.same }
+  anew-bare {l = l} (Reruns.reads {p = p} {u = u} {v = v} {args = args} e w n a) m h =
       let q = anew-bare n m h in
       let q' = anew-bare a q.over q.same in
-      record { over = q'.over; anew = Anew.reads e (read-none p u v args l m h w) q.anew q'.anew; same = q'.same }
+      record { over = q'.over; anew = Reruns.reads e (read-none p u v args l m h w) q.anew q'.anew; same = q'.same }
 
   pub resumes-bare : {s s' : State} {l : Trace} {fs : Frames} {out : List Item} → Resumes code names s l fs s' out →
       (m : Trace) → bare l ≡ bare m → {gs : Frames} → BareFrames fs gs → Resumes code names s m gs s' out

@@ -1,6 +1,6 @@
 -- What is taken from old nodes stays when nodes before it are revoked.
 use Rattle.std.proofs.Common.{◌≡◌, ℕ, zero, suc, Bool, true, false, if◌then◌else◌, Option, Some, None, List, [], ◌∷◌, ◌++◌, refl, sym, ap, ◌∙◌}
-use Rattle.ceal_base.specs.Trace.{Trace, Nothing, Stepped, Allocated, Wrote, WasRead, followed}
+use Rattle.ceal_base.specs.Trace.{Trace, Nothing, Stepped, Allocated, Wrote, WasRead, trace_then}
 use Rattle.ceal_base.specs.declared.forest.Item.TheVariants.{End}
 use Rattle.ceal_base.specs.declared.forest.Key.{Key}
 use Rattle.ceal_base.specs.declared.forest.UnitId.{UnitId}
@@ -12,7 +12,7 @@ use Rattle.ceal_theory.specs.Groves.{Knot, bare_alloc, bare_read, first_has, fir
 use Rattle.ceal_theory.specs.Levels.{same_read}
 use Rattle.ceal_theory.specs.Take.{TakenAlloc, TakenRead, same_key, alloc_then, read_then, take_alloc, take_read}
 
-bare-followed : (f g : Trace) → bare (followed f g) ≡ followed (bare f) (bare g)
+bare-followed : (f g : Trace) → bare (trace_then f g) ≡ trace_then (bare f) (bare g)
 bare-followed Nothing g = refl
 bare-followed (Stepped rest) g = bare-followed rest g
 bare-followed (Allocated b key rest) g = ap (Allocated b key) (bare-followed rest g)
@@ -33,7 +33,7 @@ bare-stepped (suc n) t = bare-stepped n t
 bare-then : (rest : Trace) (a c c' : Option TakenAlloc) → bare_alloc c ≡ bare_alloc c' → bare_alloc (alloc_then (bare rest) a c) ≡ bare_alloc (alloc_then rest a c')
 bare-then rest None c c' e = e
 bare-then rest (Some t) c c' e = ap (λ l. Some (record t { leftover = l }))
-    (bare-followed t.leftover (bare rest) ∙ (ap (λ r. followed (bare t.leftover) r) (bare-bare rest) ∙ sym
+    (bare-followed t.leftover (bare rest) ∙ (ap (λ r. trace_then (bare t.leftover) r) (bare-bare rest) ∙ sym
     (bare-followed t.leftover rest)))
 
 bare-if : (b : Bool) (block : BlockId) (rest : Trace) (c c' : Option TakenAlloc) → bare_alloc c ≡ bare_alloc c'
@@ -53,7 +53,7 @@ bare-take key (WasRead p v u x args inside rest) = bare-then rest (take_alloc ke
 bare-then-read : (rest : Trace) (a c c' : Option TakenRead) → bare_read c ≡ bare_read c' → bare_read (read_then (bare rest) a c) ≡ bare_read (read_then rest a c')
 bare-then-read rest None c c' e = e
 bare-then-read rest (Some t) c c' e = ap (λ l. Some (record t { leftover = l }))
-    (bare-followed t.leftover (bare rest) ∙ (ap (λ r. followed (bare t.leftover) r) (bare-bare rest) ∙ sym
+    (bare-followed t.leftover (bare rest) ∙ (ap (λ r. trace_then (bare t.leftover) r) (bare-bare rest) ∙ sym
     (bare-followed t.leftover rest)))
 
 bare-if-read : (b : Bool) (v : Word) (inside rest : Trace) (c c' : Option TakenRead) → bare_read c ≡ bare_read c'
@@ -74,11 +74,11 @@ bare-take-read p u x args (WasRead q v w y words inside rest) =
     (bare-then-read rest (take_read p u x args inside) (take_read p u x args (bare rest)) (take_read p u x args rest) (bare-take-read p u x args rest))
 
 -- the trace of nodes that were parts
-stepped-followed : (n : ℕ) (f g : Trace) → followed (stepped n f) g ≡ stepped n (followed f g)
+stepped-followed : (n : ℕ) (f g : Trace) → trace_then (stepped n f) g ≡ stepped n (trace_then f g)
 stepped-followed zero f g = refl
 stepped-followed (suc n) f g = ap Stepped (stepped-followed n f g)
 
-pub trace-joined : (f g : Grove) → trace_in (joined f g) ≡ followed (trace_in f) (trace_in g)
+pub trace-joined : (f g : Grove) → trace_in (joined f g) ≡ trace_then (trace_in f) (trace_in g)
 trace-joined Bare g = refl
 trace-joined (Made s b key n rest) g = ap (λ t. Allocated b key (stepped n t)) (trace-joined rest g) ∙ ap (Allocated b key) (sym (stepped-followed n (trace_in rest) (trace_in g)))
 trace-joined (Put s p v n rest) g = ap (λ t. Wrote p v (stepped n t)) (trace-joined rest g) ∙ ap (Wrote p v) (sym (stepped-followed n (trace_in rest) (trace_in g)))
@@ -99,12 +99,14 @@ take-stepped-read p u x args (suc n) t = take-stepped-read p u x args n t
 then-stepped : (m : ℕ) (rest : Trace) (a c : Option TakenAlloc) → bare_alloc (alloc_then rest a c) ≡ bare_alloc (alloc_then (stepped m rest) a c)
 then-stepped m rest None c = refl
 then-stepped m rest (Some t) c =
-    ap (λ l. Some (record t { leftover = l })) (bare-followed t.leftover rest ∙ (ap (λ r. followed (bare t.leftover) r) (sym (bare-stepped m rest)) ∙ sym (bare-followed t.leftover (stepped m rest))))
+    ap (λ l. Some (record t { leftover = l }))
+    (bare-followed t.leftover rest ∙ (ap (λ r. trace_then (bare t.leftover) r) (sym (bare-stepped m rest)) ∙ sym (bare-followed t.leftover (stepped m rest))))
 
 then-stepped-read : (m : ℕ) (rest : Trace) (a c : Option TakenRead) → bare_read (read_then rest a c) ≡ bare_read (read_then (stepped m rest) a c)
 then-stepped-read m rest None c = refl
 then-stepped-read m rest (Some t) c =
-    ap (λ l. Some (record t { leftover = l })) (bare-followed t.leftover rest ∙ (ap (λ r. followed (bare t.leftover) r) (sym (bare-stepped m rest)) ∙ sym (bare-followed t.leftover (stepped m rest))))
+    ap (λ l. Some (record t { leftover = l }))
+    (bare-followed t.leftover rest ∙ (ap (λ r. trace_then (bare t.leftover) r) (sym (bare-stepped m rest)) ∙ sym (bare-followed t.leftover (stepped m rest))))
 
 -- to revoke the first node, where it has not the key, changes nothing of what is taken
 pub cut-take : (key : Key) (g : Grove) → first_has key g ≡ false → bare_alloc (take_alloc key (trace_in (cut g))) ≡ bare_alloc (take_alloc key (trace_in g))

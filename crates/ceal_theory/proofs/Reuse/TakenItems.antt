@@ -1,7 +1,7 @@
 -- What is taken from old items, and what is left over.
 use Rattle.std.proofs.Common.{◌≡◌, ℕ, Bool, true, false, ◌==◌, ◌&&◌, if◌then◌else◌, Option, Some, None, List, [], ◌∷◌, refl, ap, ap₂, subst, arith}
 use Rattle.ceal_base.specs.Operators.{same_place, same_word}
-use Rattle.ceal_base.specs.Trace.{Trace, Nothing, Stepped, Allocated, Wrote, WasRead, followed}
+use Rattle.ceal_base.specs.Trace.{Trace, Nothing, Stepped, Allocated, Wrote, WasRead, trace_then}
 use Rattle.ceal_base.specs.declared.forest.Key.{Key}
 use Rattle.ceal_base.specs.declared.forest.Key.TheVariants.{Init, ModInt as IntKey, ModPtr as PtrKey}
 use Rattle.ceal_base.specs.declared.forest.UnitId.{UnitId}
@@ -34,7 +34,7 @@ pub unit-same : (u w : UnitId) → (u.0 == w.0) ≡ true → u ≡ w
 unit-same u w h = ap (λ n. record { 0 = n }) (nat-same u.0 w.0 h)
 
 module _ (code : Code) (x y : Plain) where
-  pub pieces-followed : (f g : Trace) → Pieces code x y f → Pieces code x y g → Pieces code x y (followed f g)
+  pub pieces-followed : (f g : Trace) → Pieces code x y f → Pieces code x y g → Pieces code x y (trace_then f g)
   pieces-followed Nothing g h k = k
   pieces-followed (Stepped rest) g h k = pieces-followed rest g h k
   pieces-followed (Allocated (Core b) key rest) g h k = (h.0, pieces-followed rest g h.1 k)
@@ -61,7 +61,7 @@ module _ (code : Code) (x y : Plain) where
   alloc-then key rest None second t h f g e = g t e
   alloc-then key rest (Some a) second t h f g e =
       let k = f a refl in
-      subst (λ t. FromAlloc key t) (some-same (record a { leftover = followed a.leftover rest }) t e)
+      subst (λ t. FromAlloc key t) (some-same (record a { leftover = trace_then a.leftover rest }) t e)
       (record { core = k.core; is = k.is; held = k.held; left = pieces-followed a.leftover rest k.left h })
 
   alloc-if : (test : Bool) (b : ℕ) (k key : Key) (rest : Trace) (t : TakenAlloc)
@@ -95,7 +95,7 @@ module _ (code : Code) (x y : Plain) where
   read-then u v args rest None second r h f g e = g r e
   read-then u v args rest (Some a) second r h f g e =
       let k = f a refl in
-      subst (λ r. FromRead u v args r) (some-same (record a { leftover = followed a.leftover rest }) r e)
+      subst (λ r. FromRead u v args r) (some-same (record a { leftover = trace_then a.leftover rest }) r e)
       (record { yields = k.yields; inside = k.inside; left = pieces-followed a.leftover rest k.left h })
 
   read-if : (test : Bool) (p q : Place) (value : Word) (u u' : UnitId) (v v' : ℕ) (args args' : List Word) (inside rest : Trace) (other : Option TakenRead) (r : TakenRead)

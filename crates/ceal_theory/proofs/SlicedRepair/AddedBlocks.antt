@@ -12,7 +12,7 @@ use Rattle.ceal_code.specs.Replay.{learnt, Distinct, core_numbers}
 use Rattle.ceal_code.specs.Step.{Stack}
 use Rattle.ceal_code.specs.Value.{Plain}
 use Rattle.ceal_theory.proofs.Repair.DistinctBlocks.{uses, named, next-named, distinct-new, times-append, times-cons, anew-uses}
-use Rattle.ceal_theory.specs.Repair.{Single, State, clears, puts, works, grows, Fix, Mend, Anew}
+use Rattle.ceal_theory.specs.Repair.{Single, State, clears, puts, works, grows, Fix, Mend, Reruns}
 use Rattle.ceal_theory.specs.Slices.{Part, NamesApart}
 use Rattle.ceal_theory.specs.SliceLaws.{IsNamed}
 
@@ -110,17 +110,17 @@ module _ (code : Code) {names : ℕ → ℕ} where
     mend-adds (Mend.kept e f) = fix-adds f
     mend-adds (Mend.stale e a) = anew-adds a
 
-    pub anew-adds : {s s' : State} {st : Stack} {old new left : Trace} → Anew code names s st old s' new left → Adds names s s' new
-    anew-adds {s} {s'} (Anew.over e) = adds-none names s s' refl refl refl
-    anew-adds {s} {s'} (Anew.quiet {new = l} e a) = with-items names s (works s) s' l (Stepped l) (λ b. omega arith) refl refl (omega arith) (anew-adds a)
-    anew-adds {s} {s'} (Anew.takes_alloc {key = key} {new = l} {t = t} e w a) =
+    pub anew-adds : {s s' : State} {st : Stack} {old new left : Trace} → Reruns code names s st old s' new left → Adds names s s' new
+    anew-adds {s} {s'} (Reruns.over e) = adds-none names s s' refl refl refl
+    anew-adds {s} {s'} (Reruns.quiet {new = l} e a) = with-items names s (works s) s' l (Stepped l) (λ b. omega arith) refl refl (omega arith) (anew-adds a)
+    anew-adds {s} {s'} (Reruns.takes_alloc {key = key} {new = l} {t = t} e w a) =
         with-items names s (clears code (works s) t.block key) s' l (Stepped (Allocated t.block key l)) (λ b. omega (arith, times-cons b t.block (blocks_of l))) refl refl (omega arith) (anew-adds a)
-    anew-adds {s} {s'} (Anew.makes {key = key} {new = l} e w a) = adds-block code names s s' key l (anew-adds a)
-    anew-adds {s} {s'} (Anew.writes {p = p} {value = v} {new = l} e a) = with-items names s (puts (works s) p v) s' l (Stepped (Wrote p v l)) (λ b. omega arith) refl refl (omega arith) (anew-adds a)
-    anew-adds {s} {s'} (Anew.takes_read {t = t} {p = p} {u = u} {v = v} {args = args} {inside' = i} {new = l} e w m a) =
+    anew-adds {s} {s'} (Reruns.makes {key = key} {new = l} e w a) = adds-block code names s s' key l (anew-adds a)
+    anew-adds {s} {s'} (Reruns.writes {p = p} {value = v} {new = l} e a) = with-items names s (puts (works s) p v) s' l (Stepped (Wrote p v l)) (λ b. omega arith) refl refl (omega arith) (anew-adds a)
+    anew-adds {s} {s'} (Reruns.takes_read {t = t} {p = p} {u = u} {v = v} {args = args} {inside' = i} {new = l} e w m a) =
         with-items names s (works s) s' (WasRead p (s.store p) u v args i l) (Stepped (WasRead p (s.store p) u v args i l)) (λ b. omega arith) refl refl (omega arith)
         (then' names (works s) t s' i l (WasRead p (s.store p) u v args i l) (λ b. times-append b (blocks_of i) (blocks_of l)) (mend-adds m) (anew-adds a))
-    anew-adds {s} {s'} (Anew.reads {t = t} {p = p} {u = u} {v = v} {args = args} {inside' = i} {new = l} e w m a) =
+    anew-adds {s} {s'} (Reruns.reads {t = t} {p = p} {u = u} {v = v} {args = args} {inside' = i} {new = l} e w m a) =
         with-items names s (works s) s' (WasRead p (s.store p) u v args i l) (Stepped (WasRead p (s.store p) u v args i l)) (λ b. omega arith) refl refl (omega arith)
         (then' names (works s) t s' i l (WasRead p (s.store p) u v args i l) (λ b. times-append b (blocks_of i) (blocks_of l)) (anew-adds m) (anew-adds a))
 

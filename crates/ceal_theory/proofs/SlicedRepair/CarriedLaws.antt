@@ -28,11 +28,11 @@ use Rattle.ceal_theory.proofs.Repair.RepairReplays.{plain-none}
 use Rattle.ceal_theory.proofs.SlicedRepair.SliceLaws.{begin-law, other-names-law, slice-law, slices-law}
 use Rattle.ceal_theory.proofs.SlicedRepair.Soundness.{uses-in}
 use Rattle.ceal_theory.specs.Adjust.{Extended, Above}
-use Rattle.ceal_theory.specs.Carried.{Knows, Carried, CarriedSlices, CarriedBeginLaw, CarriedMoreLaw, CarriedSliceLaw, CarriedSameLaw, CarriedTraceLaw, CarriedOnLaw, counted_anew}
+use Rattle.ceal_theory.specs.Carried.{Knows, Carried, CarriedSlices, CarriedBeginLaw, CarriedMoreLaw, CarriedSliceLaw, CarriedSameLaw, CarriedTraceLaw, CarriedOnLaw, numbered_from_zero}
 use Rattle.ceal_theory.specs.Laws.{Edited}
 use Rattle.ceal_theory.specs.Repair.{Single, own}
 use Rattle.ceal_theory.specs.SliceLaws.{held, IsNamed, NamedBeginning, Sliced}
-use Rattle.ceal_theory.specs.Slices.{Repair, with_inputs, sliced, Slices, RepairHolds, beginning, AlikeRepairs, ComesBehind, RenamedSlices}
+use Rattle.ceal_theory.specs.Slices.{Repair, with_inputs, sliced, Slices, RepairHolds, beginning, AlikeRepairs, IsOldOrNewPair, RenamedSlices}
 
 some-none : {A : Type 0} {B : Type 0} (o : Option A) (x : A) → o ≡ Some x → o ≡ None → B
 some-none o x e n = none-some x (sym n ∙ e)
@@ -67,7 +67,7 @@ module _ (code : Code) (names : ℕ → ℕ) (inputs : List Block) (f : ℕ) (ar
   }
 
   module _ (k : Option ℕ) (n : ℕ) (r' q' : Repair) (sr : Slices code own inputs k r r') (sq : Slices code names inputs k q q') (qs : Pairs) (wide : Within h.pairs qs)
-      (a : AlikeRepairs code own names inputs qs r' q') (from : (b c : ℕ) → Tied b c qs → ComesBehind own names h.pairs r q b c) where
+      (a : AlikeRepairs code own names inputs qs r' q') (from : (b c : ℕ) → Tied b c qs → IsOldOrNewPair own names h.pairs r q b c) where
     lr : Sliced code own inputs f args r r'
     lr = slice-law code own inputs f args fits r hr k r' sr
 
@@ -96,21 +96,21 @@ module _ (code : Code) (names : ℕ → ℕ) (inputs : List Block) (f : ℕ) (ar
         of (inr (inl l)) = l
         of (inr (inr g)) = no (omega (arith, g))
 
-    left-known : (b c : ℕ) → Tied b c qs → ComesBehind own names h.pairs r q b c → Knows r'.known b
-    left-known b c t (ComesBehind.old i) = let w = h.left b c i in (w.0, lr.kept (b) w.0 w.1)
-    left-known b c t (ComesBehind.new j e e') =
+    left-known : (b c : ℕ) → Tied b c qs → IsOldOrNewPair own names h.pairs r q b c → Knows r'.known b
+    left-known b c t (IsOldOrNewPair.old i) = let w = h.left b c i in (w.0, lr.kept (b) w.0 w.1)
+    left-known b c t (IsOldOrNewPair.new j e e') =
         subst (λ d. Knows r'.known d) (sym e)
         (held-known code inputs f args r' lr.sound (own (r.number + j)) (omega (arith, lr.new (r.number + j) (omega arith) (number-left b c t j e))))
 
-    right-known : (b c : ℕ) → Tied b c qs → ComesBehind own names h.pairs r q b c → Knows q'.known c
-    right-known b c t (ComesBehind.old i) = let w = h.right b c i in (w.0, lq.kept c w.0 w.1)
-    right-known b c t (ComesBehind.new j e e') =
+    right-known : (b c : ℕ) → Tied b c qs → IsOldOrNewPair own names h.pairs r q b c → Knows q'.known c
+    right-known b c t (IsOldOrNewPair.old i) = let w = h.right b c i in (w.0, lq.kept c w.0 w.1)
+    right-known b c t (IsOldOrNewPair.new j e e') =
         subst (λ d. Knows q'.known d) (sym e')
         (held-known code inputs f args q' lq.sound (names (q.number + j)) (omega (arith, lq.new (q.number + j) (omega arith) (number-right b c t j e'))))
 
-    old-number : (b c : ℕ) → ComesBehind own names h.pairs r q b c → b < next → b ≡ c
-    old-number b c (ComesBehind.old i) l = h.kept b c i l
-    old-number b c (ComesBehind.new j e e') l = absurd (omega (arith, e, l, h.above))
+    old-number : (b c : ℕ) → IsOldOrNewPair own names h.pairs r q b c → b < next → b ≡ c
+    old-number b c (IsOldOrNewPair.old i) l = h.kept b c i l
+    old-number b c (IsOldOrNewPair.new j e e') l = absurd (omega (arith, e, l, h.above))
 
     all-left : (b : ℕ) → Knows r'.known b → (c : ℕ) × Tied b c qs
     all-left b w = of (lr.known b w.0 w.1)
@@ -291,5 +291,5 @@ carried-trace-law code inputs f args fits l m rl rm ps one t number other al am 
 
 pub carried-on-law : CarriedOnLaw
 carried-on-law code names names' inputs f args fits r q hr hq single off next h k n =
-    carried-slice-law code names' inputs f args fits r (counted_anew q) hr (other-names-law code names names' inputs f args q hq single 0 (λ j i. off j)) next
-    (carried-same-law code inputs next r q (counted_anew q) h refl (λ b. refl) refl) k n
+    carried-slice-law code names' inputs f args fits r (numbered_from_zero q) hr (other-names-law code names names' inputs f args q hq single 0 (λ j i. off j)) next
+    (carried-same-law code inputs next r q (numbered_from_zero q) h refl (λ b. refl) refl) k n

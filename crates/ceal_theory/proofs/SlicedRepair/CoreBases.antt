@@ -18,7 +18,7 @@ use Rattle.ceal_theory.proofs.Repair.RepairInvariant.{Extends, extends-trans, ag
 use Rattle.ceal_theory.proofs.Store.WordsGrow.{mentions-subset, pieces-more, anew-grows}
 use Rattle.ceal_theory.proofs.Store.FittingInputs.{bases-known}
 use Rattle.ceal_theory.proofs.Repair.RepairYields.{wider, holds-with, ran-known, cleared-known, store-more, held-key, step-y, anew-plays}
-use Rattle.ceal_theory.specs.Repair.{Single, State, clears, resumed, Anew}
+use Rattle.ceal_theory.specs.Repair.{Single, State, clears, resumed, Reruns}
 use Rattle.ceal_theory.proofs.Store.KnownPlaces.{SameAt, cleared-same, stored-same, anew-again}
 use Rattle.ceal_theory.specs.Walk.{with_store}
 use Rattle.ceal_theory.proofs.SlicedRepair.DoneReplays.{same-bases, begun}
@@ -97,8 +97,8 @@ module _ (names : ℕ → ℕ) (single : Single names) (code : Code) (n : ℕ) (
       let q1 = anew-again code names n f1 m.mentions t w in
       let sub1 : Subset bs m.known = mentions-subset m.mentions in
       let q2 = part-in-order f2 ext m.known m.good below r2 (stack-more n bs m.known sub1 below a.2) (pieces-more code s.plain s1.plain y g1.plain l h.2) q1.after q1.same in
-      let a' : Anew code names (with_store s t) (resumed code u v args (t p)) o (with_store s1 q1.after) o' left =
-      subst (λ z. Anew code names (with_store s t) (resumed code u v args z) o (with_store s1 q1.after) o' left)
+      let a' : Reruns code names (with_store s t) (resumed code u v args (t p)) o (with_store s1 q1.after) o' left =
+      subst (λ z. Reruns code names (with_store s t) (resumed code u v args z) o (with_store s1 q1.after) o' left)
       (w p a.0) q1.anew in
       let z : Part code names (suc k1) (with_store s t) (WasRead p value u v args o l) j1 (with_store s' q2.after)
       (WasRead p (t p) u v args o' l') = Part.stale (λ i. apart' (w p a.0 ∙ i)) a' q2.part in

@@ -12,8 +12,8 @@ use Rattle.ceal_code.specs.Replay.{Store}
 use Rattle.ceal_code.specs.Step.{Stack}
 use Rattle.ceal_theory.proofs.Repair.FunctionOfRules.{anew-found}
 use Rattle.ceal_theory.proofs.Repair.Honesty.{anew-honest}
-use Rattle.ceal_theory.specs.Computed.{Ran, anew}
-use Rattle.ceal_theory.specs.Repair.{State, Fix, Anew}
+use Rattle.ceal_theory.specs.Computed.{Ran, rerun}
+use Rattle.ceal_theory.specs.Repair.{State, Fix, Reruns}
 use Rattle.ceal_theory.specs.Walk.{with_store}
 use Rattle.ceal_theory.proofs.SlicedRepair.SliceFunction.{part-found}
 use Rattle.ceal_theory.proofs.SlicedRepair.SoundComposition.{to-later}
@@ -31,7 +31,7 @@ module _ (code : Code) (names : ℕ → ℕ) where
     pub lefts : left ≡ left'
 
   -- a unit that is re-executed has one end
-  pub anew-one : {s t t' : State} {st : Stack} {old m m' left left' : Trace} → Anew code names s st old t m left → Anew code names s st old t' m' left' → SameRun t t' m m' left left'
+  pub anew-one : {s t t' : State} {st : Stack} {old m m' left left' : Trace} → Reruns code names s st old t m left → Reruns code names s st old t' m' left' → SameRun t t' m m' left left'
   anew-one {s} {t} {t'} {st} {old} {m} {m'} {left} {left'} a b =
       let d = suc (t.work + t'.work) in
       let e = anew-found code names d s t st old m left a (omega arith) in
@@ -48,8 +48,8 @@ module _ (code : Code) (names : ℕ → ℕ) where
   pub part-one : {k j j' : ℕ} {s t t' : State} {l m m' : Trace} → Part code names k s l j t m → Part code names k s l j' t' m' → SamePart j j' t t' m m'
   part-one {k} {j} {j'} {s} {t} {t'} {l} {m} {m'} a b =
       let d = suc (t.work + t'.work) in
-      let e = part-found code names (anew code names d) d (anew-found code names d) a (omega arith) in
-      let e' = part-found code names (anew code names d) d (anew-found code names d) b (omega arith) in
+      let e = part-found code names (rerun code names d) d (anew-found code names d) a (omega arith) in
+      let e' = part-found code names (rerun code names d) d (anew-found code names d) b (omega arith) in
       let z = some-same (record { left = j; state = t; items = m }) (record { left = j'; state = t'; items = m' }) (sym e ∙ e') in
       record { lefts = ap (λ (r : Cut). r.left) z; states = ap (λ (r : Cut). r.state) z; items = ap (λ (r : Cut). r.items) z }
 

@@ -10,8 +10,8 @@ use Rattle.ceal_base.specs.declared.word.Word.{Word}
 use Rattle.ceal_code.proofs.Words.SameIsEqual.{word-same, word-refl}
 use Rattle.ceal_code.specs.Program.{Code}
 use Rattle.ceal_code.specs.Replay.{Store, Honest, cleared, stored}
-use Rattle.ceal_theory.specs.Repair.{State, clears, puts, resumed, Anew}
-use Rattle.ceal_theory.specs.Turns.{Running, Bottom, Machine, Resumes, Finishes}
+use Rattle.ceal_theory.specs.Repair.{State, clears, puts, resumed, Reruns}
+use Rattle.ceal_theory.specs.Moves.{Running, Bottom, Machine, Resumes, Finishes}
 use Rattle.ceal_code.specs.Step.{Stack}
 use Rattle.ceal_theory.proofs.SlicedRepair.SliceFunction.{part-rises}
 use Rattle.ceal_theory.proofs.SlicedRepair.Composition.{walk-part}
@@ -244,7 +244,8 @@ module _ (code : Code) (names : ℕ → ℕ) where
 
   pub at-run : {l inside : Trace} {front back : List Item} {w : Store} {p : Place} {value : Word} {u : UnitId} {v : ℕ} {args : List Word} (s : State)
       → At code s.store l front w p value u v args inside back
-      → ¬ (w p ≡ value) → {t : State} {inside' left : Trace} → Anew code names (with_store s w) (resumed code u v args (w p)) inside t inside' left → Repaired s l front p (w p) u v args back t inside'
+      → ¬ (w p ≡ value) → {t : State} {inside' left : Trace} → Reruns code names (with_store s w) (resumed code u v args (w p)) inside t inside' left
+      → Repaired s l front p (w p) u v args back t inside'
   at-run s (At.here {p = p} {u = u} {v = v} {args = args} {rest = rest}) n {t} {inside'} a =
       record {
         items = WasRead p (s.store p) u v args inside' rest;
@@ -278,7 +279,7 @@ module _ (code : Code) (names : ℕ → ℕ) where
     pub state : State
     pub new : Trace
     pub left : Trace
-    pub anew : Anew code names (with_store s w) (resumed code u v args (w p)) inside state new left
+    pub anew : Reruns code names (with_store s w) (resumed code u v args (w p)) inside state new left
     pub work : state.work ≤ s'.work
 
   pub at-must : {l inside : Trace} {front back : List Item} {w : Store} {p : Place} {value : Word} {u : UnitId} {v : ℕ} {args : List Word} (s : State)
@@ -301,6 +302,6 @@ module _ (code : Code) (names : ℕ → ℕ) where
   abbrev pub alone : State → Stack → Trace → Machine
   alone s st old = record { state = s; mode = Running st old; frames = Bottom }
 
-  pub anew-finishes : {s t : State} {st : Stack} {old new left : Trace} → Anew code names s st old t new left
+  pub anew-finishes : {s t : State} {st : Stack} {old new left : Trace} → Reruns code names s st old t new left
       → Finishes code names (record { state = s; mode = Running st old; frames = Bottom }) t (flat new ++ [])
   anew-finishes a = Finishes.runs a Resumes.bottom

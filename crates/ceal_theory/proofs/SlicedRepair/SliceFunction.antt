@@ -10,8 +10,8 @@ use Rattle.ceal_code.proofs.Words.SameIsEqual.{word-same, word-refl, some-same, 
 use Rattle.ceal_code.specs.Program.{Code}
 use Rattle.ceal_theory.proofs.Repair.FunctionOfRules.{not-same, Sound as Sound_runner, Enough, fix-sound, anew-sound, fix-found, anew-found}
 use Rattle.ceal_theory.proofs.Repair.Honesty.{anew-rises}
-use Rattle.ceal_theory.specs.Computed.{Fixed, Ran, Runner, fix_by, anew}
-use Rattle.ceal_theory.specs.Repair.{State, clears, puts, resumed, Anew}
+use Rattle.ceal_theory.specs.Computed.{Fixed, Ran, Runner, fix_by, rerun}
+use Rattle.ceal_theory.specs.Repair.{State, clears, puts, resumed, Reruns}
 use Rattle.ceal_theory.specs.Slices.{Repair, goes_on, Part, Runs, repair_at, Slices, Cut, cut_with, and_cut, cut_off, cut_if, part_by, whole_within, part_within, sliced}
 
 pub part-rises : {code : Code} {names : ℕ → ℕ} {k j : ℕ} {s s' : State} {l m : Trace} → Part code names k s l j s' m → s.work ≤ s'.work
@@ -40,7 +40,7 @@ module _ (code : Code) (names : ℕ → ℕ) where
 
     off-sound : (k : ℕ) (s : State) (p : Place) (u : UnitId) (v : ℕ) (args : List Word) (value : Word) (inside : Trace) (o : Option Ran) (c : Cut)
         → same_word (s.store p) value ≡ false
-        → ((a : Ran) → o ≡ Some a → Anew code names s (resumed code u v args (s.store p)) inside a.state a.items a.left)
+        → ((a : Ran) → o ≡ Some a → Reruns code names s (resumed code u v args (s.store p)) inside a.state a.items a.left)
         → cut_off k o ≡ Some c → Mends k s p u v args value inside c
     off-sound k s p u v args value inside None c n h e = none-some c e
     off-sound k s p u v args value inside (Some a) c n h e =
@@ -100,7 +100,7 @@ module _ (code : Code) (names : ℕ → ℕ) where
     abbrev Result : Option ℕ → Repair → Type 0
     Result k r' = Slices code names inputs k r r' × r'.spent ≤ n
 
-    whole-in : (o : Option Fixed) (r' : Repair) → o ≡ fix_by code (anew code names (n + 1)) start r.items → whole_within n o ≡ Some r' → Result None r'
+    whole-in : (o : Option Fixed) (r' : Repair) → o ≡ fix_by code (rerun code names (n + 1)) start r.items → whole_within n o ≡ Some r' → Result None r'
     whole-in None r' h e = none-some r' e
     whole-in (Some a) r' h e = go (nat_le a.state.work n) refl e
       where
@@ -108,11 +108,11 @@ module _ (code : Code) (names : ℕ → ℕ) where
         go false k e = none-some r' e
         go true k e =
             subst (λ r'. Result None r') (some-same (repair_at a.state a.items) r' e) (
-              record { after = a.state; items = a.items; runs = Runs.whole (fix-sound code names (anew code names (n + 1)) (anew-sound code names (n + 1)) start r.items a (sym h)); is = refl },
+              record { after = a.state; items = a.items; runs = Runs.whole (fix-sound code names (rerun code names (n + 1)) (anew-sound code names (n + 1)) start r.items a (sym h)); is = refl },
               grind (arith, k),
             )
 
-    part-in : (k : ℕ) (o : Option Cut) (r' : Repair) → o ≡ part_by code (anew code names (n + 1)) k start r.items → part_within n o ≡ Some r' → Result (Some k) r'
+    part-in : (k : ℕ) (o : Option Cut) (r' : Repair) → o ≡ part_by code (rerun code names (n + 1)) k start r.items → part_within n o ≡ Some r' → Result (Some k) r'
     part-in k None r' h e = none-some r' e
     part-in k (Some a) r' h e = go (nat_le a.state.work n) refl e
       where
@@ -120,24 +120,24 @@ module _ (code : Code) (names : ℕ → ℕ) where
         go false i e = none-some r' e
         go true i e =
             subst (λ r'. Result (Some k) r') (some-same (repair_at a.state a.items) r' e) (
-              record { after = a.state; items = a.items; runs = Runs.part (part-sound (anew code names (n + 1)) (anew-sound code names (n + 1)) k start r.items a (sym h)); is = refl },
+              record { after = a.state; items = a.items; runs = Runs.part (part-sound (rerun code names (n + 1)) (anew-sound code names (n + 1)) k start r.items a (sym h)); is = refl },
               grind (arith, i),
             )
 
     -- the function gives slices by the rules, with no more steps spent than may be
     pub sliced-sound : (k : Option ℕ) (r' : Repair) → sliced code names inputs k n r ≡ Some r' → Slices code names inputs k r r' × r'.spent ≤ n
     unfolding sliced
-    sliced-sound None r' e = whole-in (fix_by code (anew code names (n + 1)) start r.items) r' refl e
-    sliced-sound (Some k) r' e = part-in k (part_by code (anew code names (n + 1)) k start r.items) r' refl e
+    sliced-sound None r' e = whole-in (fix_by code (rerun code names (n + 1)) start r.items) r' refl e
+    sliced-sound (Some k) r' e = part-in k (part_by code (rerun code names (n + 1)) k start r.items) r' refl e
 
     runs-found : (k : Option ℕ) (s' : State) (m : Trace) → Runs code names k start r.items s' m → s'.work ≤ n → sliced code names inputs k n r ≡ Some (repair_at s' m)
     unfolding sliced
     runs-found None s' m (Runs.whole f) h =
         let k : nat_le s'.work n ≡ true = grind (arith, h) in
-        rw (fix-found code names (anew code names (n + 1)) (n + 1) (anew-found code names (n + 1)) f (omega (arith, h)), k)
+        rw (fix-found code names (rerun code names (n + 1)) (n + 1) (anew-found code names (n + 1)) f (omega (arith, h)), k)
     runs-found (Some k) s' m (Runs.part f) h =
         let i : nat_le s'.work n ≡ true = grind (arith, h) in
-        rw (part-found (anew code names (n + 1)) (n + 1) (anew-found code names (n + 1)) f (omega (arith, h)), i)
+        rw (part-found (rerun code names (n + 1)) (n + 1) (anew-found code names (n + 1)) f (omega (arith, h)), i)
 
     -- and each of them
     pub sliced-found : (k : Option ℕ) (r' : Repair) → Slices code names inputs k r r' → r'.spent ≤ n → sliced code names inputs k n r ≡ Some r'

@@ -16,7 +16,7 @@ use Rattle.ceal_code.specs.Program.{Code}
 use Rattle.ceal_code.specs.Replay.{KnownWord, stored, IsHonest}
 use Rattle.ceal_theory.proofs.Store.Walk.{agrees-honest, flat-honest, walk-fix}
 use Rattle.ceal_theory.specs.Repair.{State, resumed}
-use Rattle.ceal_theory.specs.Turns.{Finishes}
+use Rattle.ceal_theory.specs.Moves.{Finishes}
 use Rattle.ceal_theory.proofs.TurnMachine.TurnKeepsEnd.{RanFlat, finishes-anew}
 use Rattle.ceal_theory.proofs.Repair.DistinctBlocks.{named-same, named-one, named-later}
 use Rattle.ceal_theory.proofs.SlicedRepair.CoreBases.{to-bases, from-bases}
@@ -45,7 +45,8 @@ use Rattle.ceal_theory.specs.SliceLaws.{StaysLaw, BegunLaw, BegunAdjustedLaw, Is
 use Rattle.ceal_theory.specs.SliceLaws.{FollowLaw, SlicesLaw, IsDoneLaw, BasesLaw, unit_alone, FirstStale, TurnLaw}
 use Rattle.ceal_theory.specs.SliceLaws.{KnownThere, ReadyLaw, Turns, TurnsLaw, History, HeldUp, HistoryLaw}
 use Rattle.ceal_theory.specs.SliceLaws.{RenamedSoundLaw, KeepLaw, SplitLaw, TurnedOver, TurnsOverLaw}
-use Rattle.ceal_theory.specs.Cover.{before, items_of, waits_after, CoverLaw, ReplaceLaw, known_after, Waiting, none_waits, closed, opened, ChangeLaw, PopLaw, FirstQueuedLaw, FrontLaw}
+use Rattle.ceal_theory.specs.Cover.{before, items_of, waits_after, CoverLaw, ReplaceLaw, known_after, Waiting, none_waits, waiting_after_write, waiting_after_read, ChangeLaw, PopLaw, FirstQueuedLaw}
+use Rattle.ceal_theory.specs.Cover.{FrontLaw}
 use Rattle.ceal_theory.specs.Walk.{store_after, AgreesAll, with_store}
 use Rattle.ceal_theory.specs.Slices.{Repair, with_inputs, starting, goes_on, Part, Runs, repair_at, Slices, sliced, RepairHolds, Follows}
 
@@ -136,14 +137,14 @@ is-done-law code inputs r = (done-honest code inputs r, honest-done code inputs 
 pub bases-law : BasesLaw
 bases-law code names inputs f args fits r h k r' = (to-bases code inputs f args fits r h k r', from-bases code inputs f args fits r h k r')
 
-other-place : (w : Waiting) (p : Place) (wait : Bool) (r : Place) → same_place r p ≡ false → w r ≡ true → opened (closed w p) p wait r ≡ true
-unfolding opened closed
+other-place : (w : Waiting) (p : Place) (wait : Bool) (r : Place) → same_place r p ≡ false → w r ≡ true → waiting_after_read (waiting_after_write w p) p wait r ≡ true
+unfolding waiting_after_read waiting_after_write
 other-place w p wait r e i = rw e i
 
 pub change-law : ChangeLaw
 change-law code q s p value l = (
   λ c. covered-change code p q l s (stored s p value) none_waits none_waits (λ r e. (stored-other s p value r e, λ i. i)) c,
-  λ w wait c. covered-change code p q l s s w (opened (closed w p) p wait) (λ r e. (refl, λ i. other-place w p wait r e i)) c,
+  λ w wait c. covered-change code p q l s s w (waiting_after_read (waiting_after_write w p) p wait) (λ r e. (refl, λ i. other-place w p wait r e i)) c,
 )
 
 pub pop-law : PopLaw

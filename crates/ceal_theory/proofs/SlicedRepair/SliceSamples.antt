@@ -17,7 +17,7 @@ use Rattle.ceal_code.specs.declared.expr.CodeExpr.TheVariants.{Num as NumExpr}
 use Rattle.ceal_code.specs.declared.expr.CodeExpr.TheViews.{Binary}
 use Rattle.ceal_code.specs.declared.function.FunctionCode.TheVariants.{Core as CoreFunction}
 use Rattle.ceal_theory.proofs.SampleBox.{var, v, u, place, number, box, box_inputs, box_first}
-use Rattle.ceal_theory.specs.Computed.{anew, Repaired, first_of}
+use Rattle.ceal_theory.specs.Computed.{rerun, Repaired, first_of}
 use Rattle.ceal_theory.specs.Repair.{own}
 use Rattle.ceal_theory.specs.Take.{take_alloc, take_read}
 use Rattle.ceal_theory.specs.Slices.{Repair, sliced, is_done, with_inputs, starting, beginning}
@@ -53,19 +53,19 @@ box_3 = slice_one box (box_inputs 2) 11 box_2
 -- the first `make` is re-executed and its block is revoked; then the second makes a block with another number; then
 -- `look`
 boxed-1 : report box (box_inputs 2) box_1 ≡ Some (record { spent = 1; done = false; steps = 9; blocks = [] })
-unfolding first_of sliced is_done with_inputs starting anew next stack_after_quiet chosen bound woven set unset expr_value
+unfolding first_of sliced is_done with_inputs starting rerun next stack_after_quiet chosen bound woven set unset expr_value
     values bases input_plain plain_of stored cleared learnt made set_by set_by_all arguments take_read take_alloc
     hidden-the_row-CodeExpr-0 shape-the_row-CodeExpr-0 denote.Hole.Carrier.hidden
 boxed-1 = refl
 
 boxed-2 : report box (box_inputs 2) box_2 ≡ Some (record { spent = 4; done = false; steps = 11; blocks = 1 ∷ [] })
-unfolding first_of sliced is_done with_inputs starting anew next stack_after_quiet chosen bound woven set unset expr_value
+unfolding first_of sliced is_done with_inputs starting rerun next stack_after_quiet chosen bound woven set unset expr_value
     values bases input_plain plain_of stored cleared learnt made set_by set_by_all arguments take_read take_alloc
     hidden-the_row-CodeExpr-0 shape-the_row-CodeExpr-0 denote.Hole.Carrier.hidden
 boxed-2 = refl
 
 boxed-3 : report box (box_inputs 2) box_3 ≡ Some (record { spent = 5; done = true; steps = 11; blocks = 1 ∷ [] })
-unfolding first_of sliced is_done with_inputs starting anew next stack_after_quiet chosen bound woven set unset expr_value
+unfolding first_of sliced is_done with_inputs starting rerun next stack_after_quiet chosen bound woven set unset expr_value
     values bases input_plain plain_of stored cleared learnt made set_by set_by_all arguments take_read take_alloc
     hidden-the_row-CodeExpr-0 shape-the_row-CodeExpr-0 denote.Hole.Carrier.hidden
 boxed-3 = refl
@@ -101,20 +101,20 @@ abbrev two_3 : Option Repair
 two_3 = slice_one two (two_inputs 3 7) 6 two_2
 
 two-1 : report two (two_inputs 2 7) two_1 ≡ Some (record { spent = 1; done = false; steps = 6; blocks = [] })
-unfolding first_of sliced is_done with_inputs starting anew next stack_after_quiet chosen bound woven set unset expr_value
+unfolding first_of sliced is_done with_inputs starting rerun next stack_after_quiet chosen bound woven set unset expr_value
     values bases input_plain plain_of stored cleared learnt made set_by set_by_all arguments take_read take_alloc
     hidden-the_row-CodeExpr-0 shape-the_row-CodeExpr-0 denote.Hole.Carrier.hidden
 two-1 = refl
 
 -- the first read is re-executed again after an edit, and counts again
 two-2 : report two (two_inputs 3 7) two_2 ≡ Some (record { spent = 2; done = false; steps = 6; blocks = [] })
-unfolding first_of sliced is_done with_inputs starting anew next stack_after_quiet chosen bound woven set unset expr_value
+unfolding first_of sliced is_done with_inputs starting rerun next stack_after_quiet chosen bound woven set unset expr_value
     values bases input_plain plain_of stored cleared learnt made set_by set_by_all arguments take_read take_alloc
     hidden-the_row-CodeExpr-0 shape-the_row-CodeExpr-0 denote.Hole.Carrier.hidden
 two-2 = refl
 
 two-3 : report two (two_inputs 3 7) two_3 ≡ Some (record { spent = 3; done = true; steps = 6; blocks = [] })
-unfolding first_of sliced is_done with_inputs starting anew next stack_after_quiet chosen bound woven set unset expr_value
+unfolding first_of sliced is_done with_inputs starting rerun next stack_after_quiet chosen bound woven set unset expr_value
     values bases input_plain plain_of stored cleared learnt made set_by set_by_all arguments take_read take_alloc
     hidden-the_row-CodeExpr-0 shape-the_row-CodeExpr-0 denote.Hole.Carrier.hidden
 two-3 = refl
@@ -133,13 +133,13 @@ abbrev two_7 : Option Repair
 two_7 = slice_one two (two_inputs 7 7) 6 two_6
 
 two-7 : report two (two_inputs 7 7) two_7 ≡ Some (record { spent = 6; done = false; steps = 6; blocks = [] })
-unfolding first_of sliced is_done with_inputs starting anew next stack_after_quiet chosen bound woven set unset expr_value
+unfolding first_of sliced is_done with_inputs starting rerun next stack_after_quiet chosen bound woven set unset expr_value
     values bases input_plain plain_of stored cleared learnt made set_by set_by_all arguments take_read take_alloc
     hidden-the_row-CodeExpr-0 shape-the_row-CodeExpr-0 denote.Hole.Carrier.hidden
 two-7 = refl
 
 two-8 : slice_one two (two_inputs 8 7) 6 two_7 ≡ None
-unfolding first_of sliced is_done with_inputs starting anew next stack_after_quiet chosen bound woven set unset expr_value
+unfolding first_of sliced is_done with_inputs starting rerun next stack_after_quiet chosen bound woven set unset expr_value
     values bases input_plain plain_of stored cleared learnt made set_by set_by_all arguments take_read take_alloc
     hidden-the_row-CodeExpr-0 shape-the_row-CodeExpr-0 denote.Hole.Carrier.hidden
 two-8 = refl

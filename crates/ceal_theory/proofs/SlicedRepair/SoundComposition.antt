@@ -16,7 +16,7 @@ use Rattle.ceal_theory.proofs.Repair.RepairInvariant.{Extends, extends-trans, Go
 use Rattle.ceal_theory.proofs.Store.WordsGrow.{mentions-subset, pieces-more, anew-grows}
 use Rattle.ceal_theory.proofs.Repair.RepairYields.{anew-plays}
 use Rattle.ceal_theory.proofs.Store.EqualContents.{stored-equal, cleared-equal}
-use Rattle.ceal_theory.specs.Repair.{Single, State, resumed, Fix, Anew}
+use Rattle.ceal_theory.specs.Repair.{Single, State, resumed, Fix, Reruns}
 use Rattle.ceal_theory.proofs.Store.KnownPlaces.{SameAt, anew-again, HonestAgain, honest-again}
 use Rattle.ceal_theory.specs.Walk.{with_store}
 use Rattle.ceal_theory.proofs.SlicedRepair.DoneReplays.{same-bases, in-order, whole-done}
@@ -71,8 +71,8 @@ module _ (names : ℕ → ℕ) (single : Single names) (code : Code) (n : ℕ) (
       let q1 = anew-again code names n a m.mentions t w in
       let sub1 : Subset bs m.known = mentions-subset m.mentions in
       let q2 = part-again f ext m.known m.good (pieces-more code s.plain s1.plain y g1.plain l h.2) (uses-more n bs m.known sub1 l us.4) q1.after q1.same in
-      let a' : Anew code names (with_store s t) (resumed code u v args (t p)) o (with_store s1 q1.after) o' left =
-      subst (λ z. Anew code names (with_store s t) (resumed code u v args z) o (with_store s1 q1.after) o' left)
+      let a' : Reruns code names (with_store s t) (resumed code u v args (t p)) o (with_store s1 q1.after) o' left =
+      subst (λ z. Reruns code names (with_store s t) (resumed code u v args z) o (with_store s1 q1.after) o' left)
       (w p us.0) q1.anew in
       let z : Part code names (suc k1) (with_store s t) (WasRead p value u v args o l) j (with_store s' q2.after) (WasRead p (t p) u v args o' l') = Part.stale (λ i. e (w p us.0 ∙ i)) a' q2.part in
       record {

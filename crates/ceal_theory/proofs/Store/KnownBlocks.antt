@@ -36,11 +36,12 @@ use Rattle.ceal_theory.specs.Laws.{Edited}
 use Rattle.ceal_theory.specs.Levels.{first, around, levels}
 use Rattle.ceal_theory.specs.Repair.{State, clears, puts, works, grows, resumed}
 use Rattle.ceal_theory.specs.Take.{TakenAlloc, TakenRead, take_alloc, take_read}
-use Rattle.ceal_theory.specs.Turns.{Mode, Fixing, Running, Frames, Bottom, AfterFix, AfterMend, AfterRun, Machine, Turn, Ended, Went, closed, opened, fixing, making, reading, acting, moving, turn}
+use Rattle.ceal_theory.specs.Moves.{Mode, Fixing, Running, Frames, Bottom, AfterFix, AfterMend, AfterRun, Machine, Move, Ended, Went, closing_move, mode_inside, fix_move, alloc_move, read_move}
+use Rattle.ceal_theory.specs.Moves.{act_move, mode_move, next_move}
 use Rattle.ceal_theory.specs.Walk.{store_after, AgreesAll, with_store}
 
 -- what holds after a turn
-abbrev Then : Code → ℕ → List ℕ → List ℕ → Turn → Type 0
+abbrev Then : Code → ℕ → List ℕ → List ℕ → Move → Type 0
 Then code n ds bs Ended = ⊤
 Then code n ds bs (Went written m) = GoesKnowing code n ds bs written m
 
@@ -77,7 +78,8 @@ module _ (code : Code) (n : ℕ) (ds : List ℕ) where
   whole-at bs x h d st k j t = Ready.whole (next-known n bs x h x (λ b i. refl) code st k) (next-known n ds x d x (λ b i. refl) code st j) t
 
   -- a part is over
-  closed-knows : (bs : List ℕ) (s : State) (left : Trace) (fs : Frames) → StateKnows bs s → Sure code n ds s.plain left → KnowsFrames code n ds s.plain bs fs → Then code n ds bs (closed s left fs)
+  closed-knows : (bs : List ℕ) (s : State) (left : Trace) (fs : Frames) → StateKnows bs s → Sure code n ds s.plain left → KnowsFrames code n ds s.plain bs fs
+      → Then code n ds bs (closing_move s left fs)
   closed-knows bs s left Bottom g h k = tt
   closed-knows bs s left (AfterFix rest outer) g h k = record { known = bs; items = KnownItems.close KnownItems.none; knows = all bs s (Fixing rest) outer g (k.0, k.1) k.2 }
   closed-knows bs s left (AfterMend below old outer) g h k = record { known = bs; items = KnownItems.close KnownItems.none; knows = all bs s (Running below old) outer g (k.0, k.1) k.2 }
@@ -87,7 +89,7 @@ module _ (code : Code) (n : ℕ) (ds : List ℕ) where
   opened-knows : (bs : List ℕ) (s : State) (u : UnitId) (v : ℕ) (args : List Word) (value now : Word) (inside : Trace) (b : Bool) → same_word now value ≡ b → StateKnows bs s
       → KnownWords n bs args → KnownWord n bs now → KnownWords n ds args → KnownWord n ds value → Told code s.plain
       (next code s.plain (resumed code u v args value)) inside → Sure code n ds s.plain inside
-      → KnowsMode code n ds s.plain bs (opened code b u v args now inside)
+      → KnowsMode code n ds s.plain bs (mode_inside code b u v args now inside)
   opened-knows bs s u v args value now inside true e g ka kn da dv t h =
       let k : KnownWord n bs value = subst (KnownWord n bs) (word-same now value e) kn in
       let before = words_after_read-known n bs code u.0 v args value Empty ka k tt in
@@ -193,7 +195,7 @@ module _ (code : Code) (n : ℕ) (ds : List ℕ) where
   before-step bs s rest g (Ready.stepped {a = Reads p u v args below} ka kd t) = elim t [ ]
 
   fixing-knows : (bs : List ℕ) (s : State) (fs : Frames) (todo : Trace) → StateKnows bs s → Ready code n ds s.plain bs todo → Sure code n ds s.plain todo → KnowsFrames code n ds s.plain bs fs
-      → Then code n ds bs (fixing code s fs todo)
+      → Then code n ds bs (fix_move code s fs todo)
   fixing-knows bs s fs Nothing g r h k = closed-knows bs s Nothing fs g tt k
   fixing-knows bs s fs (Stepped rest) g r h k = record { known = bs; items = KnownItems.step KnownItems.none; knows = all bs s (Fixing rest) fs g (before-step bs s rest g r, h) k }
   fixing-knows bs s fs (Allocated (Core b) key rest) g r h k =
@@ -217,12 +219,12 @@ module _ (code : Code) (n : ℕ) (ds : List ℕ) where
       record {
         known = bs;
         items = KnownItems.read a.place (g.store p) a.words KnownItems.none;
-        knows = all bs s (opened code (same_word (s.store p) value) u v args (s.store p) inside) (AfterFix rest fs) g
+        knows = all bs s (mode_inside code (same_word (s.store p) value) u v args (s.store p) inside) (AfterFix rest fs) g
             (opened-knows bs s u v args value (s.store p) inside (same_word (s.store p) value) refl g a.words (g.store p) h.1 h.0 h.2 h.3) (a.ready, h.4, k);
       }
 
   -- the number stays, or it is that of no block
-  NewNumber : (ℕ → ℕ) → State → Turn → Type 0
+  NewNumber : (ℕ → ℕ) → State → Move → Type 0
   NewNumber names s Ended = ⊤
   NewNumber names s (Went written m) = (m.state.number ≡ s.number) ⊎ (s.plain (Core (names s.number)) ≡ None)
 
@@ -235,7 +237,7 @@ module _ (code : Code) (n : ℕ) (ds : List ℕ) where
 
   making-knows : (names : ℕ → ℕ) (bs : List ℕ) (s : State) (fs : Frames) (key : Key) (v u i : ℕ) (env : Variables) (below : Stack) (old : Trace) (o : Option TakenAlloc) → take_alloc key old ≡ o
       → StateKnows bs s → KnownAct n bs (Makes key v u i env below) → Sure code n ds s.plain old → KnowsFrames code n ds s.plain bs fs
-      → NewNumber names s (making code names s fs key v u i env below old o) → Then code n ds bs (making code names s fs key v u i env below old o)
+      → NewNumber names s (alloc_move code names s fs key v u i env below old o) → Then code n ds bs (alloc_move code names s fs key v u i env below old o)
   unfolding NewNumber
   making-knows names bs s fs key v u i env below old (Some t) w g ka h k j =
       let a = sure-alloc code n ds s.plain key old h t w in
@@ -277,13 +279,13 @@ module _ (code : Code) (n : ℕ) (ds : List ℕ) where
 
   reading-knows : (bs : List ℕ) (s : State) (fs : Frames) (p : Place) (u : UnitId) (v : ℕ) (args : List Word) (below : Stack) (old : Trace) (o : Option TakenRead) → take_read p u v args old ≡ o
       → StateKnows bs s → KnownAct n bs (Reads p u v args below) → Sure code n ds s.plain old → KnowsFrames code n ds s.plain bs fs
-      → Then code n ds bs (reading code s fs p u v args below old o)
+      → Then code n ds bs (read_move code s fs p u v args below old o)
   reading-knows bs s fs p u v args below old (Some r) w g ka h k =
       let a = sure-read code n ds s.plain p u v args old h r w in
       record {
         known = bs;
         items = KnownItems.step (KnownItems.read ka.0 (g.store p) ka.1 KnownItems.none);
-        knows = all bs (works s) (opened code (same_word (s.store p) r.value) u v args (s.store p) r.inside) (AfterMend below r.leftover fs) (works-knows bs s g)
+        knows = all bs (works s) (mode_inside code (same_word (s.store p) r.value) u v args (s.store p) r.inside) (AfterMend below r.leftover fs) (works-knows bs s g)
             (opened-knows bs (works s) u v args r.value (s.store p) r.inside (same_word (s.store p) r.value) refl
             (works-knows bs s g) ka.1 (g.store p) a.words a.value a.told a.inside) (ka.2, a.left, k);
       }
@@ -295,7 +297,7 @@ module _ (code : Code) (n : ℕ) (ds : List ℕ) where
   }
 
   acting-knows : (names : ℕ → ℕ) (bs : List ℕ) (s : State) (fs : Frames) (old : Trace) (a : Act) → StateKnows bs s → KnownAct n bs a → Sure code n ds s.plain old → KnowsFrames code n ds s.plain bs fs
-      → NewNumber names s (acting code names s fs old a) → Then code n ds bs (acting code names s fs old a)
+      → NewNumber names s (act_move code names s fs old a) → Then code n ds bs (act_move code names s fs old a)
   acting-knows names bs s fs old Over g ka h k j = closed-knows bs s old fs g h k
   acting-knows names bs s fs old (Quiet after) g ka h k j =
       record {
@@ -313,18 +315,18 @@ module _ (code : Code) (n : ℕ) (ds : List ℕ) where
   acting-knows names bs s fs old (Reads p u v args below) g ka h k j = reading-knows bs s fs p u v args below old (take_read p u v args old) refl g ka h k
 
   moving-knows : (names : ℕ → ℕ) (bs : List ℕ) (s : State) (fs : Frames) (mode : Mode) → StateKnows bs s → KnowsMode code n ds s.plain bs mode → KnowsFrames code n ds s.plain bs fs
-      → NewNumber names s (moving code names s fs mode) → Then code n ds bs (moving code names s fs mode)
+      → NewNumber names s (mode_move code names s fs mode) → Then code n ds bs (mode_move code names s fs mode)
   moving-knows names bs s fs (Fixing todo) g m k j = fixing-knows bs s fs todo g m.0 m.1 k
   moving-knows names bs s fs (Running st old) g m k j = acting-knows names bs s fs old (next code s.plain st) g (next-known n bs s.plain g.plain s.plain (λ b i. refl) code st m.0) m.1 k j
 
   state-of : (bs : List ℕ) (m : Machine) → Knows code n ds bs m → StateKnows bs m.state
   state-of bs m k = record { plain = k.plain; old = k.old; store = k.store }
 
-  pub turn-knows : (names : ℕ → ℕ) (bs : List ℕ) (m m' : Machine) (written : List Item) → Knows code n ds bs m → turn code names m ≡ Went written m'
+  pub turn-knows : (names : ℕ → ℕ) (bs : List ℕ) (m m' : Machine) (written : List Item) → Knows code n ds bs m → next_move code names m ≡ Went written m'
       → (m'.state.number ≡ m.state.number) ⊎ (m.state.plain (Core (names m.state.number)) ≡ None) → GoesKnowing code n ds bs written m'
-  unfolding turn NewNumber
+  unfolding next_move NewNumber
   turn-knows names bs m m' written k e j =
-      let j' : NewNumber names m.state (turn code names m) = rw e j in
+      let j' : NewNumber names m.state (next_move code names m) = rw e j in
       rw e at (moving-knows names bs m.state m.frames m.mode (state-of bs m k) k.mode k.frames j')
 
   known-then : {bs cs es : List ℕ} {is js : List Item} → KnownItems n bs is cs → KnownItems n cs js es → KnownItems n bs (is ++ js) es
@@ -336,7 +338,7 @@ module _ (code : Code) (n : ℕ) (ds : List ℕ) where
   known-then (KnownItems.read i j l h) k = KnownItems.read i j l (known-then h k)
 
   -- one item that agrees, and then those after it
-  one-more : (bs : List ℕ) (m m' m'' : Machine) (i : Item) (is : List Item) → Knows code n ds bs m → ((names : ℕ → ℕ) → turn code names m ≡ Went (i ∷ []) m') → m'.state.number ≡ m.state.number
+  one-more : (bs : List ℕ) (m m' m'' : Machine) (i : Item) (is : List Item) → Knows code n ds bs m → ((names : ℕ → ℕ) → next_move code names m ≡ Went (i ∷ []) m') → m'.state.number ≡ m.state.number
       → ((cs : List ℕ) → Knows code n ds cs m' → GoesKnowing code n ds cs is m'') → GoesKnowing code n ds bs (i ∷ is) m''
   one-more bs m m' m'' i is k e j f =
       let a = turn-knows (λ z. z) bs m m' (i ∷ []) k (e (λ z. z)) (inl j) in
@@ -346,7 +348,7 @@ module _ (code : Code) (n : ℕ) (ds : List ℕ) where
   pub stays-knows : (bs : List ℕ) (s : State) (fs fs' : List FlatFrame) (front back : List Item) → Knows code n ds bs (flat_machine s GoesThrough fs (front ++ back))
       → AgreesAll code s.store front → passes_all front fs ≡ Some fs'
       → GoesKnowing code n ds bs front (flat_machine (with_store s (store_after code s.store front)) GoesThrough fs' back)
-  unfolding turn
+  unfolding next_move
   stays-knows bs s fs fs' [] back k h e = record { known = bs; items = KnownItems.none; knows = subst (λ gs. Knows code n ds bs (flat_machine s GoesThrough gs back)) (some-same fs fs' e) k }
   stays-knows bs s fs fs' (Step ∷ front) back k h e =
       one-more bs (flat_machine s GoesThrough fs (Step ∷ front ++ back))

@@ -15,7 +15,7 @@ use Rattle.ceal_code.specs.Step.{Stack}
 use Rattle.ceal_code.specs.Value.{field_kind}
 use Rattle.ceal_theory.proofs.Store.EqualContents.{stored-equal}
 use Rattle.ceal_theory.specs.Walk.{with_store}
-use Rattle.ceal_theory.specs.Repair.{State, works, resumed, Fix, Mend, Anew}
+use Rattle.ceal_theory.specs.Repair.{State, works, resumed, Fix, Mend, Reruns}
 
 -- the stores have the same at each known place
 abbrev pub SameAt : ℕ → List ℕ → Store → Store → Type 0
@@ -71,7 +71,7 @@ module _ (code : Code) (names : ℕ → ℕ) (n : ℕ) where
 
   pub record AnewAgain (s' : State) (t : State) (st : Stack) (old new left : Trace) (cs : List ℕ) : Type 0 where
     pub after : Store
-    pub anew : Anew code names t st old (with_store s' after) new left
+    pub anew : Reruns code names t st old (with_store s' after) new left
     pub same : SameAt n cs s'.store after
 
   mutual
@@ -101,30 +101,30 @@ module _ (code : Code) (names : ℕ → ℕ) (n : ℕ) where
         let q = anew-again f m t h in
         record {
           after = q.after;
-          mend = Mend.stale (λ i. e (h p a ∙ i)) (subst (λ w. Anew code names (with_store s t) (resumed code u v args w) old (with_store s' q.after) new left) (h p a) q.anew);
+          mend = Mend.stale (λ i. e (h p a ∙ i)) (subst (λ w. Reruns code names (with_store s t) (resumed code u v args w) old (with_store s' q.after) new left) (h p a) q.anew);
           same = q.same;
         }
 
-    pub anew-again : {s s' : State} {st : Stack} {old new left : Trace} → Anew code names s st old s' new left
+    pub anew-again : {s s' : State} {st : Stack} {old new left : Trace} → Reruns code names s st old s' new left
         → {bs cs : List ℕ} → Mentions n bs new cs → (t : Store) → SameAt n bs s.store t → AnewAgain s' (with_store s t) st old new left cs
-    anew-again (Anew.over e) Mentions.end t h = record { after = t; anew = Anew.over e; same = h }
-    anew-again (Anew.quiet e f) (Mentions.step m) t h = let q = anew-again f m t h in record { after = q.after; anew = Anew.quiet e q.anew; same = q.same }
-    anew-again {s} (Anew.takes_alloc e w f) {bs} (Mentions.step (Mentions.alloc {b = b} {key = key} a m)) t h =
-        let q = anew-again f m (cleared code t (Core b) key) (cleared-same code n bs b key s.store t h) in record { after = q.after; anew = Anew.takes_alloc e w q.anew; same = q.same }
-    anew-again {s} (Anew.makes e w f) {bs} (Mentions.step (Mentions.alloc {b = b} {key = key} a m)) t h =
-        let q = anew-again f m (cleared code t (Core b) key) (cleared-same code n bs b key s.store t h) in record { after = q.after; anew = Anew.makes e w q.anew; same = q.same }
-    anew-again {s} (Anew.writes {p = p} {value = w} e f) {bs} (Mentions.step (Mentions.write a b m)) t h =
-        let q = anew-again f m (stored t p w) (stored-same n bs s.store t p w h) in record { after = q.after; anew = Anew.writes e q.anew; same = q.same }
-    anew-again {s} {s'} {st} {old} (Anew.takes_read {p = p} {u = u} {v = v} {args = args} {inside' = i'} {new = l'} {left = left} e w g f) (Mentions.step (Mentions.read a b c m1 m2)) t h =
+    anew-again (Reruns.over e) Mentions.end t h = record { after = t; anew = Reruns.over e; same = h }
+    anew-again (Reruns.quiet e f) (Mentions.step m) t h = let q = anew-again f m t h in record { after = q.after; anew = Reruns.quiet e q.anew; same = q.same }
+    anew-again {s} (Reruns.takes_alloc e w f) {bs} (Mentions.step (Mentions.alloc {b = b} {key = key} a m)) t h =
+        let q = anew-again f m (cleared code t (Core b) key) (cleared-same code n bs b key s.store t h) in record { after = q.after; anew = Reruns.takes_alloc e w q.anew; same = q.same }
+    anew-again {s} (Reruns.makes e w f) {bs} (Mentions.step (Mentions.alloc {b = b} {key = key} a m)) t h =
+        let q = anew-again f m (cleared code t (Core b) key) (cleared-same code n bs b key s.store t h) in record { after = q.after; anew = Reruns.makes e w q.anew; same = q.same }
+    anew-again {s} (Reruns.writes {p = p} {value = w} e f) {bs} (Mentions.step (Mentions.write a b m)) t h =
+        let q = anew-again f m (stored t p w) (stored-same n bs s.store t p w h) in record { after = q.after; anew = Reruns.writes e q.anew; same = q.same }
+    anew-again {s} {s'} {st} {old} (Reruns.takes_read {p = p} {u = u} {v = v} {args = args} {inside' = i'} {new = l'} {left = left} e w g f) (Mentions.step (Mentions.read a b c m1 m2)) t h =
         let q1 = mend-again g a m1 t h in
         let q2 = anew-again f m2 q1.after q1.same in
-        let z : Anew code names (with_store s t) st old (with_store s' q2.after) (Stepped (WasRead p (t p) u v args i' l')) left = Anew.takes_read e w q1.mend q2.anew in
-        record { after = q2.after; anew = subst (λ w. Anew code names (with_store s t) st old (with_store s' q2.after) (Stepped (WasRead p w u v args i' l')) left) (sym (h p a)) z; same = q2.same }
-    anew-again {s} {s'} {st} {old} (Anew.reads {t = s1} {p = p} {u = u} {v = v} {args = args} {between =
+        let z : Reruns code names (with_store s t) st old (with_store s' q2.after) (Stepped (WasRead p (t p) u v args i' l')) left = Reruns.takes_read e w q1.mend q2.anew in
+        record { after = q2.after; anew = subst (λ w. Reruns code names (with_store s t) st old (with_store s' q2.after) (Stepped (WasRead p w u v args i' l')) left) (sym (h p a)) z; same = q2.same }
+    anew-again {s} {s'} {st} {old} (Reruns.reads {t = s1} {p = p} {u = u} {v = v} {args = args} {between =
         between} {inside' = i'} {new = l'} {left = left} e w g f) (Mentions.step (Mentions.read a b c m1 m2)) t h =
         let q1 = anew-again g m1 t h in
         let q2 = anew-again f m2 q1.after q1.same in
-        let y : Anew code names (works (with_store s t)) (resumed code u v args (t p)) old (with_store s1 q1.after) i' between =
-        subst (λ w. Anew code names (works (with_store s t)) (resumed code u v args w) old (with_store s1 q1.after) i' between) (h p a) q1.anew in
-        let z : Anew code names (with_store s t) st old (with_store s' q2.after) (Stepped (WasRead p (t p) u v args i' l')) left = Anew.reads e w y q2.anew in
-        record { after = q2.after; anew = subst (λ w. Anew code names (with_store s t) st old (with_store s' q2.after) (Stepped (WasRead p w u v args i' l')) left) (sym (h p a)) z; same = q2.same }
+        let y : Reruns code names (works (with_store s t)) (resumed code u v args (t p)) old (with_store s1 q1.after) i' between =
+        subst (λ w. Reruns code names (works (with_store s t)) (resumed code u v args w) old (with_store s1 q1.after) i' between) (h p a) q1.anew in
+        let z : Reruns code names (with_store s t) st old (with_store s' q2.after) (Stepped (WasRead p (t p) u v args i' l')) left = Reruns.reads e w y q2.anew in
+        record { after = q2.after; anew = subst (λ w. Reruns code names (with_store s t) st old (with_store s' q2.after) (Stepped (WasRead p w u v args i' l')) left) (sym (h p a)) z; same = q2.same }

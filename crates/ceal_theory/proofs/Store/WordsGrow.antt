@@ -16,7 +16,7 @@ use Rattle.ceal_code.specs.Replay.{learnt, there, Mentions}
 use Rattle.ceal_code.specs.Step.{Stack}
 use Rattle.ceal_code.specs.Value.{Plain}
 use Rattle.ceal_theory.proofs.Repair.RepairInvariant.{Extends, extends-trans, FreeFrom, Pieces}
-use Rattle.ceal_theory.specs.Repair.{own, Single, State, Fix, Mend, Anew}
+use Rattle.ceal_theory.specs.Repair.{own, Single, State, Fix, Mend, Reruns}
 
 learnt-other : (x : Plain) (n : ℕ) (c : BlockId) (new block : Block) (b : Bool) → same_block c (Core n) ≡ b → x (Core n) ≡ None → x c ≡ Some block
     → (if b then Some new else x c) ≡ Some block
@@ -65,19 +65,19 @@ mutual
   mend-grows single (Mend.stale e a) h = anew-grows single a h
 
   pub anew-grows : {code : Code} {names : ℕ → ℕ} {s s' : State} {st : Stack} {old new left : Trace} → Single names
-      → Anew code names s st old s' new left → FreeFrom names s.plain s.number → Grown names s s'
-  anew-grows single (Anew.over e) h = record { plain = λ b block e. e; free = h }
-  anew-grows single (Anew.quiet e a) h = let g = anew-grows single a h in record { plain = g.plain; free = g.free }
-  anew-grows single (Anew.takes_alloc e t a) h = let g = anew-grows single a h in record { plain = g.plain; free = g.free }
-  anew-grows {code} {names} {s} {s'} single (Anew.makes {key = key} e t a) h =
+      → Reruns code names s st old s' new left → FreeFrom names s.plain s.number → Grown names s s'
+  anew-grows single (Reruns.over e) h = record { plain = λ b block e. e; free = h }
+  anew-grows single (Reruns.quiet e a) h = let g = anew-grows single a h in record { plain = g.plain; free = g.free }
+  anew-grows single (Reruns.takes_alloc e t a) h = let g = anew-grows single a h in record { plain = g.plain; free = g.free }
+  anew-grows {code} {names} {s} {s'} single (Reruns.makes {key = key} e t a) h =
       let block = made code s.plain key in
       let g = anew-grows single a (learnt-free names single s.plain s.number block h) in
       record { plain = extends-trans s.plain (learnt s.plain (Core (names s.number)) block) s'.plain (learnt-extends names s.plain s.number block h) g.plain; free = g.free }
-  anew-grows single (Anew.writes e a) h = let g = anew-grows single a h in record { plain = g.plain; free = g.free }
-  anew-grows {code} {names} {s} {s'} single (Anew.takes_read {t = u} e t m a) h =
+  anew-grows single (Reruns.writes e a) h = let g = anew-grows single a h in record { plain = g.plain; free = g.free }
+  anew-grows {code} {names} {s} {s'} single (Reruns.takes_read {t = u} e t m a) h =
       let g = mend-grows single m h in let k = anew-grows single a g.free in
       record { plain = extends-trans s.plain u.plain s'.plain g.plain k.plain; free = k.free }
-  anew-grows {code} {names} {s} {s'} single (Anew.reads {t = u} e t m a) h =
+  anew-grows {code} {names} {s} {s'} single (Reruns.reads {t = u} e t m a) h =
       let g = anew-grows single m h in let k = anew-grows single a g.free in
       record { plain = extends-trans s.plain u.plain s'.plain g.plain k.plain; free = k.free }
 

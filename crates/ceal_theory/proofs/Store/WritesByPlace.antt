@@ -33,7 +33,7 @@ use Rattle.ceal_theory.specs.Known.{Sure, Ready, Knows, KnownItems, GoesKnowing}
 use Rattle.ceal_theory.specs.KnownContent.{allocs, Allocates, written_after, KnownContents}
 use Rattle.ceal_theory.specs.Listed.{ListedLaw}
 use Rattle.ceal_theory.specs.Slices.{Repair, with_inputs, starting, goes_on, RepairHolds}
-use Rattle.ceal_theory.specs.Turns.{Machine, Fixing, Bottom}
+use Rattle.ceal_theory.specs.Moves.{Machine, Fixing, Bottom}
 use Rattle.ceal_theory.specs.Walk.{store_after, AgreesAll}
 
 -- the blocks that are known after items

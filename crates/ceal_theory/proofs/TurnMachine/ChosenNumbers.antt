@@ -27,7 +27,7 @@ use Rattle.ceal_theory.specs.Chosen.{Continues, ComesBy, Free, EndedRepair, Ende
 use Rattle.ceal_theory.specs.Laws.{Edited}
 use Rattle.ceal_theory.specs.Named.{Apart, then_from}
 use Rattle.ceal_theory.specs.Repair.{Single, begins}
-use Rattle.ceal_theory.specs.Turns.{Machine, Ended, turn, Resumes, Finishes, BecomesBy, Ends}
+use Rattle.ceal_theory.specs.Moves.{Machine, Ended, next_move, Resumes, Finishes, BecomesBy, Ends}
 
 -- a number above all of these
 most : List ℕ → ℕ
@@ -73,7 +73,7 @@ module _ (code : Code) where
       longer [] = omega arith
       longer (d ∷ bs) = omega (arith, longer bs)
 
-  ended-at : (names : ℕ → ℕ) (m : Machine) → turn code names m ≡ Ended → Finishes code names m m.state []
+  ended-at : (names : ℕ → ℕ) (m : Machine) → next_move code names m ≡ Ended → Finishes code names m m.state []
   ended-at names m e = let t : Ends code names m = rw e at (takes-turn code names m) in t.back
 
   module _ (old new : List Block) (f : ℕ) (args : List Word) (l : Trace) (number : ℕ) (e : Edited code old new f args l number) (chosen : List ℕ) (free : Free chosen l) where
@@ -92,7 +92,7 @@ module _ (code : Code) where
     apart : Apart (then_from chosen (most chosen + number)) l
     apart = (handed-law chosen (most chosen + number) free.distinct (λ b i. omega (arith, below-most b chosen i))).2 l (λ b h. e.above b (omega (arith, h))) free.apart
 
-    ends : (m : Machine) (out : List Item) → ComesBy code (repair_begins code new l) m chosen out → ((names : ℕ → ℕ) → turn code names m ≡ Ended)
+    ends : (m : Machine) (out : List Item) → ComesBy code (repair_begins code new l) m chosen out → ((names : ℕ → ℕ) → next_move code names m ≡ Ended)
         → EndedRepair code old new f args l number chosen m.state out
     ends m out c h =
         let names = then_from chosen (most chosen + number) in
@@ -134,7 +134,7 @@ module _ (code : Code) where
     continues-first : Continues chosen (then_from chosen (most chosen))
     continues-first = (handed-law chosen (most chosen) distinct (λ b i. below-most b chosen i)).1
 
-    first-ends : (m : Machine) (out : List Item) → ComesBy code (first_begins code inputs f args) m chosen out → ((names : ℕ → ℕ) → turn code names m ≡ Ended)
+    first-ends : (m : Machine) (out : List Item) → ComesBy code (first_begins code inputs f args) m chosen out → ((names : ℕ → ℕ) → next_move code names m ≡ Ended)
         → EndedFirst code inputs f args chosen m.state out
     first-ends m out c h =
         let names = then_from chosen (most chosen) in

@@ -19,7 +19,7 @@ use Rattle.ceal_theory.proofs.TurnMachine.MachineLaws.{leads-stays, leads-then, 
 use Rattle.ceal_theory.specs.FlatMachine.{GoesThrough, Runs, FlatFrame, Fixes, Mends, GoesOn, frames_of, flat_machine, passes, then_passes, passes_all, FlatMachineLaw}
 use Rattle.ceal_theory.specs.Levels.{levels, loose, beyond, skipped, FoundAlloc, find_alloc, FoundRead, find_read}
 use Rattle.ceal_theory.specs.Repair.{State, clears, puts, works, grows, resumed}
-use Rattle.ceal_theory.specs.Turns.{Machine, Fixing, Bottom, Ended, Went, turn, Resumes, Finishes, BecomesBy}
+use Rattle.ceal_theory.specs.Moves.{Machine, Fixing, Bottom, Ended, Went, next_move, Resumes, Finishes, BecomesBy}
 use Rattle.ceal_theory.specs.Walk.{store_after, AgreesAll, with_store, PrefixLaw}
 
 differ : (v w : Word) → ¬ (v ≡ w) → same_word v w ≡ false
@@ -33,17 +33,17 @@ module _ (code : Code) (names : ℕ → ℕ) where
   pub begins : (s : State) (l : Trace) → flat_machine s GoesThrough [] (flat l) ≡ record { state = s; mode = Fixing l; frames = Bottom }
   begins s l = ap (λ t. record { state = s; mode = Fixing t; frames = Bottom }) (first-of-flat l)
 
-  one-item : (m m' m'' : Machine) (i : Item) (is : List Item) → turn code names m ≡ Went (i ∷ []) m' → BecomesBy code names m' m'' is → BecomesBy code names m m'' (i ∷ is)
+  one-item : (m m' m'' : Machine) (i : Item) (is : List Item) → next_move code names m ≡ Went (i ∷ []) m' → BecomesBy code names m' m'' is → BecomesBy code names m m'' (i ∷ is)
   one-item m m' m'' i is e h = leads-then code names m m' m'' (i ∷ []) is (leads-turn code names m m' (i ∷ []) e) h
 
   pub read-turn : (s : State) (fs : List FlatFrame) (p : Place) (v : Word) (u : UnitId) (x : ℕ) (args : List Word) (is : List Item) → s.store p ≡ v
-      → turn code names (flat_machine s GoesThrough fs (Read p v u x args ∷ is)) ≡ Went (Read p v u x args ∷ []) (flat_machine s GoesThrough (Fixes ∷ fs) is)
-  unfolding turn
+      → next_move code names (flat_machine s GoesThrough fs (Read p v u x args ∷ is)) ≡ Went (Read p v u x args ∷ []) (flat_machine s GoesThrough (Fixes ∷ fs) is)
+  unfolding next_move
   read-turn s fs p v u x args is e = rw (e, word-refl v) refl
 
   pub stays : (s : State) (fs fs' : List FlatFrame) (front back : List Item) → AgreesAll code s.store front → passes_all front fs ≡ Some fs'
       → BecomesBy code names (flat_machine s GoesThrough fs (front ++ back)) (flat_machine (with_store s (store_after code s.store front)) GoesThrough fs' back) front
-  unfolding turn
+  unfolding next_move
   stays s fs fs' [] back h e =
       subst (λ gs. BecomesBy code names (flat_machine s GoesThrough fs back) (flat_machine s GoesThrough gs back) []) (some-same fs fs' e) (leads-stays code names (flat_machine s GoesThrough fs back))
   stays s fs fs' (Step ∷ front) back h e =
@@ -66,87 +66,88 @@ module _ (code : Code) (names : ℕ → ℕ) where
   stays s [] fs' (End ∷ front) back h e = none-some fs' e
 
   stale-turn : (s : State) (fs : List FlatFrame) (p : Place) (value : Word) (u : UnitId) (v : ℕ) (args : List Word) (is : List Item) → ¬ (s.store p ≡ value)
-      → turn code names (flat_machine s GoesThrough fs (Read p value u v args ∷ is)) ≡ Went
+      → next_move code names (flat_machine s GoesThrough fs (Read p value u v args ∷ is)) ≡ Went
       (Read p (s.store p) u v args ∷ []) (flat_machine s (Runs (resumed code u v args (s.store p)) 1)
       (Fixes ∷ fs) is)
-  unfolding turn
+  unfolding next_move
   stale-turn s fs p value u v args is h = rw (differ (s.store p) value h, loose-one (levels is)) refl
 
   mended-turn : (s : State) (fs : List FlatFrame) (below : Stack) (n : ℕ) (is : List Item)
-      → turn code names (flat_machine s GoesThrough (Mends below n ∷ fs) (End ∷ is)) ≡ Went (End ∷ []) (flat_machine s (Runs below n) fs is)
-  unfolding turn
+      → next_move code names (flat_machine s GoesThrough (Mends below n ∷ fs) (End ∷ is)) ≡ Went (End ∷ []) (flat_machine s (Runs below n) fs is)
+  unfolding next_move
   mended-turn s fs below n is = refl
 
-  last : (s : State) → turn code names (flat_machine s GoesThrough [] []) ≡ Ended
-  unfolding turn
+  last : (s : State) → next_move code names (flat_machine s GoesThrough [] []) ≡ Ended
+  unfolding next_move
   last s = refl
 
   fixes-turn : (s : State) (fs : List FlatFrame) (st : Stack) (n : ℕ) (is : List Item) → next code s.plain st ≡ Over
-      → turn code names (flat_machine s (Runs st n) (Fixes ∷ fs) is) ≡ Went (End ∷ []) (flat_machine s GoesThrough fs (skipped n is))
-  unfolding turn
+      → next_move code names (flat_machine s (Runs st n) (Fixes ∷ fs) is) ≡ Went (End ∷ []) (flat_machine s GoesThrough fs (skipped n is))
+  unfolding next_move
   fixes-turn s fs st n is e = rw (e, skipped-levels n is) refl
 
   mends-turn : (s : State) (fs : List FlatFrame) (st below : Stack) (n m : ℕ) (is : List Item) → next code s.plain st ≡ Over
-      → turn code names (flat_machine s (Runs st n) (Mends below m ∷ fs) is) ≡ Went (End ∷ []) (flat_machine s (Runs below m) fs (skipped n is))
-  unfolding turn
+      → next_move code names (flat_machine s (Runs st n) (Mends below m ∷ fs) is) ≡ Went (End ∷ []) (flat_machine s (Runs below m) fs (skipped n is))
+  unfolding next_move
   mends-turn s fs st below n m is e = rw (e, skipped-levels n is) refl
 
   goes-on-turn : (s : State) (fs : List FlatFrame) (st below : Stack) (n : ℕ) (is : List Item) → next code s.plain st ≡ Over
-      → turn code names (flat_machine s (Runs st n) (GoesOn below ∷ fs) is) ≡ Went (End ∷ []) (flat_machine s (Runs below n) fs is)
-  unfolding turn
+      → next_move code names (flat_machine s (Runs st n) (GoesOn below ∷ fs) is) ≡ Went (End ∷ []) (flat_machine s (Runs below n) fs is)
+  unfolding next_move
   goes-on-turn s fs st below n is e = rw e refl
 
-  over-last : (s : State) (st : Stack) (n : ℕ) (is : List Item) → next code s.plain st ≡ Over → turn code names (flat_machine s (Runs st n) [] is) ≡ Ended
-  unfolding turn
+  over-last : (s : State) (st : Stack) (n : ℕ) (is : List Item) → next code s.plain st ≡ Over → next_move code names (flat_machine s (Runs st n) [] is) ≡ Ended
+  unfolding next_move
   over-last s st n is e = rw e refl
 
   quiet-turn : (s : State) (fs : List FlatFrame) (st after : Stack) (n : ℕ) (is : List Item) → next code s.plain st ≡ Quiet after
-      → turn code names (flat_machine s (Runs st n) fs is) ≡ Went (Step ∷ []) (flat_machine (works s) (Runs after n) fs is)
-  unfolding turn
+      → next_move code names (flat_machine s (Runs st n) fs is) ≡ Went (Step ∷ []) (flat_machine (works s) (Runs after n) fs is)
+  unfolding next_move
   quiet-turn s fs st after n is e = rw e refl
 
   writes-turn : (s : State) (fs : List FlatFrame) (st after : Stack) (p : Place) (value : Word) (n : ℕ) (is : List Item) → next code s.plain st ≡ Writes p value after
-      → turn code names (flat_machine s (Runs st n) fs is) ≡ Went (Step ∷ Write p value ∷ []) (flat_machine (puts (works s) p value) (Runs after n) fs is)
-  unfolding turn
+      → next_move code names (flat_machine s (Runs st n) fs is) ≡ Went (Step ∷ Write p value ∷ []) (flat_machine (puts (works s) p value) (Runs after n) fs is)
+  unfolding next_move
   writes-turn s fs st after p value n is e = rw e refl
 
   makes-turn : (s : State) (fs : List FlatFrame) (st below : Stack) (key : Key) (v u i : ℕ) (env : Variables) (n : ℕ) (is : List Item) → next code s.plain st ≡ Makes key v u i env below
       → find_alloc key n is ≡ None → (b : ℕ) → names s.number ≡ b
-      → turn code names (flat_machine s (Runs st n) fs is) ≡ Went (Step ∷ Alloc (Core b) key ∷ [])
+      → next_move code names (flat_machine s (Runs st n) fs is) ≡ Went (Step ∷ Alloc (Core b) key ∷ [])
       (flat_machine (grows code (λ k. b) (works s) key)
       (Runs (Run u i (set env v (pointer key (Core b))) below) n) fs is)
-  unfolding turn
+  unfolding next_move
   makes-turn s fs st below key v u i env n is e w b h = rw (e, take-found key is n, w, h) refl
 
   takes-alloc-turn : (s : State) (fs : List FlatFrame) (st below : Stack) (key : Key) (v u i : ℕ) (env : Variables) (n : ℕ) (is : List Item) → next code s.plain st ≡ Makes key v u i env below
       → (f : FoundAlloc) → find_alloc key n is ≡ Some f
-      → turn code names (flat_machine s (Runs st n) fs is) ≡ Went (Step ∷ Alloc f.block key ∷ [])
+      → next_move code names (flat_machine s (Runs st n) fs is) ≡ Went (Step ∷ Alloc f.block key ∷ [])
       (flat_machine (clears code (works s) f.block key)
       (Runs (Run u i (set env v (pointer key f.block)) below) f.levels) fs f.rest)
-  unfolding turn
+  unfolding next_move
   takes-alloc-turn s fs st below key v u i env n is e f w = rw (e, take-found key is n, w, found-beyond key is n f w) refl
 
   reads-turn : (s : State) (fs : List FlatFrame) (st below : Stack) (p : Place) (u : UnitId) (v : ℕ) (args : List Word) (n : ℕ) (is : List Item) → next code s.plain st ≡ Reads p u v args below
       → find_read p u v args n is ≡ None
-      → turn code names (flat_machine s (Runs st n) fs is) ≡ Went (Step ∷ Read p (s.store p) u v args ∷ []) (flat_machine (works s) (Runs (resumed code u v args (s.store p)) n) (GoesOn below ∷ fs) is)
-  unfolding turn
+      → next_move code names (flat_machine s (Runs st n) fs is)
+      ≡ Went (Step ∷ Read p (s.store p) u v args ∷ []) (flat_machine (works s) (Runs (resumed code u v args (s.store p)) n) (GoesOn below ∷ fs) is)
+  unfolding next_move
   reads-turn s fs st below p u v args n is e w = rw (e, take-found-read p u v args is n, w) refl
 
   takes-read-turn : (s : State) (fs : List FlatFrame) (st below : Stack) (p : Place) (u : UnitId) (v : ℕ) (args : List Word) (n : ℕ) (is : List Item) → next code s.plain st ≡ Reads p u v args below
       → (f : FoundRead) → find_read p u v args n is ≡ Some f → same_word (s.store p) f.value ≡ true
-      → turn code names (flat_machine s (Runs st n) fs is) ≡ Went (Step ∷ Read p (s.store p) u v args ∷ []) (flat_machine (works s) GoesThrough (Mends below f.levels ∷ fs) f.rest)
-  unfolding turn
+      → next_move code names (flat_machine s (Runs st n) fs is) ≡ Went (Step ∷ Read p (s.store p) u v args ∷ []) (flat_machine (works s) GoesThrough (Mends below f.levels ∷ fs) f.rest)
+  unfolding next_move
   takes-read-turn s fs st below p u v args n is e f w k = rw (e, take-found-read p u v args is n, w, k, found-beyond-read p u v args is n f w) refl
 
   takes-stale-turn : (s : State) (fs : List FlatFrame) (st below : Stack) (p : Place) (u : UnitId) (v : ℕ) (args : List Word) (n : ℕ) (is : List Item) → next code s.plain st ≡ Reads p u v args below
       → (f : FoundRead) → find_read p u v args n is ≡ Some f → same_word (s.store p) f.value ≡ false
-      → turn code names (flat_machine s (Runs st n) fs is) ≡ Went (Step ∷ Read p (s.store p) u v args ∷ [])
+      → next_move code names (flat_machine s (Runs st n) fs is) ≡ Went (Step ∷ Read p (s.store p) u v args ∷ [])
       (flat_machine (works s) (Runs (resumed code u v args (s.store p)) 1) (Mends below f.levels ∷ fs) f.rest)
-  unfolding turn
+  unfolding next_move
   takes-stale-turn s fs st below p u v args n is e f w k = rw (e, take-found-read p u v args is n, w, k, found-beyond-read p u v args is n f w, loose-one (levels f.rest)) refl
 
   -- a machine whose move is known
-  by : (m m' : Machine) (written : List Item) → turn code names m ≡ Went written m' → BecomesBy code names m m' written
+  by : (m m' : Machine) (written : List Item) → next_move code names m ≡ Went written m' → BecomesBy code names m m' written
   by = leads-turn code names
 
 pub flat-law : FlatMachineLaw

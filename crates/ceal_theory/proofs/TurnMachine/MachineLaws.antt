@@ -9,8 +9,8 @@ use Rattle.ceal_theory.proofs.Reuse.FlatTake.{take-found, found-beyond, take-fou
 use Rattle.ceal_theory.proofs.TurnMachine.TurnKeepsEnd.{at, Kept, Ahead, turn-kept, turn-ahead, finishes-fix, finishes-anew}
 use Rattle.ceal_theory.specs.Course.{BareMode, BareFrames}
 use Rattle.ceal_theory.specs.Levels.{FlatTakeLaw, FlatLevelsLaw}
-use Rattle.ceal_theory.specs.Repair.{State, Fix, Anew}
-use Rattle.ceal_theory.specs.Turns.{Fixing, Running, Bottom, AfterMend, Machine, Turn, Ended, Went, turn, Resumes, Finishes, Goes, BecomesBy, TakesTurn, MachineLaw}
+use Rattle.ceal_theory.specs.Repair.{State, Fix, Reruns}
+use Rattle.ceal_theory.specs.Moves.{Fixing, Running, Bottom, AfterMend, Machine, Move, Ended, Went, next_move, Resumes, Finishes, Goes, BecomesBy, IsMove, MachineLaw}
 
 module _ (code : Code) (names : ℕ → ℕ) where
   pub leads-stays : (m : Machine) → BecomesBy code names m m []
@@ -27,14 +27,14 @@ module _ (code : Code) (names : ℕ → ℕ) where
           let a = k.ahead s' g.rest g.finishes in
           record { rest = a.rest; same = g.same ∙ (ap (λ r. is ++ r) a.same ∙ sym (append_assoc is js a.rest)); finishes = a.finishes }
 
-  by-turn : (m : Machine) (t : Turn) → Kept code names m t → ((s' : State) (items : List Item) → Finishes code names m s' items → Ahead code names s' items t) → TakesTurn code names m t
+  by-turn : (m : Machine) (t : Move) → Kept code names m t → ((s' : State) (items : List Item) → Finishes code names m s' items → Ahead code names s' items t) → IsMove code names m t
   by-turn m Ended h k = record { back = h; ahead = k }
   by-turn m (Went written m') h k = record { back = h; ahead = k }
 
-  pub takes-turn : (m : Machine) → TakesTurn code names m (turn code names m)
-  takes-turn m = by-turn m (turn code names m) (turn-kept code names m) (λ s' items f. turn-ahead code names f)
+  pub takes-turn : (m : Machine) → IsMove code names m (next_move code names m)
+  takes-turn m = by-turn m (next_move code names m) (turn-kept code names m) (λ s' items f. turn-ahead code names f)
 
-  pub leads-turn : (m m' : Machine) (written : List Item) → turn code names m ≡ Went written m' → BecomesBy code names m m' written
+  pub leads-turn : (m m' : Machine) (written : List Item) → next_move code names m ≡ Went written m' → BecomesBy code names m m' written
   leads-turn m m' written e = rw e at (takes-turn m)
 
   fixes : (s s' : State) (l : Trace) (items : List Item) → Finishes code names (at s (Fixing l) Bottom) s' items ↔ ((m : Trace) × (items ≡ flat m) × Fix code names s l s' m)
@@ -44,7 +44,7 @@ module _ (code : Code) (names : ℕ → ℕ) where
   )
 
   runs : (s s' : State) (st : Stack) (l : Trace) (items : List Item) → Finishes code names (at s (Running st l) Bottom) s' items
-      ↔ ((m left : Trace) × (items ≡ flat m) × Anew code names s st l s' m left)
+      ↔ ((m left : Trace) × (items ≡ flat m) × Reruns code names s st l s' m left)
   runs s s' st l items = (
     λ f. let r = finishes-anew code names s st l s' items f in (r.items, r.left, r.same, r.anew),
     λ k. subst (λ is. Finishes code names (at s (Running st l) Bottom) s' is) (append-nil (flat k.0) ∙ sym k.2) (Finishes.runs k.3 Resumes.bottom),

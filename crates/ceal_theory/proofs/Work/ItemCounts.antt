@@ -12,7 +12,7 @@ use Rattle.ceal_code.specs.Replay.{Yields}
 use Rattle.ceal_code.specs.Step.{Stack}
 use Rattle.ceal_code.specs.Value.{Plain}
 use Rattle.ceal_theory.specs.Counts.{writes_of, reads_of, others_in, CountLaw, BlocksLaw}
-use Rattle.ceal_theory.specs.Repair.{State, Fix, Mend, Anew}
+use Rattle.ceal_theory.specs.Repair.{State, Fix, Mend, Reruns}
 
 length-append : (bs cs : List BlockId) → length (bs ++ cs) ≡ length bs + length cs
 length-append [] cs = omega arith
@@ -57,14 +57,14 @@ mutual
   mend-blocks (Mend.kept e f) = fix-blocks f
   mend-blocks (Mend.stale e a) = anew-blocks a
 
-  anew-blocks : {code : Code} {names : ℕ → ℕ} {s s' : State} {st : Stack} {old new left : Trace} → Anew code names s st old s' new left → s'.number + s.work ≤ s.number + s'.work
-  anew-blocks (Anew.over e) = omega arith
-  anew-blocks (Anew.quiet e a) = omega (arith, anew-blocks a)
-  anew-blocks (Anew.takes_alloc e t a) = omega (arith, anew-blocks a)
-  anew-blocks (Anew.makes e t a) = omega (arith, anew-blocks a)
-  anew-blocks (Anew.writes e a) = omega (arith, anew-blocks a)
-  anew-blocks (Anew.takes_read e t m a) = omega (arith, mend-blocks m, anew-blocks a)
-  anew-blocks (Anew.reads e t m a) = omega (arith, anew-blocks m, anew-blocks a)
+  anew-blocks : {code : Code} {names : ℕ → ℕ} {s s' : State} {st : Stack} {old new left : Trace} → Reruns code names s st old s' new left → s'.number + s.work ≤ s.number + s'.work
+  anew-blocks (Reruns.over e) = omega arith
+  anew-blocks (Reruns.quiet e a) = omega (arith, anew-blocks a)
+  anew-blocks (Reruns.takes_alloc e t a) = omega (arith, anew-blocks a)
+  anew-blocks (Reruns.makes e t a) = omega (arith, anew-blocks a)
+  anew-blocks (Reruns.writes e a) = omega (arith, anew-blocks a)
+  anew-blocks (Reruns.takes_read e t m a) = omega (arith, mend-blocks m, anew-blocks a)
+  anew-blocks (Reruns.reads e t m a) = omega (arith, anew-blocks m, anew-blocks a)
 
 pub blocks-law : BlocksLaw
 blocks-law code names s s' old new f = fix-blocks f

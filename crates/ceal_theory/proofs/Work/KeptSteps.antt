@@ -1,7 +1,7 @@
 -- The steps that a repair keeps.
 use Rattle.std.proofs.Common.{◌≡◌, ℕ, ◌+◌, ◌≤◌, Bool, true, false, if◌then◌else◌, Option, Some, None, List, refl, subst, arith, ◌==◌, ◌&&◌}
 use Rattle.ceal_base.specs.Operators.{same_place}
-use Rattle.ceal_base.specs.Trace.{Trace, Nothing, Stepped, Allocated, Wrote, WasRead, steps_of, followed}
+use Rattle.ceal_base.specs.Trace.{Trace, Nothing, Stepped, Allocated, Wrote, WasRead, steps_of, trace_then}
 use Rattle.ceal_base.specs.declared.forest.Key.{Key}
 use Rattle.ceal_base.specs.declared.forest.UnitId.{UnitId}
 use Rattle.ceal_base.specs.declared.word.BlockId.{BlockId}
@@ -11,10 +11,10 @@ use Rattle.ceal_code.proofs.Words.SameIsEqual.{some-same, none-some}
 use Rattle.ceal_code.specs.Program.{Code}
 use Rattle.ceal_code.specs.Step.{Stack}
 use Rattle.ceal_theory.specs.KeptSteps.{kept_fix, kept_mend, kept_anew, KeptStepsLaw}
-use Rattle.ceal_theory.specs.Repair.{State, Fix, Mend, Anew}
+use Rattle.ceal_theory.specs.Repair.{State, Fix, Mend, Reruns}
 use Rattle.ceal_theory.specs.Take.{TakenAlloc, TakenRead, same_words, same_key, alloc_then, read_then, take_alloc, take_read}
 
-steps-followed : (f g : Trace) → steps_of (followed f g) ≡ steps_of f + steps_of g
+steps-followed : (f g : Trace) → steps_of (trace_then f g) ≡ steps_of f + steps_of g
 steps-followed Nothing g = omega arith
 steps-followed (Stepped rest) g = omega (arith, steps-followed rest g)
 steps-followed (Allocated b k rest) g = steps-followed rest g
@@ -27,7 +27,7 @@ alloc-then-steps : (rest : Trace) (a c : Option TakenAlloc) (n : ℕ) (t : Taken
     → alloc_then rest a c ≡ Some t → steps_of t.leftover ≤ n + steps_of rest
 alloc-then-steps rest None c n t h k e = omega (arith, k t e)
 alloc-then-steps rest (Some a) c n t h k e =
-    subst (λ t. steps_of t.leftover ≤ n + steps_of rest) (some-same (record a { leftover = followed a.leftover rest }) t e) (omega (arith, steps-followed a.leftover rest, h a refl))
+    subst (λ t. steps_of t.leftover ≤ n + steps_of rest) (some-same (record a { leftover = trace_then a.leftover rest }) t e) (omega (arith, steps-followed a.leftover rest, h a refl))
 
 alloc-if-steps : (b : BlockId) (rest : Trace) (test : Bool) (c : Option TakenAlloc) (t : TakenAlloc) → ((t : TakenAlloc) → c ≡ Some t → steps_of t.leftover ≤ steps_of rest)
     → (if test then Some (record { block = b; leftover = rest }) else c) ≡ Some t → steps_of t.leftover ≤ steps_of rest
@@ -47,7 +47,7 @@ read-then-steps : (rest : Trace) (a c : Option TakenRead) (n : ℕ) (t : TakenRe
 read-then-steps rest None c n t h k e = omega (arith, k t e)
 read-then-steps rest (Some a) c n t h k e =
     subst (λ t. steps_of t.inside + steps_of t.leftover ≤ n + steps_of rest)
-    (some-same (record a { leftover = followed a.leftover rest }) t e)
+    (some-same (record a { leftover = trace_then a.leftover rest }) t e)
     (omega (arith, steps-followed a.leftover rest, h a refl))
 
 read-if-steps : (v : Word) (inside rest : Trace) (test : Bool) (c : Option TakenRead) (t : TakenRead) →
@@ -81,14 +81,14 @@ mutual
   mend-sum (Mend.kept e f) = fix-sum f
   mend-sum (Mend.stale e a) = anew-sum a
 
-  anew-sum : {code : Code} {names : ℕ → ℕ} {s s' : State} {st : Stack} {old new left : Trace} (a : Anew code names s st old s' new left) → kept_anew a + s'.work ≡ steps_of new + s.work
-  anew-sum (Anew.over e) = refl
-  anew-sum (Anew.quiet e a) = omega (arith, anew-sum a)
-  anew-sum (Anew.takes_alloc e t a) = omega (arith, anew-sum a)
-  anew-sum (Anew.makes e t a) = omega (arith, anew-sum a)
-  anew-sum (Anew.writes e a) = omega (arith, anew-sum a)
-  anew-sum (Anew.takes_read e t m a) = omega (arith, mend-sum m, anew-sum a)
-  anew-sum (Anew.reads e t m a) = omega (arith, anew-sum m, anew-sum a)
+  anew-sum : {code : Code} {names : ℕ → ℕ} {s s' : State} {st : Stack} {old new left : Trace} (a : Reruns code names s st old s' new left) → kept_anew a + s'.work ≡ steps_of new + s.work
+  anew-sum (Reruns.over e) = refl
+  anew-sum (Reruns.quiet e a) = omega (arith, anew-sum a)
+  anew-sum (Reruns.takes_alloc e t a) = omega (arith, anew-sum a)
+  anew-sum (Reruns.makes e t a) = omega (arith, anew-sum a)
+  anew-sum (Reruns.writes e a) = omega (arith, anew-sum a)
+  anew-sum (Reruns.takes_read e t m a) = omega (arith, mend-sum m, anew-sum a)
+  anew-sum (Reruns.reads e t m a) = omega (arith, anew-sum m, anew-sum a)
 
 mutual
   fix-few : {code : Code} {names : ℕ → ℕ} {s s' : State} {old new : Trace} (f : Fix code names s old s' new) → kept_fix f ≤ steps_of old
@@ -103,14 +103,14 @@ mutual
   mend-few (Mend.kept e f) = fix-few f
   mend-few (Mend.stale e a) = omega (arith, anew-few a)
 
-  anew-few : {code : Code} {names : ℕ → ℕ} {s s' : State} {st : Stack} {old new left : Trace} (a : Anew code names s st old s' new left) → kept_anew a + steps_of left ≤ steps_of old
-  anew-few (Anew.over e) = omega arith
-  anew-few (Anew.quiet e a) = anew-few a
-  anew-few (Anew.takes_alloc {key = key} {old = old} {t = t} e w a) = omega (arith, anew-few a, alloc-steps key old t w)
-  anew-few (Anew.makes e t a) = anew-few a
-  anew-few (Anew.writes e a) = anew-few a
-  anew-few (Anew.takes_read {p = p} {u = u} {v = v} {args = args} {old = old} {r = r} e w m a) = omega (arith, mend-few m, anew-few a, read-steps p u v args old r w)
-  anew-few (Anew.reads e t m a) = omega (arith, anew-few m, anew-few a)
+  anew-few : {code : Code} {names : ℕ → ℕ} {s s' : State} {st : Stack} {old new left : Trace} (a : Reruns code names s st old s' new left) → kept_anew a + steps_of left ≤ steps_of old
+  anew-few (Reruns.over e) = omega arith
+  anew-few (Reruns.quiet e a) = anew-few a
+  anew-few (Reruns.takes_alloc {key = key} {old = old} {t = t} e w a) = omega (arith, anew-few a, alloc-steps key old t w)
+  anew-few (Reruns.makes e t a) = anew-few a
+  anew-few (Reruns.writes e a) = anew-few a
+  anew-few (Reruns.takes_read {p = p} {u = u} {v = v} {args = args} {old = old} {r = r} e w m a) = omega (arith, mend-few m, anew-few a, read-steps p u v args old r w)
+  anew-few (Reruns.reads e t m a) = omega (arith, anew-few m, anew-few a)
 
 pub kept-law : KeptStepsLaw
 kept-law code names s s' old new f = (fix-sum f, fix-few f)

@@ -1,7 +1,7 @@
 use Rattle.std.proofs.Common.{◌≡◌}
 use Rattle.ceal_base.specs.Trace.{steps_in}
 use Rattle.ceal_theory.specs.Repair.{own}
-use Rattle.ceal_theory.specs.Turns.{BecomesBy}
+use Rattle.ceal_theory.specs.Moves.{BecomesBy}
 use Rattle.ceal_adjust.specs.Machines.{code_of, machine_in}
 use Rattle.ceal_adjust.proofs.complete.turn_to_end.Given as goal
 

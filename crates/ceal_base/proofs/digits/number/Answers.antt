@@ -1,5 +1,5 @@
 use Rattle.std.proofs.Common.{◌≡◌, ◌<◌, ◌+◌, ◌-◌, ◌*◌, ℕ, get_or, drop, arith, rules, ap, ◌∙◌}
-use Rattle.ceal_base.specs.Digits.{continued}
+use Rattle.ceal_base.specs.Digits.{number_with_digits}
 use Rattle.ceal_base.proofs.DigitLemmas.{value_all, value_large, value_more}
 use Rattle.ceal_base.proofs.digits.number.Goals as goal
 
@@ -16,7 +16,7 @@ loop-byte-preserved c =
     omega (arith, c.in_ok-number.ensures.0, c.from-digit.ensures, c.saturating_sub.ensures) in
     record {
       small = c.in_ok-number.ensures.1;
-      same = ap (λ (v : ℕ). continued v (drop (c.loop-byte.byte-index + 1) c.args.digits.now)) e
+      same = ap (λ (v : ℕ). number_with_digits v (drop (c.loop-byte.byte-index + 1) c.args.digits.now)) e
           ∙ value_more c.loop-byte.number c.loop-byte.byte-index c.args.digits.now c.loop-byte.invariant.same (omega arith);
     }
 

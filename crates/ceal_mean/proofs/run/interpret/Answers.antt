@@ -1,5 +1,5 @@
 use Rattle.std.proofs.Common.{◌≡◌, ◌<◌, ◌-◌, ◌∙◌, sym, ap, arith, length, reverse, Some}
-use Rattle.ceal_mean.specs.Exec.{settled}
+use Rattle.ceal_mean.specs.Exec.{frames_to_run}
 use Rattle.ceal_mean.specs.Fresh.{fresh, outcome_of}
 use Rattle.ceal_mean.proofs.RunLemmas.{run-more, run-over, run-empty, run-short}
 use Rattle.ceal_mean.proofs.run.interpret.Goals as goal
@@ -20,7 +20,7 @@ returns-then-not-more c =
     let last : Some (record { memory = c.step.new.memory; steps = c.loop-steps.steps; blocks = length c.step.new.memory.made })
     ≡ fresh c.args.program.now c.args.function c.args.args.now c.args.inputs.now c.args.fuel =
     rw (c.in_ok-more.ensures.over c.if-not-more.true)
-    (sym (run-over c.args.program.now (c.args.fuel - c.loop-steps.steps) c.loop-steps.steps c.loop-steps.memory (settled (reverse c.loop-steps.frames.items))
+    (sym (run-over c.args.program.now (c.args.fuel - c.loop-steps.steps) c.loop-steps.steps c.loop-steps.memory (frames_to_run (reverse c.loop-steps.frames.items))
     (rw c.if-not-more.true at c.in_ok-more.ensures.advanced)) ∙ c.loop-steps.invariant.same) in
     record { outcome = c.done.ensures ∙ ap outcome_of last }
 

@@ -13,7 +13,7 @@ use Rattle.ceal_code.specs.Init.{pointer}
 use Rattle.ceal_code.specs.Program.{Code}
 use Rattle.ceal_code.specs.Step.{Stack, Run, Act, Over, Quiet, Makes, Writes, Reads, next}
 use Rattle.ceal_code.specs.Value.{Variables, set}
-use Rattle.ceal_theory.specs.Repair.{State, clears, puts, works, grows, resumed, Fix, Anew}
+use Rattle.ceal_theory.specs.Repair.{State, clears, puts, works, grows, resumed, Fix, Reruns}
 use Rattle.ceal_theory.specs.Take.{TakenAlloc, TakenRead, take_alloc, take_read}
 
 -- what is done now: items are gone through, or a stack runs with old items left over
@@ -35,73 +35,74 @@ pub record Machine : Type 0 where
   pub frames : Frames
 
 -- the machine has ended, or it writes items and continues
-pub data Turn : Type 0 where
-  Ended : Turn
-  Went : (written : List Item) (machine : Machine) → Turn
+pub data Move : Type 0 where
+  Ended : Move
+  Went : (written : List Item) (machine : Machine) → Move
 
 -- a move that writes these items, and the machine after it
-abbrev pub goes_on : List Item → State → Mode → Frames → Turn
-goes_on written s mode frames = Went written (record { state = s; mode = mode; frames = frames })
+abbrev pub writing_move : List Item → State → Mode → Frames → Move
+writing_move written s mode frames = Went written (record { state = s; mode = mode; frames = frames })
 
 -- a part is over, with this left over
-abbrev pub closed : State → Trace → Frames → Turn
-closed s left Bottom = Ended
-closed s left (AfterFix rest outer) = goes_on (End ∷ []) s (Fixing rest) outer
-closed s left (AfterMend below old outer) = goes_on (End ∷ []) s (Running below old) outer
-closed s left (AfterRun below outer) = goes_on (End ∷ []) s (Running below left) outer
+abbrev pub closing_move : State → Trace → Frames → Move
+closing_move s left Bottom = Ended
+closing_move s left (AfterFix rest outer) = writing_move (End ∷ []) s (Fixing rest) outer
+closing_move s left (AfterMend below old outer) = writing_move (End ∷ []) s (Running below old) outer
+closing_move s left (AfterRun below outer) = writing_move (End ∷ []) s (Running below left) outer
 
 -- a read with old items inside: they are gone through where its value is the store's, else the unit runs
-abbrev pub opened : Code → Bool → UnitId → ℕ → List Word → Word → Trace → Mode
-opened code true u v args now inside = Fixing inside
-opened code false u v args now inside = Running (resumed code u v args now) inside
+abbrev pub mode_inside : Code → Bool → UnitId → ℕ → List Word → Word → Trace → Mode
+mode_inside code true u v args now inside = Fixing inside
+mode_inside code false u v args now inside = Running (resumed code u v args now) inside
 
 -- a move while old items are repaired
-abbrev pub fixing : Code → State → Frames → Trace → Turn
-fixing code s fs Nothing = closed s Nothing fs
-fixing code s fs (Stepped rest) = goes_on (Step ∷ []) s (Fixing rest) fs
-fixing code s fs (Allocated b key rest) = goes_on (Alloc b key ∷ []) (clears code s b key) (Fixing rest) fs
-fixing code s fs (Wrote p value rest) = goes_on (Write p value ∷ []) (puts s p value) (Fixing rest) fs
-fixing code s fs (WasRead p value u v args inside rest) =
-    goes_on (Read p (s.store p) u v args ∷ []) s
-    (opened code (same_word (s.store p) value) u v args (s.store p) inside) (AfterFix rest fs)
+abbrev pub fix_move : Code → State → Frames → Trace → Move
+fix_move code s fs Nothing = closing_move s Nothing fs
+fix_move code s fs (Stepped rest) = writing_move (Step ∷ []) s (Fixing rest) fs
+fix_move code s fs (Allocated b key rest) = writing_move (Alloc b key ∷ []) (clears code s b key) (Fixing rest) fs
+fix_move code s fs (Wrote p value rest) = writing_move (Write p value ∷ []) (puts s p value) (Fixing rest) fs
+fix_move code s fs (WasRead p value u v args inside rest) =
+    writing_move (Read p (s.store p) u v args ∷ []) s
+    (mode_inside code (same_word (s.store p) value) u v args (s.store p) inside) (AfterFix rest fs)
 
 -- a move that allocates
-abbrev pub making : Code → (ℕ → ℕ) → State → Frames → Key → ℕ → ℕ → ℕ → Variables → Stack → Trace
-    → Option TakenAlloc → Turn
-making code names s fs key v u i env below old (Some t) =
-    goes_on (Step ∷ Alloc t.block key ∷ []) (clears code (works s) t.block key)
+abbrev pub alloc_move : Code → (ℕ → ℕ) → State → Frames → Key → ℕ → ℕ → ℕ → Variables → Stack → Trace
+    → Option TakenAlloc → Move
+alloc_move code names s fs key v u i env below old (Some t) =
+    writing_move (Step ∷ Alloc t.block key ∷ []) (clears code (works s) t.block key)
     (Running (Run u i (set env v (pointer key t.block)) below) t.leftover) fs
-making code names s fs key v u i env below old None =
-    goes_on (Step ∷ Alloc (Core (names s.number)) key ∷ []) (grows code names (works s) key)
+alloc_move code names s fs key v u i env below old None =
+    writing_move (Step ∷ Alloc (Core (names s.number)) key ∷ []) (grows code names (works s) key)
     (Running (Run u i (set env v (pointer key (Core (names s.number)))) below) old) fs
 
 -- a move that reads
-abbrev pub reading : Code → State → Frames → Place → UnitId → ℕ → List Word → Stack → Trace → Option TakenRead → Turn
-reading code s fs p u v args below old (Some r) =
-    goes_on (Step ∷ Read p (s.store p) u v args ∷ []) (works s)
-    (opened code (same_word (s.store p) r.value) u v args (s.store p) r.inside) (AfterMend below r.leftover fs)
-reading code s fs p u v args below old None =
-    goes_on (Step ∷ Read p (s.store p) u v args ∷ []) (works s)
+abbrev pub read_move : Code → State → Frames → Place → UnitId → ℕ → List Word → Stack → Trace → Option TakenRead → Move
+read_move code s fs p u v args below old (Some r) =
+    writing_move (Step ∷ Read p (s.store p) u v args ∷ []) (works s)
+    (mode_inside code (same_word (s.store p) r.value) u v args (s.store p) r.inside) (AfterMend below r.leftover fs)
+read_move code s fs p u v args below old None =
+    writing_move (Step ∷ Read p (s.store p) u v args ∷ []) (works s)
     (Running (resumed code u v args (s.store p)) old) (AfterRun below fs)
 
 -- a move of a run, by its next step
-abbrev pub acting : Code → (ℕ → ℕ) → State → Frames → Trace → Act → Turn
-acting code names s fs old Over = closed s old fs
-acting code names s fs old (Quiet after) = goes_on (Step ∷ []) (works s) (Running after old) fs
-acting code names s fs old (Makes key v u i env below) =
-    making code names s fs key v u i env below old (take_alloc key old)
-acting code names s fs old (Writes p value after) =
-    goes_on (Step ∷ Write p value ∷ []) (puts (works s) p value) (Running after old) fs
-acting code names s fs old (Reads p u v args below) = reading code s fs p u v args below old (take_read p u v args old)
+abbrev pub act_move : Code → (ℕ → ℕ) → State → Frames → Trace → Act → Move
+act_move code names s fs old Over = closing_move s old fs
+act_move code names s fs old (Quiet after) = writing_move (Step ∷ []) (works s) (Running after old) fs
+act_move code names s fs old (Makes key v u i env below) =
+    alloc_move code names s fs key v u i env below old (take_alloc key old)
+act_move code names s fs old (Writes p value after) =
+    writing_move (Step ∷ Write p value ∷ []) (puts (works s) p value) (Running after old) fs
+act_move code names s fs old (Reads p u v args below) = read_move code s fs p u v args below old
+    (take_read p u v args old)
 
 -- a move, by the mode
-abbrev pub moving : Code → (ℕ → ℕ) → State → Frames → Mode → Turn
-moving code names s fs (Fixing todo) = fixing code s fs todo
-moving code names s fs (Running st old) = acting code names s fs old (next code s.plain st)
+abbrev pub mode_move : Code → (ℕ → ℕ) → State → Frames → Mode → Move
+mode_move code names s fs (Fixing todo) = fix_move code s fs todo
+mode_move code names s fs (Running st old) = act_move code names s fs old (next code s.plain st)
 
 -- one move of the machine
-unfoldable pub turn : Code → (ℕ → ℕ) → Machine → Turn
-turn code names m = moving code names m.state m.frames m.mode
+unfoldable pub next_move : Code → (ℕ → ℕ) → Machine → Move
+next_move code names m = mode_move code names m.state m.frames m.mode
 
 -- what the frames give after a part has ended in a state with old items left over
 pub data Resumes (code : Code) (names : ℕ → ℕ) : State → Trace → Frames → State → List Item → Type 0 where
@@ -110,10 +111,10 @@ pub data Resumes (code : Code) (names : ℕ → ℕ) : State → Trace → Frame
       → Fix code names s rest t rest' → Resumes code names t Nothing outer s' out
       → Resumes code names s left (AfterFix rest outer) s' (End ∷ (flat rest' ++ out))
   after_mend : {s t s' : State} {left old new left' : Trace} {below : Stack} {outer : Frames} {out : List Item}
-      → Anew code names s below old t new left' → Resumes code names t left' outer s' out
+      → Reruns code names s below old t new left' → Resumes code names t left' outer s' out
       → Resumes code names s left (AfterMend below old outer) s' (End ∷ (flat new ++ out))
   after_run : {s t s' : State} {left new left' : Trace} {below : Stack} {outer : Frames} {out : List Item}
-      → Anew code names s below left t new left' → Resumes code names t left' outer s' out
+      → Reruns code names s below left t new left' → Resumes code names t left' outer s' out
       → Resumes code names s left (AfterRun below outer) s' (End ∷ (flat new ++ out))
 
 -- the machine ends in this state, and writes these items until then
@@ -122,7 +123,7 @@ pub data Finishes (code : Code) (names : ℕ → ℕ) : Machine → State → Li
       → Fix code names s todo t new → Resumes code names t Nothing fs s' out
       → Finishes code names (record { state = s; mode = Fixing todo; frames = fs }) s' (flat new ++ out)
   runs : {s t s' : State} {st : Stack} {old new left : Trace} {fs : Frames} {out : List Item}
-      → Anew code names s st old t new left → Resumes code names t left fs s' out
+      → Reruns code names s st old t new left → Resumes code names t left fs s' out
       → Finishes code names (record { state = s; mode = Running st old; frames = fs }) s' (flat new ++ out)
 
 -- what is left to write of these items, after some of them
@@ -143,13 +144,13 @@ pub record Ends (code : Code) (names : ℕ → ℕ) (m : Machine) : Type 0 where
   pub ahead : (s' : State) (items : List Item) → Finishes code names m s' items → items ≡ []
 
 -- the move is one by the rules
-abbrev pub TakesTurn : Code → (ℕ → ℕ) → Machine → Turn → Type 0
-TakesTurn code names m Ended = Ends code names m
-TakesTurn code names m (Went written m') = BecomesBy code names m m' written
+abbrev pub IsMove : Code → (ℕ → ℕ) → Machine → Move → Type 0
+IsMove code names m Ended = Ends code names m
+IsMove code names m (Went written m') = BecomesBy code names m m' written
 
 -- The machine: one move, moves after one another, the machine of a repair and that of a first trace.
 pub record MachineLaws (code : Code) (names : ℕ → ℕ) : Type 0 where
-  pub turns : (m : Machine) → TakesTurn code names m (turn code names m)
+  pub turns : (m : Machine) → IsMove code names m (next_move code names m)
   pub stays : (m : Machine) → BecomesBy code names m m []
   pub leads : (m m' m'' : Machine) (is js : List Item) → BecomesBy code names m m' is → BecomesBy code names m' m'' js
       → BecomesBy code names m m'' (is ++ js)
@@ -158,7 +159,7 @@ pub record MachineLaws (code : Code) (names : ℕ → ℕ) : Type 0 where
       ↔ ((m : Trace) × (items ≡ flat m) × Fix code names s l s' m)
   pub runs : (s s' : State) (st : Stack) (l : Trace) (items : List Item)
       → Finishes code names (record { state = s; mode = Running st l; frames = Bottom }) s' items
-      ↔ ((m left : Trace) × (items ≡ flat m) × Anew code names s st l s' m left)
+      ↔ ((m left : Trace) × (items ≡ flat m) × Reruns code names s st l s' m left)
   -- steps in front of what is left over do not matter
   pub bare : (s : State) (st : Stack) (l : Trace) (fs : Frames)
       → BecomesBy code names (record { state = s; mode = Running st (Stepped l); frames = fs })
