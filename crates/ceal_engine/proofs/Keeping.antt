@@ -25,7 +25,7 @@ use Rattle.ceal_engine.proofs.Inputs.{all-get, fit-all, edit-fits, call-kept, ex
 use Rattle.ceal_engine.proofs.MoreMemory.{core-plain}
 use Rattle.ceal_engine.proofs.Repairs.{first-of}
 use Rattle.ceal_engine.specs.Engine.{fits_in, with_base, has_run}
-use Rattle.ceal_engine.specs.Keeping.{contents as cell_contents, Kept, state_of, phase_of, running_in, IsPartKept, KeepsRun, Keeps, EngineInvariant}
+use Rattle.ceal_engine.specs.Keeping.{contents as cell_contents, Kept, state_of, phase_of, running_in, IsPartKept, KeepsRun, Keeps, EngineInvariant, marked_kept}
 use Rattle.ceal_engine.specs.Runs.{IsFirstOf, SameRun, SetsBase, LeavesCells, OfRuns, edited_at, same_stage}
 use Rattle.ceal_engine.specs.declared.run.Run.{Run}
 use Rattle.ceal_engine.specs.declared.run.Run.TheVariants as its
@@ -255,14 +255,26 @@ module _ (code : Code) (fuel : ℕ) (inputs : List Block) where
   pub sound-left : (kept : Kept) (old run : Run) → OfRuns LeavesCells same_stage old run → EngineInvariant code fuel inputs kept old → EngineInvariant code fuel inputs kept run
   sound-left kept old run o s = sound-with kept old run s (keeps-left kept.call old run o s.keeps)
 
-  pub state-left : (call : Option Call) (old run : Run) → OfRuns LeavesCells same_stage old run → state_of code fuel inputs call run ≡ state_of code fuel inputs call old
-  state-left call its.New run o = ap (state_of code fuel inputs call) o
-  state-left call (its.Kept old s) its.New o = elim o [ ]
-  state-left call (its.Kept old s) (its.Kept run t) o =
+  pub state-left : (call : Option Call) (old run : Run) → OfRuns LeavesCells same_stage old run → marked_kept (running_in run) ≡ marked_kept (running_in old)
+      → state_of code fuel inputs call run ≡ state_of code fuel inputs call old
+  state-left call its.New run o marks = ap (state_of code fuel inputs call) o
+  state-left call (its.Kept old s) its.New o marks = elim o [ ]
+  state-left call (its.Kept old s) (its.Kept run t) o marks =
+      let same : cell_contents run.tables.mods ≡ cell_contents old.tables.mods = fun_ext (λ p. ap latest_value (o.0.cells p)) in
+      rw (o.1, o.0.same.trace, o.0.same.heap, o.0.same.spent, same, o.0.looks.looked, o.0.looks.differed, o.0.looks.queue, marks) refl
+  state-left call (its.Kept old s) its.Dropped o marks = elim o [ ]
+  state-left call its.Dropped run o marks = ap (state_of code fuel inputs call) o
+
+  -- the same, where something else is marked
+  pub state-marked : (call : Option Call) (old run : Run) → OfRuns LeavesCells same_stage old run
+      → state_of code fuel inputs call run ≡ record (state_of code fuel inputs call old) { marked = marked_kept (running_in run) }
+  state-marked call its.New run o = rw o refl
+  state-marked call (its.Kept old s) its.New o = elim o [ ]
+  state-marked call (its.Kept old s) (its.Kept run t) o =
       let same : cell_contents run.tables.mods ≡ cell_contents old.tables.mods = fun_ext (λ p. ap latest_value (o.0.cells p)) in
       rw (o.1, o.0.same.trace, o.0.same.heap, o.0.same.spent, same, o.0.looks.looked, o.0.looks.differed, o.0.looks.queue) refl
-  state-left call (its.Kept old s) its.Dropped o = elim o [ ]
-  state-left call its.Dropped run o = ap (state_of code fuel inputs call) o
+  state-marked call (its.Kept old s) its.Dropped o = elim o [ ]
+  state-marked call its.Dropped run o = rw o refl
 
   -- the tables of a run are kept
   pub run-kept : (call : Option Call) (run : Run) → Keeps code fuel inputs run call → IfSome (running_in run) (λ r. KeptTables r.tables)

@@ -15,4 +15,5 @@ pub mod Restored
 pub mod EngineLaws
 pub mod TraceSoFar
 pub mod LooksOfCalls
+pub mod MarkedEnds
 pub mod Samples

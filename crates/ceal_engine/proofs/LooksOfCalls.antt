@@ -13,7 +13,7 @@ use Rattle.ceal_code.specs.Program.{Code}
 use Rattle.ceal_engine.proofs.Carrying.{same-as}
 use Rattle.ceal_engine.specs.Calls.{IsRunAnew}
 use Rattle.ceal_engine.specs.Engine.{EngineState, has_run, trace}
-use Rattle.ceal_engine.specs.Keeping.{phase_at, state_of}
+use Rattle.ceal_engine.specs.Keeping.{marked_kept, phase_at, running_in, state_of}
 use Rattle.ceal_engine.specs.Looks.{due, IsCounted, LooksOfEdit, LooksAtNothing, LooksOfRepair, LooksOfRun, LooksOfEither, Updates, LooksLaw}
 use Rattle.ceal_engine.specs.Partial.{spent_in}
 use Rattle.ceal_engine.specs.Repaired.{IsFirst}
@@ -25,7 +25,8 @@ use Rattle.ceal_engine.specs.declared.run.Run.{Run}
 use Rattle.ceal_engine.specs.declared.run.Run.TheVariants as its
 use Rattle.ceal_engine.specs.declared.run.Stage.{Stage}
 use Rattle.ceal_engine.specs.declared.run.Stage.TheVariants as stage
-use Rattle.ceal_repair.specs.Looks.{Pays, write_count}
+use Rattle.ceal_engine.specs.Marks.{KeepsMark}
+use Rattle.ceal_repair.specs.Looks.{KeepsMarks, Pays, write_count}
 use Rattle.ceal_repair.specs.declared.running.Running.{Running}
 use Rattle.ceal_repair.specs.declared.tables.Tables.{Tables}
 use Rattle.ceal_trace.specs.Nodes.{Timeline}
@@ -125,3 +126,19 @@ counted (Updates.repair u h more most) few =
 
 pub looks-law : LooksLaw
 looks-law s n edits steps u few = let r = counted u few in omega (arith, r.0, r.1)
+
+-- ---- what is marked
+
+pub marks-opened : (before : Run) (run run' : Running) → opened before ≡ Some run → KeepsMarks run.tables run'.tables → run'.tables.mods.marked ≡ marked_kept (running_in before)
+marks-opened its.New run run' is marks = none-some run is
+marks-opened (its.Kept before g) run run' is marks = (let s = same-as g before run is in marks ∙ ap (λ (t : Tables). t.mods.marked) s.tables)
+marks-opened its.Dropped run run' is marks = none-some run is
+
+pub marks-either : (e n : EngineState) (far : Came) → (far ≢ came.Anew → n.marked ≡ e.marked) → (far ≡ came.Anew → n.marked ≡ None) → KeepsMark e n
+marks-either e n came.More kept anew = inl (kept (λ s. absurd cc))
+marks-either e n came.Done kept anew = inl (kept (λ s. absurd cc))
+marks-either e n came.Anew kept anew = inr (anew refl)
+
+pub on-ok-marks : {A E : Type 0} (e n : EngineState) (r : Result A E) → OnOk r (IsRunAnew n) → OnOk r (KeepsMark e n)
+on-ok-marks e n (Ok x) anew = inr anew.unmarked
+on-ok-marks e n (Err x) anew = tt

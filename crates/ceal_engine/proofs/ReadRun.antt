@@ -35,7 +35,7 @@ use Rattle.ceal_trace.specs.Items.{forest_of}
 
 module _ (s : Store) (b : BlockId) where
   -- a modifiable has its content
-  cell-content : (kinds : List FieldKind) (n : ℕ) (words : List Word) (f : ℕ) → is_cell (slice_get kinds f) ≡ true
+  pub cell-content : (kinds : List FieldKind) (n : ℕ) (words : List Word) (f : ℕ) → is_cell (slice_get kinds f) ≡ true
       → slice_get (with_contents s b n kinds words) f ≡ option_map (λ w. s (record { block = b; field = n + f })) (slice_get words f)
   cell-content [] n words f h = absurd (grind (arith, h))
   cell-content (kind ∷ kinds) n [] f h = refl
@@ -56,7 +56,7 @@ no-cell (Some CellInt) h = absurd (grind (arith, h))
 no-cell (Some (CellPtr t)) h = absurd (grind (arith, h))
 
 module _ (code : Code) (inputs : List Block) where
-  kind-filled : (s : Store) (b : BlockId) (o : Option Block) (f : ℕ) → kind_in code.structs (option_map (filled code s b) o) f ≡ kind_in code.structs o f
+  pub kind-filled : (s : Store) (b : BlockId) (o : Option Block) (f : ℕ) → kind_in code.structs (option_map (filled code s b) o) f ≡ kind_in code.structs o f
   kind-filled s b None f = refl
   kind-filled s b (Some block) f = refl
 
@@ -84,7 +84,7 @@ module _ (code : Code) (inputs : List Block) where
   own-word None f = refl
   own-word (Some block) f = refl
 
-  core-is : (r : Running) (n : ℕ) → core (store_in code inputs (Some r)) n ≡ option_map (filled code (contents r.tables.mods) (Core n)) (heap_words r.heap (Core n))
+  pub core-is : (r : Running) (n : ℕ) → core (store_in code inputs (Some r)) n ≡ option_map (filled code (contents r.tables.mods) (Core n)) (heap_words r.heap (Core n))
   unfolding block_after
   core-is r n = cores-are code (contents r.tables.mods) r.heap n
 

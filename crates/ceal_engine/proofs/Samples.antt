@@ -40,6 +40,7 @@ engine phase a = record {
   differed = 0;
   queued = 0;
   writes = 1;
+  marked = None;
 }
 
 its_trace : trace (engine IsFinished 4) ≡ Some (items 4 5)

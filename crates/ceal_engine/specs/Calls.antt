@@ -34,3 +34,4 @@ pub record IsRunAnew (e : EngineState) : Type 0 where
   pub present : IsPresent e
   pub first : IsSomeAnd (trace e) (IsFirst e)
   pub looks : LooksOfRun e
+  pub unmarked : e.marked ≡ None

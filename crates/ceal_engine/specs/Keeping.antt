@@ -10,6 +10,7 @@ use Rattle.ceal_base.specs.Trace.{Trace, steps_in}
 use Rattle.ceal_base.specs.declared.call.Call.{Call}
 use Rattle.ceal_base.specs.declared.forest.Item.{Item}
 use Rattle.ceal_base.specs.declared.word.BlockId.TheVariants.{Core}
+use Rattle.ceal_base.specs.declared.word.Place.{Place}
 use Rattle.ceal_base.specs.declared.word.Word.{Word}
 use Rattle.ceal_code.specs.Fitting.{Fits}
 use Rattle.ceal_code.specs.Program.{Code}
@@ -144,6 +145,11 @@ abbrev pub writes_kept : Option Running → ℕ
 writes_kept None = 0
 writes_kept (Some run) = write_count run.tables.trace.nodes
 
+-- what the places held at the end when they were marked
+abbrev pub marked_kept : Option Running → Option (List (Place × Word))
+marked_kept None = None
+marked_kept (Some run) = run.tables.mods.marked
+
 -- what contracts see of an engine of these parts
 abbrev pub state_of : Code → ℕ → List Block → Option Call → Run → EngineState
 state_of code fuel inputs call run = record {
@@ -163,6 +169,7 @@ state_of code fuel inputs call run = record {
   differed = differed_kept (running_in run);
   queued = queued_kept (running_in run);
   writes = writes_kept (running_in run);
+  marked = marked_kept (running_in run);
 }
 
 -- The run's nodes stand for a trace of the call that is honest on the inputs, and no read is queued.

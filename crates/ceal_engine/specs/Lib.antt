@@ -5,6 +5,7 @@ pub mod Keeping
 pub mod Runs
 pub mod Partial
 pub mod Looks
+pub mod Marks
 pub mod Calls
 -- what its own functions say of each other
 pub mod Reading

@@ -40,11 +40,13 @@ under_way code fuel inputs call run = state_of code fuel inputs call (its.Kept r
 abbrev pub trace_in : Running → Option Trace
 trace_in run = trace_of (forest_of run.tables.trace.nodes)
 
--- what a first run that has ended leaves: it can be kept, its items are the first trace, and its looks are paid
+-- what a first run that has ended leaves: it can be kept, its items are the first trace, its looks are paid, and nothing
+-- is marked
 pub record IsFirstOf (code : Code) (fuel : ℕ) (inputs : List Block) (call : Option Call) (run : Running) : Type 0 where
   pub kept : Keeps code fuel inputs (its.Kept run stage.Finished) call
   pub first : IsSomeAnd (trace_in run) (IsFirst (finished code fuel inputs call run))
   pub looks : LooksOfRun (finished code fuel inputs call run)
+  pub unmarked : run.tables.mods.marked ≡ None
 
 -- a run of which so much work is told
 abbrev pub told : ℕ → Running → Running

@@ -29,6 +29,7 @@ use std::alloc::Global;
 use std::marker::Model;
 
 mod answers;
+mod changes;
 mod found;
 mod runs;
 
@@ -86,6 +87,7 @@ impl Engine {
         ensures inputs { IfOk result (λ e. e.inputs ≡ []) }
         ensures call { IfOk result (λ e. e.call ≡ None) }
         ensures phase { IfOk result (λ e. e.phase ≡ New) }
+        ensures marked { IfOk result (λ e. e.marked ≡ None) }
     {
         let engine = Engine::seeded(alloc, code, fuel, Seed::of(0, 0))?;
         Ok(engine)
@@ -100,6 +102,7 @@ impl Engine {
         ensures inputs { IfOk result (λ e. e.inputs ≡ []) }
         ensures call { IfOk result (λ e. e.call ≡ None) }
         ensures phase { IfOk result (λ e. e.phase ≡ New) }
+        ensures marked { IfOk result (λ e. e.marked ≡ None) }
     {
         let call = KeptCall::new(alloc, most_arguments(code.functions()))?;
         Ok(Engine {
@@ -139,6 +142,7 @@ impl Engine {
             ≡ Some (record { function = function; args = args.now })) }
         ensures phase { IfOk result (λ e. e.phase ≡ Finished) }
         ensures work { IfOk result (λ e. e.work ≡ work) }
+        ensures marked { IfOk result (λ e. e.marked ≡ None) }
         ensures forest { IfOk result (λ e. IsSomeAnd (trace e) (IsRestored forest.now)) }
     {
         let mut engine = Engine::called(alloc, code, fuel, inputs, seed)?;
@@ -173,6 +177,7 @@ impl Engine {
         ensures fuel { IfOk result (λ e. e.fuel ≡ fuel) }
         ensures inputs { IfOk result (λ e. e.inputs ≡ inputs.now) }
         ensures phase { IfOk result (λ e. e.phase ≡ New) }
+        ensures marked { IfOk result (λ e. e.marked ≡ None) }
     {
         let call = KeptCall::new(alloc, most_arguments(code.functions()))?;
         let inputs = inputs.copy()?;
@@ -212,6 +217,7 @@ impl Engine {
         ensures carries { OnOk result ((next : ℕ) (r : RepairOf) →
             CarriesRepair self.old next r → CarriesRepair self.new next r) }
         ensures looks { LooksAtNothing self.old self.new }
+        ensures marked { self.new.marked ≡ self.old.marked }
         ensures number { IfOk result (λ id. id ≡ Input (length self.old.inputs)) }
         ensures inputs { OnOk result
             (self.new.inputs ≡ self.old.inputs ++
@@ -240,6 +246,7 @@ impl Engine {
         ensures carries { OnOk result ((next : ℕ) (r : RepairOf) →
             CarriesRepair self.old next r → CarriesRepair self.new next r) }
         ensures looks { LooksOfEdit self.old self.new }
+        ensures marked { self.new.marked ≡ self.old.marked }
         ensures phase { OnOk result (self.new.phase ≡ phase_after_edit self.old.phase) }
         ensures inputs { OnOk result (self.new.inputs ≡ with_base self.old.inputs place value) }
         ensures err { OnErr result (self.new ≡ self.old) }

@@ -1,15 +1,17 @@
 // The run of an engine, and what edits and new inputs do to it.
 
-ghost use Rattle.std.specs.Prelude.{◌≡◌, ℕ, [], pos, None, Some, IfSome, OnOk, OnErr};
+ghost use Rattle.std.specs.Prelude.{◌≡◌, ℕ, [], pos, None, Some, is_some, IfSome, OnOk, OnErr};
 ghost use Rattle.ceal_base.specs.declared.word.BlockId.TheVariants.{Input};
 ghost use Rattle.ceal_base.specs.declared.word.Word.TheVariants.{Num};
 ghost use Rattle.ceal_code.specs.Value.{field_kind};
-ghost use Rattle.ceal_engine.specs.Keeping.{phase_at, phase_of, running_in};
+ghost use Rattle.ceal_engine.specs.Keeping.{marked_kept, phase_at, phase_of, running_in};
 ghost use Rattle.ceal_engine.specs.Runs.{LeavesCells, OfRuns, SetsBase, SetsInput, edited_at, opened_at, same_stage};
 ghost use Rattle.ceal_engine.specs.Runs.{told_of};
 ghost use Rattle.ceal_engine.specs.declared.phase.Phase.TheVariants.{Finished as IsFinished};
 ghost use Rattle.ceal_engine.specs.declared.run.Run.TheVariants.{Kept as IsKept, Dropped as IsDropped};
-ghost use Rattle.ceal_mods.specs.Mods.{cell_of};
+ghost use Rattle.ceal_base.specs.declared.word.Place.{Place as PlaceOf};
+ghost use Rattle.ceal_mods.specs.Cell.{latest_value};
+ghost use Rattle.ceal_mods.specs.Mods.{cell_of, held_at_mark};
 ghost use Rattle.ceal_repair.specs.Kept.{Kept, base_in};
 ghost use Rattle.ceal_repair.specs.Words.{IsTouched, NO_FIELD};
 
@@ -132,6 +134,7 @@ impl Run {
         requires kept { IfSome (running_in self.old) (λ r. Kept r.tables) }
         ensures ok { OnOk result (OfRuns (SetsBase place value) edited_at self.old self.new) }
         ensures err { OnErr result (OfRuns LeavesCells same_stage self.old self.new) }
+        ensures marks { marked_kept (running_in self.new) ≡ marked_kept (running_in self.old) }
     {
         match self {
             Run::New => Ok(()),
@@ -150,6 +153,7 @@ impl Run {
         requires bare { IfSome (running_in self.old) (λ r. (field : ℕ) → base_in r.tables.mods
             (record { block = Input input; field = field }) ≡ Num (pos 0)) }
         ensures same { OfRuns LeavesCells same_stage self.old self.new }
+        ensures marks { marked_kept (running_in self.new) ≡ marked_kept (running_in self.old) }
         ensures touched { OnOk result (IfSome (running_in self.new) (λ r.
             IsTouched code.now.structs input shape r.tables.mods)) }
         ensures few { OnOk result (IfSome (running_in self.new) (λ r.
@@ -174,8 +178,9 @@ impl Run {
         requires unread { IfSome (running_in self.old)
             (λ r. (field : ℕ) → (cell_of r.tables.mods
             (record { block = Input input; field = field })).reads ≡ []) }
-        ensures { OfRuns (SetsInput code.now.structs input shape words.now) same_stage
+        ensures sets { OfRuns (SetsInput code.now.structs input shape words.now) same_stage
             self.old self.new }
+        ensures marks { marked_kept (running_in self.new) ≡ marked_kept (running_in self.old) }
     {
         match self {
             Run::New => {}
@@ -183,6 +188,34 @@ impl Run {
                 set_input(&mut run.tables, code.structs.items(), input, shape, words)
             }
             Run::Dropped => {}
+        }
+    }
+
+    /// Marks what the places hold at the end, where there is a run.
+    pub fn mark(&mut self) -> Result<(), NoMemory>
+        requires kept { IfSome (running_in self.old) (λ r. Kept r.tables) }
+        ensures same { OfRuns LeavesCells same_stage self.old self.new }
+        ensures marked { OnOk result
+            (is_some (marked_kept (running_in self.new)) ≡ is_some (running_in self.new)) }
+        ensures held { OnOk result (IfSome (running_in self.new) (λ r. (p : PlaceOf)
+            → held_at_mark r.tables.mods p ≡ latest_value (cell_of r.tables.mods p))) }
+        ensures err { OnErr result (self.new ≡ self.old) }
+    {
+        match self {
+            Run::New => Ok(()),
+            Run::Kept(run, _) => run.tables.mark(),
+            Run::Dropped => Ok(()),
+        }
+    }
+
+    /// Whether the places of the run are marked.
+    pub fn is_marked(&self) -> bool
+        ensures { result ≡ is_some (marked_kept (running_in self.now)) }
+    {
+        match self {
+            Run::New => false,
+            Run::Kept(run, _) => run.tables.mods.is_marked(),
+            Run::Dropped => false,
         }
     }
 }

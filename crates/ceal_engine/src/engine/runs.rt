@@ -9,6 +9,7 @@ ghost use Rattle.ceal_code.specs.Replay.{IsHonest};
 ghost use Rattle.ceal_engine.specs.Calls.{Advances, IsRunAnew, called};
 ghost use Rattle.ceal_engine.specs.Engine.{trace, fresh_of, has_run, IsWhole, IsPresent, IfOutOfFuel};
 ghost use Rattle.ceal_engine.specs.Looks.{LooksOfEither, LooksOfRepair, LooksOfRun};
+ghost use Rattle.ceal_engine.specs.Marks.{KeepsMark};
 ghost use Rattle.ceal_engine.specs.Partial.{phase_after, phase_after_repair, CarriesRepair, RepairOutcome};
 ghost use Rattle.ceal_engine.specs.Partial.{ProgressOutcome, EndOutcome, IsRepairSoFar, IsRunAgain, KeepsWords};
 ghost use Rattle.ceal_engine.specs.Repaired.{IsFirst, IsRepaired, IsUnchanged, KeepsFront};
@@ -76,6 +77,7 @@ impl Engine {
         ensures present { OnOk result (IsPresent self.new) }
         ensures first { OnOk result (IsSomeAnd (trace self.new) (IsFirst self.new)) }
         ensures looks { OnOk result (LooksOfRun self.new) }
+        ensures marked { OnOk result (self.new.marked ≡ None) }
     {
         self.call.set(function, args);
         self.run.give_up();
@@ -107,6 +109,8 @@ impl Engine {
             CarriesRepair self.old next r → EndOutcome self.old self.new next r result }
         ensures looks { OnOk result (IsWhole self.old.phase → LooksOfRepair self.old self.new) }
         ensures looks_always { OnOk result (LooksOfEither self.old self.new) }
+        ensures marked { OnOk result (IsWhole self.old.phase → self.new.marked ≡ self.old.marked) }
+        ensures marks { OnOk result (KeepsMark self.old self.new) }
         ensures sure { self.old.phase ≡ Finished → IsOk result }
         ensures still { self.old.phase ≡ Finished → self.new ≡ record self.old { work = 0 } }
     {
@@ -150,6 +154,9 @@ impl Engine {
         ensures front { IfOk result (λ came. came ≢ Came.Anew → KeepsFront self.old self.new) }
         ensures looks { IfOk result (λ came. came ≢ Came.Anew → LooksOfRepair self.old self.new) }
         ensures looks_anew { IfOk result (λ came. came ≡ Came.Anew → LooksOfRun self.new) }
+        ensures marked { IfOk result
+            (λ came. came ≢ Came.Anew → self.new.marked ≡ self.old.marked) }
+        ensures unmarked { IfOk result (λ came. came ≡ Came.Anew → self.new.marked ≡ None) }
         ensures revoked_stay { IfOk result (λ came. came ≡ Came.More →
             KeepsWords self.old.heap self.new.heap) }
     {
@@ -225,6 +232,8 @@ impl Engine {
             ⊎ IsRunAgain self.old self.new (Some reads)) }
         ensures looks { OnOk result (IsWhole self.old.phase → LooksOfRepair self.old self.new) }
         ensures looks_always { OnOk result (LooksOfEither self.old self.new) }
+        ensures marked { OnOk result (IsWhole self.old.phase → self.new.marked ≡ self.old.marked) }
+        ensures marks { OnOk result (KeepsMark self.old self.new) }
         ensures revoked_stay { IfOk result (λ p. p ≡ Progress.More →
             KeepsWords self.old.heap self.new.heap) }
     {

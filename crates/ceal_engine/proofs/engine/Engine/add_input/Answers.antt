@@ -18,7 +18,7 @@ invariant_of-self c = let v = c.self.inside in sound-left v.code v.fuel v.inputs
 pub returns-in_err-touch-clause-err : goal.returns-in_err-touch-clause-err
 returns-in_err-touch-clause-err c =
     let v = c.self.inside in
-    on-err c.from_residual-in_err-touch.result _ (state-left v.code v.fuel v.inputs v.call.call v.run c.touch.new.self c.touch.ensures.same ∙ c.self.view_is)
+    on-err c.from_residual-in_err-touch.result _ (state-left v.code v.fuel v.inputs v.call.call v.run c.touch.new.self c.touch.ensures.same c.touch.ensures.marks ∙ c.self.view_is)
 
 pub invariant_of-self-in_err-push : goal.invariant_of-self-in_err-push
 invariant_of-self-in_err-push c =
@@ -29,7 +29,7 @@ pub returns-in_err-push-clause-err : goal.returns-in_err-push-clause-err
 returns-in_err-push-clause-err c =
     let v = c.self.inside in
     on-err c.from_residual-in_err-push.result _
-    (rw c.in_err-push.ensures.err (state-left v.code v.fuel v.inputs v.call.call v.run c.touch.new.self c.touch.ensures.same ∙ c.self.view_is))
+    (rw c.in_err-push.ensures.err (state-left v.code v.fuel v.inputs v.call.call v.run c.touch.new.self c.touch.ensures.same c.touch.ensures.marks ∙ c.self.view_is))
 
 pub add-requires-clause-unread : goal.add-requires-clause-unread
 add-requires-clause-unread c =
@@ -43,7 +43,7 @@ invariant_of-self-2 c =
     let v = c.self.inside in
     let b : Block = record { shape = c.args.shape; words = c.args.words.now } in
     let is = c.new-block.ensures.value ∙ ap (λ ws. record { shape = c.args.shape; words = ws }) c.in_ok-from_slice.ensures.items in
-    let set : OfRuns (SetsInput v.code.structs (length v.inputs) c.args.shape c.args.words.now) same_stage c.touch.new.self c.add.new.self = rw c.items.ensures.value at c.add.ensures in
+    let set : OfRuns (SetsInput v.code.structs (length v.inputs) c.args.shape c.args.words.now) same_stage c.touch.new.self c.add.new.self = rw c.items.ensures.value at c.add.ensures.sets in
     let sound = sound-left v.code v.fuel v.inputs v.call v.run c.touch.new.self c.touch.ensures.same c.self.invariant in
     rw (c.in_ok-push.ensures.ok, is)
     (sound-longer v.code v.fuel v.inputs b
@@ -56,12 +56,12 @@ returns-in_err-from_slice-clause-looks c = nothing-same c.args.self.now _ refl
 pub returns-in_err-touch-clause-looks : goal.returns-in_err-touch-clause-looks
 returns-in_err-touch-clause-looks c =
     let v = c.self.inside in
-    nothing-same c.args.self.now _ (state-left v.code v.fuel v.inputs v.call.call v.run c.touch.new.self c.touch.ensures.same ∙ c.self.view_is)
+    nothing-same c.args.self.now _ (state-left v.code v.fuel v.inputs v.call.call v.run c.touch.new.self c.touch.ensures.same c.touch.ensures.marks ∙ c.self.view_is)
 
 pub returns-in_err-push-clause-looks : goal.returns-in_err-push-clause-looks
 returns-in_err-push-clause-looks c =
     let v = c.self.inside in
-    nothing-same c.args.self.now _ (rw c.in_err-push.ensures.err (state-left v.code v.fuel v.inputs v.call.call v.run c.touch.new.self c.touch.ensures.same ∙ c.self.view_is))
+    nothing-same c.args.self.now _ (rw c.in_err-push.ensures.err (state-left v.code v.fuel v.inputs v.call.call v.run c.touch.new.self c.touch.ensures.same c.touch.ensures.marks ∙ c.self.view_is))
 
 -- no read was looked at
 pub returns-clause-looks : goal.returns-clause-looks
@@ -69,10 +69,10 @@ returns-clause-looks c =
     let v = c.self.inside in
     let b : Block = record { shape = c.args.shape; words = c.args.words.now } in
     let is = c.new-block.ensures.value ∙ ap (λ ws. record { shape = c.args.shape; words = ws }) c.in_ok-from_slice.ensures.items in
-    let set : OfRuns (SetsInput v.code.structs (length v.inputs) c.args.shape c.args.words.now) same_stage c.touch.new.self c.add.new.self = rw c.items.ensures.value at c.add.ensures in
+    let set : OfRuns (SetsInput v.code.structs (length v.inputs) c.args.shape c.args.words.now) same_stage c.touch.new.self c.add.new.self = rw c.items.ensures.value at c.add.ensures.sets in
     rw (c.in_ok-push.ensures.ok, is)
     (subst (λ e. LooksAtNothing e (state_of v.code v.fuel (v.inputs ++ b ∷ []) v.call.call c.add.new.self))
-    (state-left v.code v.fuel v.inputs v.call.call v.run c.touch.new.self c.touch.ensures.same ∙ c.self.view_is)
+    (state-left v.code v.fuel v.inputs v.call.call v.run c.touch.new.self c.touch.ensures.same c.touch.ensures.marks ∙ c.self.view_is)
     (looks-input v.code v.fuel v.inputs v.call.call v.code.structs (length v.inputs) c.args.shape c.args.words.now (v.inputs ++ b ∷ []) c.touch.new.self c.add.new.self set))
 
 -- the repair that continues has one input more, which its items do not name
@@ -81,11 +81,11 @@ returns-clause-carries c = λ next r carries.
     let v = c.self.inside in
     let b : Block = record { shape = c.args.shape; words = c.args.words.now } in
     let is = c.new-block.ensures.value ∙ ap (λ ws. record { shape = c.args.shape; words = ws }) c.in_ok-from_slice.ensures.items in
-    let set : OfRuns (SetsInput v.code.structs (length v.inputs) c.args.shape c.args.words.now) same_stage c.touch.new.self c.add.new.self = rw c.items.ensures.value at c.add.ensures in
+    let set : OfRuns (SetsInput v.code.structs (length v.inputs) c.args.shape c.args.words.now) same_stage c.touch.new.self c.add.new.self = rw c.items.ensures.value at c.add.ensures.sets in
     let left = sound-left v.code v.fuel v.inputs v.call v.run c.touch.new.self c.touch.ensures.same c.self.invariant in
     let longer = sound-longer v.code v.fuel v.inputs b (subst (λ e. block_fits e.code.structs (alone e.inputs) b ≡ true) (sym c.self.view_is) c.requires.fits) c.self.invariant.fit
     v.call c.touch.new.self c.add.new.self set (subst (λ e. length e.inputs + 1 < 2 ^ 32) (sym c.self.view_is) c.requires.room) left in
-    let same = state-left v.code v.fuel v.inputs v.call.call v.run c.touch.new.self c.touch.ensures.same ∙ c.self.view_is in
+    let same = state-left v.code v.fuel v.inputs v.call.call v.run c.touch.new.self c.touch.ensures.same c.touch.ensures.marks ∙ c.self.view_is in
     rw (c.in_ok-push.ensures.ok, is)
     (carries-still v.code v.fuel v.inputs (v.inputs ++ b ∷ []) v.call (extended-longer v.code v.inputs b) same_stage (λ g work. refl) c.touch.new.self c.add.new.self left longer
     (same-input v.code.structs (length v.inputs) c.args.shape c.args.words.now c.touch.new.self c.add.new.self set) next r (subst (λ e. CarriesRepair e next r) (sym same) carries))

@@ -9,7 +9,7 @@ use Rattle.ceal_engine.specs.Keeping.{phase_of, state_of}
 use Rattle.ceal_engine.specs.Runs.{finished, opened, under_way}
 use Rattle.ceal_code.specs.Replay.{IsHonest}
 use Rattle.ceal_engine.specs.Engine.{IsWhole, has_run, trace}
-use Rattle.ceal_engine.proofs.LooksOfCalls.{looks-repair}
+use Rattle.ceal_engine.proofs.LooksOfCalls.{looks-repair, marks-opened}
 use Rattle.ceal_engine.proofs.Present.{not-both, other-whole, sound-present}
 use Rattle.ceal_engine.proofs.TraceSoFar.{done-so-far, spent-fresh}
 use Rattle.ceal_engine.specs.Looks.{LooksOfRepair}
@@ -284,3 +284,21 @@ returns-in_err-run_again-in-Ok-Spent-clause-keeps c =
           k.out_of_fuel;
       dropped = k.dropped;
     }))
+
+pub returns-in_ok-run_again-in-Ok-Spent-clause-marked : goal.returns-in_ok-run_again-in-Ok-Spent-clause-marked
+returns-in_ok-run_again-in-Ok-Spent-clause-marked c = λ n. absurd (n refl)
+
+pub returns-in_ok-run_again-in-Ok-Spent-clause-unmarked : goal.returns-in_ok-run_again-in-Ok-Spent-clause-unmarked
+returns-in_ok-run_again-in-Ok-Spent-clause-unmarked c = λ e. c.in_ok-run_again-in-Ok-Spent.ensures.anew.unmarked
+
+pub returns-in-Ok-Done-clause-marked : goal.returns-in-Ok-Done-clause-marked
+returns-in-Ok-Done-clause-marked c = λ n.
+    let v = c.self.inside in
+    let is = ap opened c.in-Kept.is ∙ ap Some (sym c.open.ensures) in
+    subst (λ s. c.advance.new.running.tables.mods.marked ≡ s.marked) c.self.view_is (marks-opened v.run c.open.new.run c.advance.new.running is c.in-Ok-Done.ensures.marks)
+
+pub returns-in-Ok-More-clause-marked : goal.returns-in-Ok-More-clause-marked
+returns-in-Ok-More-clause-marked c = λ n.
+    let v = c.self.inside in
+    let is = ap opened c.in-Kept.is ∙ ap Some (sym c.open.ensures) in
+    subst (λ s. c.advance.new.running.tables.mods.marked ≡ s.marked) c.self.view_is (marks-opened v.run c.open.new.run c.advance.new.running is c.in-Ok-More.ensures.marks)

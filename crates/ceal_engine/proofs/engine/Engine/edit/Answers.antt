@@ -31,12 +31,12 @@ invariant_of-self-2 c =
 pub returns-in_err-edit-clause-err : goal.returns-in_err-edit-clause-err
 returns-in_err-edit-clause-err c =
     let v = c.self.inside in
-    on-err c.from_residual.result _ (state-left v.code v.fuel v.inputs v.call.call v.run c.edit.new.self c.in_err-edit.ensures.err ∙ c.self.view_is)
+    on-err c.from_residual.result _ (state-left v.code v.fuel v.inputs v.call.call v.run c.edit.new.self c.in_err-edit.ensures.err c.edit.ensures.marks ∙ c.self.view_is)
 
 pub returns-in_err-edit-clause-looks : goal.returns-in_err-edit-clause-looks
 returns-in_err-edit-clause-looks c =
     let v = c.self.inside in
-    looks-same c.args.self.now _ (state-left v.code v.fuel v.inputs v.call.call v.run c.edit.new.self c.in_err-edit.ensures.err ∙ c.self.view_is)
+    looks-same c.args.self.now _ (state-left v.code v.fuel v.inputs v.call.call v.run c.edit.new.self c.in_err-edit.ensures.err c.edit.ensures.marks ∙ c.self.view_is)
 
 -- no read was looked at, and at most the reads of one place can differ now
 pub returns-clause-looks : goal.returns-clause-looks

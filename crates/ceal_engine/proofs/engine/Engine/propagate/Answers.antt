@@ -1,11 +1,11 @@
-use Rattle.std.proofs.Common.{◌≡◌, true, inl, ◌∙◌, ap, sym, subst}
+use Rattle.std.proofs.Common.{◌≡◌, true, inl, refl, ◌∙◌, ap, sym, subst}
 use Rattle.std.proofs.lemmas.Result.{err_from_is_err_and}
 use Rattle.std.specs.Option.{IsSomeAnd}
 use Rattle.ceal_engine.proofs.Carrying.{ended-so, whole-repair}
 use Rattle.ceal_engine.proofs.NoneStale.{on-error}
 use Rattle.ceal_engine.proofs.Propagated.{finished-clause, present-told}
 use Rattle.ceal_engine.proofs.Present.{not-both, sound-present}
-use Rattle.ceal_engine.proofs.LooksOfCalls.{looks-idle, looks-either, on-ok}
+use Rattle.ceal_engine.proofs.LooksOfCalls.{looks-idle, looks-either, marks-either, on-ok, on-ok-marks}
 use Rattle.ceal_engine.specs.Engine.{EngineState, IsPresent, has_run, trace}
 use Rattle.ceal_engine.specs.Repaired.{IsRepaired}
 use Rattle.ceal_engine.specs.declared.phase.Phase.TheVariants.{Finished}
@@ -95,3 +95,27 @@ pub returns-in_err-advance-in-Partial-clause-keeps : goal.returns-in_err-advance
 returns-in_err-advance-in-Partial-clause-keeps c =
     let error = err_from_is_err_and c.from_residual-in_err-advance-in-Partial.result c.from_residual-in_err-advance-in-Partial.ensures.1 in
     rw (error.1, error.2) (on-error c.args.self.now c.advance-in-Partial.new.self _ c.in_err-advance-in-Partial.ensures.keeps)
+
+pub returns-in-Finished-clause-marked : goal.returns-in-Finished-clause-marked
+returns-in-Finished-clause-marked c = λ w. rw c.tell.ensures refl
+
+pub returns-in-Finished-clause-marks : goal.returns-in-Finished-clause-marks
+returns-in-Finished-clause-marks c = rw c.tell.ensures (inl refl)
+
+pub returns-in_ok-advance-in-Pending-clause-marked : goal.returns-in_ok-advance-in-Pending-clause-marked
+returns-in_ok-advance-in-Pending-clause-marked c = λ w.
+    let a = c.in_ok-advance-in-Pending.ensures in
+    a.marked (λ anew. not-both c.args.self.now.phase (a.anew anew) w)
+
+pub returns-in_ok-advance-in-Pending-clause-marks : goal.returns-in_ok-advance-in-Pending-clause-marks
+returns-in_ok-advance-in-Pending-clause-marks c =
+    let a = c.in_ok-advance-in-Pending.ensures in
+    marks-either c.args.self.now c.advance.new.self c.in_ok-advance-in-Pending.field-0 a.marked a.unmarked
+
+pub returns-in_ok-advance-in-Partial-clause-marks : goal.returns-in_ok-advance-in-Partial-clause-marks
+returns-in_ok-advance-in-Partial-clause-marks c =
+    let a = c.in_ok-advance-in-Partial.ensures in
+    marks-either c.args.self.now c.advance-in-Partial.new.self c.in_ok-advance-in-Partial.field-0 a.marked a.unmarked
+
+pub returns-in-Dropped-clause-marks : goal.returns-in-Dropped-clause-marks
+returns-in-Dropped-clause-marks c = on-ok-marks c.args.self.now c.run_anew.new.self c.run_anew.result c.run_anew.ensures.anew

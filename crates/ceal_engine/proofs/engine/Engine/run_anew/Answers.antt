@@ -24,5 +24,6 @@ returns-clause-anew c =
           sound-present v.code v.fuel v.inputs v.call run
           (sound-with v.code v.fuel v.inputs v.call v.run run c.self.invariant (subst (λ e. Keeps e.code e.fuel e.inputs run e.call) (sym is) first.kept)) refl;
       first = subst (λ e. IsSomeAnd (trace_in c.in_ok-run.run') (IsFirst (finished e.code e.fuel e.inputs e.call c.in_ok-run.run'))) (sym is) first.first;
+      unmarked = first.unmarked;
       looks = subst (λ e. LooksOfRun (finished e.code e.fuel e.inputs e.call c.in_ok-run.run')) (sym is) first.looks;
     })

@@ -2,7 +2,7 @@ use Rattle.std.specs.Prelude.{◌↔◌, IsTrue}
 use Rattle.std.proofs.Common.{rules, ◌≡◌, false, true, Some, inl, inr, refl, sym, ◌∙◌, subst}
 use Rattle.std.proofs.lemmas.Result.{err_from_is_err_and}
 use Rattle.ceal_engine.proofs.Carrying.{comes-so, done-repair}
-use Rattle.ceal_engine.proofs.LooksOfCalls.{looks-either}
+use Rattle.ceal_engine.proofs.LooksOfCalls.{looks-either, marks-either}
 use Rattle.ceal_engine.proofs.Present.{not-both}
 use Rattle.ceal_engine.specs.Engine.{has_run}
 use Rattle.ceal_engine.specs.Keeping.{phase_of}
@@ -63,3 +63,12 @@ pub returns-in_err-came-clause-keeps : goal.returns-in_err-came-clause-keeps
 returns-in_err-came-clause-keeps c =
     let error = err_from_is_err_and c.from_residual-in_err-came.result c.from_residual-in_err-came.ensures.1 in
     rw (error.1, error.2) (on-error c.args.self.now c.advance.new.self _ c.in_err-came.ensures.keeps)
+
+pub returns-clause-marked : goal.returns-clause-marked
+returns-clause-marked c = λ w. c.in_ok-came.ensures.marked (λ anew. not-both c.args.self.now.phase (c.in_ok-came.ensures.anew anew) w)
+
+pub returns-clause-marks : goal.returns-clause-marks
+returns-clause-marks c = marks-either c.args.self.now c.advance.new.self c.in_ok-came.came c.in_ok-came.ensures.marked c.in_ok-came.ensures.unmarked
+
+pub returns-then-eq-clause-marks : goal.returns-then-eq-clause-marks
+returns-then-eq-clause-marks c = inr c.in_ok-run_anew.ensures.anew.unmarked

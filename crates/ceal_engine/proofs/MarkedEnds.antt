@@ -1,0 +1,133 @@
+-- What the places held when they were marked, and which of them are told as changed.
+use Rattle.std.proofs.Common.{◌≡◌, ◌≢◌, ◌+◌, ℕ, suc, true, false, cond, inl, inr, Option, Some, None, List, [], ◌∷◌, slice_get, unwrap_or, refl, sym, ap, subst, ◌∙◌, arith}
+use Rattle.std.specs.Option.{option_map}
+use Rattle.std.specs.Prelude.{IfSome, IsSome, is_some, OnOk, OnErr, Result, Ok, Err}
+use Rattle.std.proofs.lemmas.Bool.{cases_Bool, false≢true}
+use Rattle.ceal_base.specs.Access.{word_in}
+use Rattle.ceal_base.specs.Block.{Block}
+use Rattle.ceal_base.specs.Fitting.{kind_in}
+use Rattle.ceal_base.specs.Shapes.{kinds_of_shape}
+use Rattle.ceal_base.specs.contracts.word.PlacePartialEq.TheImpl.{ghosts}
+use Rattle.ceal_base.specs.declared.call.Call.{Call}
+use Rattle.ceal_base.specs.declared.word.BlockId.{BlockId}
+use Rattle.ceal_base.specs.declared.word.BlockId.TheVariants.{Input, Core}
+use Rattle.ceal_base.specs.declared.word.Place.{Place}
+use Rattle.ceal_base.specs.declared.word.Word.{Word}
+use Rattle.ceal_base.specs.declared.word.Word.TheVariants.{Null}
+use Rattle.ceal_code.proofs.Replay.ReplayedCall.{get-after}
+use Rattle.ceal_code.specs.PlainWords.{block_word}
+use Rattle.ceal_code.specs.Program.{Code}
+use Rattle.ceal_code.specs.Replay.{Store, filled}
+use Rattle.ceal_code.specs.Value.{is_cell}
+use Rattle.ceal_engine.proofs.ReadRun.{cell-content, core-is, kind-filled}
+use Rattle.ceal_engine.specs.Engine.{EngineState, block_in, block_of, stored_at}
+use Rattle.ceal_engine.specs.Keeping.{contents, marked_kept, phase_of, running_in, state_of, store_in}
+use Rattle.ceal_engine.specs.Marks.{IsModifiable, held_at_end, held_at_mark}
+use Rattle.ceal_engine.specs.declared.phase.Phase.TheVariants.{Finished as IsFinished}
+use Rattle.ceal_engine.specs.declared.run.Run.{Run}
+use Rattle.ceal_engine.specs.declared.run.Run.TheVariants as its
+use Rattle.ceal_heap.specs.Heap.{plain_of as heap_words}
+use Rattle.ceal_mods.proofs.IndexLemmas.{same_place}
+use Rattle.ceal_mods.specs.Cell.{latest_value}
+use Rattle.ceal_mods.specs.Marks.{held_in, times}
+use Rattle.ceal_mods.specs.Mods.{cell_of, held_at_mark as held_by_mods}
+use Rattle.ceal_repair.specs.declared.running.Running.{Running}
+
+-- what follows where there is a result, or an error
+pub map-ok : {A E : Type 0} (r : Result A E) (P Q : Type 0) → (P → Q) → OnOk r P → OnOk r Q
+map-ok (Ok x) P Q f p = f p
+map-ok (Err x) P Q f p = tt
+
+pub map-err : {A E : Type 0} (r : Result A E) (P Q : Type 0) → (P → Q) → OnErr r P → OnErr r Q
+map-err (Ok x) P Q f p = tt
+map-err (Err x) P Q f p = f p
+
+-- ---- what a modifiable holds at the end
+
+module _ (code : Code) (inputs : List Block) where
+  here : (s : Store) (b : BlockId) (n f : ℕ) (o : Option Block) → n ≡ f → is_cell (kind_in code.structs o f) ≡ true → IsSome (block_word (option_map (filled code s b) o) f)
+      → s (record { block = b; field = n }) ≡ word_in (option_map (filled code s b) o) f Null
+  here s b n f None is h k = absurd (grind (arith, h))
+  here s b n f (Some block) is h k = go (slice_get block.words f) refl
+    where
+      cell = cell-content s b (kinds_of_shape code.structs block.shape) 0 block.words f h
+      zero-more : 0 + f ≡ n
+      zero-more = omega (arith, is)
+
+      go : (o : Option Word) → slice_get block.words f ≡ o → s (record { block = b; field = n }) ≡ word_in (option_map (filled code s b) (Some block)) f Null
+      go None e = absurd (let no : IsSome None = subst IsSome (cell ∙ ap (option_map (λ (w : Word). s (record { block = b; field = 0 + f }))) e) k in grind (arith, no))
+      go (Some w) e =
+          ap (λ m. s (record { block = b; field = m })) (sym zero-more)
+          ∙ sym (ap (λ (x : Option Word). unwrap_or x Null) (cell ∙ ap (option_map (λ (w : Word). s (record { block = b; field = 0 + f }))) e))
+
+  pub end-law : (r : Running) (p : Place) → is_cell (kind_in code.structs (block_of inputs (store_in code inputs (Some r)) p.block) p.field) ≡ true
+      → IsSome (block_word (stored_at (store_in code inputs (Some r)) p.block) p.field) → contents r.tables.mods p ≡ word_in (stored_at (store_in code inputs (Some r)) p.block) p.field Null
+  end-law r p h k = go p.block refl h k
+    where
+      zero-more : (n : ℕ) → 0 + n ≡ n
+      zero-more n = omega arith
+
+      s : Store
+      s = contents r.tables.mods
+
+      go : (b : BlockId) → p.block ≡ b → is_cell (kind_in code.structs (block_of inputs (store_in code inputs (Some r)) b) p.field) ≡ true
+          → IsSome (block_word (stored_at (store_in code inputs (Some r)) b) p.field) → s p ≡ word_in (stored_at (store_in code inputs (Some r)) b) p.field Null
+      go (Input n) e h k =
+          let is : option_map (filled code s (Input n)) (slice_get inputs n) ≡ stored_at (store_in code inputs (Some r)) (Input n) =
+          ap (λ b. option_map (filled code s b) (slice_get inputs n)) (ap Input (sym (zero-more n))) ∙ sym (get-after code s 0 inputs n) in
+          ap (λ b. s (record { block = b; field = p.field })) e
+          ∙ (here s (Input n) p.field p.field (slice_get inputs n) refl h (subst (λ o. IsSome (block_word o p.field)) (sym is) k) ∙ ap (λ o. word_in o p.field Null) is)
+      go (Core n) e h k =
+          let is = sym (core-is code inputs r n) in
+          let kind = sym (ap is_cell (kind-filled code inputs s (Core n) (heap_words r.heap (Core n)) p.field)) ∙ (ap (λ o. is_cell (kind_in code.structs o p.field)) is ∙ h) in
+          ap (λ b. s (record { block = b; field = p.field })) e
+          ∙ (here s (Core n) p.field p.field (heap_words r.heap (Core n)) refl kind (subst (λ o. IsSome (block_word o p.field)) (sym is) k) ∙ ap (λ o. word_in o p.field Null) is)
+
+  module _ (fuel : ℕ) (call : Option Call) where
+    -- what a modifiable of a finished run holds at the end is what its cell holds
+    pub end-held : (run : Run) → phase_of run ≡ IsFinished → (p : Place) → IsModifiable (state_of code fuel inputs call run) p
+        → IfSome (running_in run) (λ r. latest_value (cell_of r.tables.mods p) ≡ held_at_end (state_of code fuel inputs call run) p)
+    end-held its.New e p m = tt
+    end-held (its.Kept r g) e p m = end-law r p m.kind m.word
+    end-held its.Dropped e p m = tt
+
+    -- where each place is marked with what it holds, a modifiable is marked with its content
+    pub marked-held : (run : Run) → phase_of run ≡ IsFinished → IfSome (running_in run) (λ r. (p : Place) → held_by_mods r.tables.mods p ≡ latest_value (cell_of r.tables.mods p))
+        → (p : Place) → IsModifiable (state_of code fuel inputs call run) p → held_at_mark (state_of code fuel inputs call run) p ≡ held_at_end (state_of code fuel inputs call run) p
+    marked-held its.New e h p m = absurd (grind (arith, e))
+    marked-held (its.Kept r g) e h p m = h p ∙ end-law r p m.kind m.word
+    marked-held its.Dropped e h p m = absurd (grind (arith, e))
+
+-- a finished run is marked
+pub there-marked : (run : Run) → phase_of run ≡ IsFinished → is_some (marked_kept (running_in run)) ≡ is_some (running_in run) → IsSome (marked_kept (running_in run))
+there-marked its.New e h = absurd (grind (arith, e))
+there-marked (its.Kept r g) e h = h
+there-marked its.Dropped e h = absurd (grind (arith, e))
+
+-- ---- the modifiables among places
+
+abbrev pub modifiables : EngineState → List Place → List Place
+modifiables e [] = []
+modifiables e (p ∷ ps) = cond (is_cell (kind_in e.code.structs (block_in e p.block) p.field)) (p ∷ modifiables e ps) (modifiables e ps)
+
+pub times-modifiable : (e : EngineState) (p : Place) (ps : List Place) → is_cell (kind_in e.code.structs (block_in e p.block) p.field) ≡ true → times p (modifiables e ps) ≡ times p ps
+times-modifiable e p [] h = refl
+times-modifiable e p (q ∷ qs) h = elim (same_place p q) [
+  | inl same ↦
+      let there : is_cell (kind_in e.code.structs (block_in e q.block) q.field) ≡ true = subst (λ (r : Place). is_cell (kind_in e.code.structs (block_in e r.block) r.field) ≡ true) same.1 h in
+      rw (there, same.0) (ap suc (times-modifiable e p qs h))
+  | inr other ↦ elim (cases_Bool (is_cell (kind_in e.code.structs (block_in e q.block) q.field))) [
+    | inl yes ↦ rw (yes, other.0) (times-modifiable e p qs h)
+    | inr no ↦ rw (no, other.0) (times-modifiable e p qs h)
+  ]
+]
+
+pub times-other : (e : EngineState) (p : Place) (ps : List Place) → (is_cell (kind_in e.code.structs (block_in e p.block) p.field) ≡ true → ⊥) → times p (modifiables e ps) ≡ 0
+times-other e p [] h = refl
+times-other e p (q ∷ qs) h = elim (cases_Bool (is_cell (kind_in e.code.structs (block_in e q.block) q.field))) [
+  | inl yes ↦ elim (same_place p q) [
+    | inl same ↦ absurd (h (subst (λ (r : Place). is_cell (kind_in e.code.structs (block_in e r.block) r.field) ≡ true) (sym same.1) yes))
+    | inr other ↦ rw (yes, other.0) (times-other e p qs h)
+  ]
+  | inr no ↦ rw no (times-other e p qs h)
+]

@@ -1,0 +1,62 @@
+// Which places hold something else at the end than before.
+
+ghost use Rattle.std.specs.Prelude.{◌≡◌, ◌≢◌, ◌↔◌, ⊥, true, is_some, map, Some, IfOk, IsSome, OnOk, OnErr};
+ghost use Rattle.ceal_base.specs.Fitting.{kind_in};
+ghost use Rattle.ceal_base.specs.declared.word.Place.{Place as PlaceOf};
+ghost use Rattle.ceal_code.specs.Value.{is_cell};
+ghost use Rattle.ceal_engine.specs.Engine.{block_in};
+ghost use Rattle.ceal_engine.specs.Marks.{IsModifiable, held_at_end, held_at_mark};
+ghost use Rattle.ceal_engine.specs.declared.phase.Phase.TheVariants.{Finished};
+ghost use Rattle.ceal_mods.specs.Marks.{times};
+
+use super::Engine;
+use ceal_base::no_memory::NoMemory;
+use ceal_base::word::Place;
+
+impl Engine {
+    /// From now on `changed` compares what the places hold at the end of a run with what they hold now. The first time
+    /// since the call was run from nothing it takes the time of all places that were touched, and then the time of those
+    /// that were changed since.
+    pub fn mark(&mut self) -> Result<(), NoMemory>
+        requires { self.old.phase ≡ Finished }
+        ensures same { self.new ≡ record self.old { marked = self.new.marked } }
+        ensures marked { OnOk result (IsSome self.new.marked) }
+        ensures held { OnOk result ((p : PlaceOf) → IsModifiable self.old p
+            → held_at_mark self.new p ≡ held_at_end self.old p) }
+        ensures err { OnErr result (self.new ≡ self.old) }
+    {
+        self.run.mark()
+    }
+
+    /// Whether `changed` may be called in Finished: `mark` was called since the call was run from nothing.
+    pub fn is_marked(&self) -> bool
+        ensures { result ≡ is_some self.now.marked }
+    {
+        self.run.is_marked()
+    }
+
+    /// The modifiables of inputs and of core blocks that hold something else at the end of the run than when `mark` was
+    /// called last, each once. The place of a block that has its number since then counts as the one that was there
+    /// before; where none was, it held 0. It takes the time of the places that were changed since.
+    pub fn changed(&self) -> Result<Vec<Place>, NoMemory>
+        requires finished { self.now.phase ≡ Finished }
+        requires marked { IsSome self.now.marked }
+        ensures told { IfOk result (λ places. (p : PlaceOf) → IsModifiable self.now p
+            → held_at_end self.now p ≢ held_at_mark self.now p → times p places.items ≡ 1) }
+        ensures only { IfOk result (λ places. (p : PlaceOf) → IsModifiable self.now p
+            → held_at_end self.now p ≡ held_at_mark self.now p → times p places.items ≡ 0) }
+        ensures modifiables { IfOk result (λ places. (p : PlaceOf)
+            → (is_cell (kind_in self.now.code.structs (block_in self.now p.block) p.field) ≡ true
+            → ⊥)
+            → times p places.items ≡ 0) }
+    {
+        let told = self.run.finished().tables.mods.changed()?;
+        let mut places = Vec::new(self.alloc);
+        for place in told.as_slice() {
+            if self.has_value(*place) {
+                places.push(*place)?;
+            }
+        }
+        Ok(places)
+    }
+}
