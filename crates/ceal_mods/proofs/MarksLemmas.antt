@@ -154,7 +154,7 @@ watches-changed m es k c w =
       distinct = l.distinct w.distinct;
       same = λ s less none. elim (eqb_tells k s) [
         | inl e ↦ absurd (let there : is_in s (with_slot (length m.ends) k m.slots) ≡ true = subst (λ (n : ℕ). is_in n (with_slot (length m.ends) k m.slots) ≡ true) e.1 (l.there (subst (λ
-        (n : ℕ). n < length m.ends) (sym e.1) less)) in cc)
+            (n : ℕ). n < length m.ends) (sym e.1) less)) in cc)
         | inr e ↦ w.same s less (l.before s none) ∙ ap latest_value (sym (cell-other es k s c e.1))
       ];
     }
@@ -225,7 +225,7 @@ module _ (index : Index) (cells : List (Place × Cell)) (marks : Option Marked) 
   })
 
   pub whole-added : (new : Index) (p : Place) (cell : Cell) (after : List (Place × Cell)) → lookup (ghosts.eq p) cells ≡ None → after ≡ cells ++ (p, cell) ∷ [] → Indexes new after → IsWhole
-  new after marks
+      new after marks
   whole-added new p cell after none now indexes = record {
     indexes = indexes;
     apart = rw now (apart-added p cell cells none w.apart);
