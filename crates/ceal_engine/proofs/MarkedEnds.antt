@@ -1,8 +1,9 @@
 -- What the places held when they were marked, and which of them are told as changed.
-use Rattle.std.proofs.Common.{◌≡◌, ◌≢◌, ◌+◌, ℕ, suc, true, false, cond, inl, inr, Option, Some, None, List, [], ◌∷◌, slice_get, unwrap_or, refl, sym, ap, subst, ◌∙◌, arith}
+use Rattle.std.proofs.Common.{◌≡◌, ◌≢◌, ◌+◌, ◌<◌, ◌≤◌, ℕ, suc, true, false, cond, inl, inr, Option, Some, None, List, [], ◌∷◌, ◌++◌, length, get_or, drop, slice_get, unwrap_or, refl, sym, ap, subst, ◌∙◌, append_assoc, append-nil, arith}
 use Rattle.std.specs.Option.{option_map}
 use Rattle.std.specs.Prelude.{IfSome, IsSome, is_some, OnOk, OnErr, Result, Ok, Err}
 use Rattle.std.proofs.lemmas.Bool.{cases_Bool, false≢true}
+use Rattle.std.proofs.lemmas.List.{at_drop_more, at_drop_all}
 use Rattle.ceal_base.specs.Access.{word_in}
 use Rattle.ceal_base.specs.Block.{Block}
 use Rattle.ceal_base.specs.Fitting.{kind_in}
@@ -15,6 +16,7 @@ use Rattle.ceal_base.specs.declared.word.Place.{Place}
 use Rattle.ceal_base.specs.declared.word.Word.{Word}
 use Rattle.ceal_base.specs.declared.word.Word.TheVariants.{Null}
 use Rattle.ceal_code.proofs.Replay.ReplayedCall.{get-after}
+use Rattle.ceal_code.proofs.Words.SameIsEqual.{some-same}
 use Rattle.ceal_code.specs.PlainWords.{block_word}
 use Rattle.ceal_code.specs.Program.{Code}
 use Rattle.ceal_code.specs.Replay.{Store, filled}
@@ -51,6 +53,7 @@ module _ (code : Code) (inputs : List Block) where
   here s b n f (Some block) is h k = go (slice_get block.words f) refl
     where
       cell = cell-content s b (kinds_of_shape code.structs block.shape) 0 block.words f h
+
       zero-more : 0 + f ≡ n
       zero-more = omega (arith, is)
 
@@ -84,12 +87,15 @@ module _ (code : Code) (inputs : List Block) where
           ∙ (here s (Core n) p.field p.field (heap_words r.heap (Core n)) refl kind (subst (λ o. IsSome (block_word o p.field)) (sym is) k) ∙ ap (λ o. word_in o p.field Null) is)
 
   module _ (fuel : ℕ) (call : Option Call) where
-    -- what a modifiable of a finished run holds at the end is what its cell holds
-    pub end-held : (run : Run) → phase_of run ≡ IsFinished → (p : Place) → IsModifiable (state_of code fuel inputs call run) p
-        → IfSome (running_in run) (λ r. latest_value (cell_of r.tables.mods p) ≡ held_at_end (state_of code fuel inputs call run) p)
-    end-held its.New e p m = tt
-    end-held (its.Kept r g) e p m = end-law r p m.kind m.word
-    end-held its.Dropped e p m = tt
+    -- the tables of a finished run tell what a modifiable holds at the end, and what it held when the places were marked
+    pub as-held : (run : Run) → phase_of run ≡ IsFinished → (r : Running) → running_in run ≡ Some r → (p : Place) → IsModifiable (state_of code fuel inputs call run) p
+        → (latest_value (cell_of r.tables.mods p) ≡ held_at_end (state_of code fuel inputs call run) p) × (held_by_mods r.tables.mods p ≡ held_at_mark (state_of code fuel inputs call run) p)
+    as-held its.New e r is p m = absurd (grind (arith, e))
+    as-held (its.Kept k g) e r is p m =
+        subst (λ (x : Running). (latest_value (cell_of x.tables.mods p) ≡ held_at_end (state_of code fuel inputs call (its.Kept k g)) p)
+        × (held_by_mods x.tables.mods p ≡ held_at_mark (state_of code fuel inputs call (its.Kept k g)) p))
+        (some-same k r is) (end-law k p m.kind m.word, refl)
+    as-held its.Dropped e r is p m = absurd (grind (arith, e))
 
     -- where each place is marked with what it holds, a modifiable is marked with its content
     pub marked-held : (run : Run) → phase_of run ≡ IsFinished → IfSome (running_in run) (λ r. (p : Place) → held_by_mods r.tables.mods p ≡ latest_value (cell_of r.tables.mods p))
@@ -131,3 +137,30 @@ times-other e p (q ∷ qs) h = elim (cases_Bool (is_cell (kind_in e.code.structs
   ]
   | inr no ↦ rw no (times-other e p qs h)
 ]
+
+-- the place that comes next, and those after it
+next-is : (ps : List Place) (i : ℕ) (p : Place) → p ≡ get_or ps i p → i < length ps → drop i ps ≡ p ∷ drop (i + 1) ps
+next-is ps i p is h = at_drop_more (λ (l : List Place). l) ps i p h ∙ ap (λ (q : Place). q ∷ drop (i + 1) ps) (sym is)
+
+-- it is told, where it is a modifiable
+pub modifiable-told : (e : EngineState) (ps : List Place) (i : ℕ) (p : Place) (before more all : List Place) → p ≡ get_or ps i p → i < length ps
+    → is_cell (kind_in e.code.structs (block_in e p.block) p.field) ≡ true → before ++ modifiables e (drop i ps) ≡ all → more ≡ before ++ p ∷ [] → more ++ modifiables e (drop (i + 1) ps) ≡ all
+modifiable-told e ps i p before more all is h yes so added =
+    let first : modifiables e (p ∷ drop (i + 1) ps) ≡ p ∷ modifiables e (drop (i + 1) ps) = rw yes refl in
+    ap (λ (l : List Place). l ++ modifiables e (drop (i + 1) ps)) added
+    ∙ (append_assoc before (p ∷ []) (modifiables e (drop (i + 1) ps))
+    ∙ (ap (λ (l : List Place). before ++ l) (sym (ap (modifiables e) (next-is ps i p is h) ∙ first)) ∙ so))
+
+-- and else it is not
+pub other-passed : (e : EngineState) (ps : List Place) (i : ℕ) (p : Place) (before all : List Place) → p ≡ get_or ps i p → i < length ps
+    → (is_cell (kind_in e.code.structs (block_in e p.block) p.field) ≡ true → ⊥) → before ++ modifiables e (drop i ps) ≡ all → before ++ modifiables e (drop (i + 1) ps) ≡ all
+other-passed e ps i p before all is h other so = elim (cases_Bool (is_cell (kind_in e.code.structs (block_in e p.block) p.field))) [
+  | inl yes ↦ absurd (other yes)
+  | inr no ↦
+      let first : modifiables e (p ∷ drop (i + 1) ps) ≡ modifiables e (drop (i + 1) ps) = rw no refl in
+      ap (λ (l : List Place). before ++ l) (sym (ap (modifiables e) (next-is ps i p is h) ∙ first)) ∙ so
+]
+
+-- all were passed
+pub all-told : (e : EngineState) (ps : List Place) (i : ℕ) (places all : List Place) → length ps ≤ i → places ++ modifiables e (drop i ps) ≡ all → places ≡ all
+all-told e ps i places all h so = sym (ap (λ (l : List Place). places ++ l) (at_drop_all (modifiables e) ps i h) ∙ append-nil places) ∙ so

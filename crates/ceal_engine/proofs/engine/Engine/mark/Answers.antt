@@ -33,14 +33,14 @@ pub returns-clause-marked : goal.returns-clause-marked
 returns-clause-marked c =
     let v = c.self.inside in
     let same = state-marked v.code v.fuel v.inputs v.call.call v.run c.mark.new.self c.mark.ensures.same
-        ∙ ap (λ (e : EngineState). record e { marked = marked_kept (running_in c.mark.new.self) }) c.self.view_is in
+    ∙ ap (λ (e : EngineState). record e { marked = marked_kept (running_in c.mark.new.self) }) c.self.view_is in
     map-ok c.mark.result _ _ (λ there. there-marked c.mark.new.self (ap (λ (e : EngineState). e.phase) same ∙ c.requires) there) c.mark.ensures.marked
 
 pub returns-clause-held : goal.returns-clause-held
 returns-clause-held c =
     let v = c.self.inside in
     let same = state-marked v.code v.fuel v.inputs v.call.call v.run c.mark.new.self c.mark.ensures.same
-        ∙ ap (λ (e : EngineState). record e { marked = marked_kept (running_in c.mark.new.self) }) c.self.view_is in
+    ∙ ap (λ (e : EngineState). record e { marked = marked_kept (running_in c.mark.new.self) }) c.self.view_is in
     map-ok c.mark.result _ _
     (λ held p modifiable.
     let there = still c.args.self.now (state_of v.code v.fuel v.inputs v.call.call c.mark.new.self) (marked_kept (running_in c.mark.new.self)) same p modifiable in
