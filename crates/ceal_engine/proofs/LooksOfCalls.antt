@@ -135,8 +135,8 @@ marks-opened (its.Kept before g) run run' is marks = (let s = same-as g before r
 marks-opened its.Dropped run run' is marks = none-some run is
 
 pub marks-either : (e n : EngineState) (far : Came) → (far ≢ came.Anew → n.marked ≡ e.marked) → (far ≡ came.Anew → n.marked ≡ None) → KeepsMark e n
-marks-either e n came.More kept anew = inl (kept (λ s. absurd cc))
-marks-either e n came.Done kept anew = inl (kept (λ s. absurd cc))
+marks-either e n came.More kept anew = inl (kept (λ s. absurd (grind (arith, s))))
+marks-either e n came.Done kept anew = inl (kept (λ s. absurd (grind (arith, s))))
 marks-either e n came.Anew kept anew = inr (anew refl)
 
 pub on-ok-marks : {A E : Type 0} (e n : EngineState) (r : Result A E) → OnOk r (IsRunAnew n) → OnOk r (KeepsMark e n)

@@ -1,5 +1,7 @@
 -- What the places held when they were marked, and which of them are told as changed.
-use Rattle.std.proofs.Common.{◌≡◌, ◌≢◌, ◌+◌, ◌<◌, ◌≤◌, ℕ, suc, true, false, cond, inl, inr, Option, Some, None, List, [], ◌∷◌, ◌++◌, length, get_or, drop, slice_get, unwrap_or, refl, sym, ap, subst, ◌∙◌, append_assoc, append-nil, arith}
+use Rattle.std.proofs.Common.{◌≡◌, ◌+◌, ◌<◌, ◌≤◌, ℕ, suc, true, false, cond, inl, inr, Option, Some, None, List, [], ◌∷◌, ◌++◌, length, get_or, drop, slice_get, unwrap_or, refl, sym, ap, subst, ◌∙◌}
+use Rattle.std.proofs.Common.{append_assoc, append-nil, arith, rules}
+use Rattle.std.specs.Bool.{Decides}
 use Rattle.std.specs.Option.{option_map}
 use Rattle.std.specs.Prelude.{IfSome, IsSome, is_some, OnOk, OnErr, Result, Ok, Err}
 use Rattle.std.proofs.lemmas.Bool.{cases_Bool, false≢true}
@@ -19,7 +21,7 @@ use Rattle.ceal_code.proofs.Replay.ReplayedCall.{get-after}
 use Rattle.ceal_code.proofs.Words.SameIsEqual.{some-same}
 use Rattle.ceal_code.specs.PlainWords.{block_word}
 use Rattle.ceal_code.specs.Program.{Code}
-use Rattle.ceal_code.specs.Replay.{Store, filled}
+use Rattle.ceal_code.specs.Replay.{Store, filled, with_contents}
 use Rattle.ceal_code.specs.Value.{is_cell}
 use Rattle.ceal_engine.proofs.ReadRun.{cell-content, core-is, kind-filled}
 use Rattle.ceal_engine.specs.Engine.{EngineState, block_in, block_of, stored_at}
@@ -29,9 +31,8 @@ use Rattle.ceal_engine.specs.declared.phase.Phase.TheVariants.{Finished as IsFin
 use Rattle.ceal_engine.specs.declared.run.Run.{Run}
 use Rattle.ceal_engine.specs.declared.run.Run.TheVariants as its
 use Rattle.ceal_heap.specs.Heap.{plain_of as heap_words}
-use Rattle.ceal_mods.proofs.IndexLemmas.{same_place}
 use Rattle.ceal_mods.specs.Cell.{latest_value}
-use Rattle.ceal_mods.specs.Marks.{held_in, times}
+use Rattle.ceal_mods.specs.Marks.{times}
 use Rattle.ceal_mods.specs.Mods.{cell_of, held_at_mark as held_by_mods}
 use Rattle.ceal_repair.specs.declared.running.Running.{Running}
 
@@ -52,13 +53,14 @@ module _ (code : Code) (inputs : List Block) where
   here s b n f None is h k = absurd (grind (arith, h))
   here s b n f (Some block) is h k = go (slice_get block.words f) refl
     where
+      cell : slice_get (with_contents s b 0 (kinds_of_shape code.structs block.shape) block.words) f ≡ option_map (λ (w : Word). s (record { block = b; field = 0 + f })) (slice_get block.words f)
       cell = cell-content s b (kinds_of_shape code.structs block.shape) 0 block.words f h
 
       zero-more : 0 + f ≡ n
       zero-more = omega (arith, is)
 
       go : (o : Option Word) → slice_get block.words f ≡ o → s (record { block = b; field = n }) ≡ word_in (option_map (filled code s b) (Some block)) f Null
-      go None e = absurd (let no : IsSome None = subst IsSome (cell ∙ ap (option_map (λ (w : Word). s (record { block = b; field = 0 + f }))) e) k in grind (arith, no))
+      go None e = absurd (false≢true (subst IsSome (cell ∙ ap (option_map (λ (w : Word). s (record { block = b; field = 0 + f }))) e) k))
       go (Some w) e =
           ap (λ m. s (record { block = b; field = m })) (sym zero-more)
           ∙ sym (ap (λ (x : Option Word). unwrap_or x Null) (cell ∙ ap (option_map (λ (w : Word). s (record { block = b; field = 0 + f }))) e))
@@ -87,7 +89,7 @@ module _ (code : Code) (inputs : List Block) where
           ∙ (here s (Core n) p.field p.field (heap_words r.heap (Core n)) refl kind (subst (λ o. IsSome (block_word o p.field)) (sym is) k) ∙ ap (λ o. word_in o p.field Null) is)
 
   module _ (fuel : ℕ) (call : Option Call) where
-    -- the tables of a finished run tell what a modifiable holds at the end, and what it held when the places were marked
+    -- the tables of a finished run tell what a modifiable holds at the end, and what it held when it was marked
     pub as-held : (run : Run) → phase_of run ≡ IsFinished → (r : Running) → running_in run ≡ Some r → (p : Place) → IsModifiable (state_of code fuel inputs call run) p
         → (latest_value (cell_of r.tables.mods p) ≡ held_at_end (state_of code fuel inputs call run) p) × (held_by_mods r.tables.mods p ≡ held_at_mark (state_of code fuel inputs call run) p)
     as-held its.New e r is p m = absurd (grind (arith, e))
@@ -116,49 +118,51 @@ abbrev pub modifiables : EngineState → List Place → List Place
 modifiables e [] = []
 modifiables e (p ∷ ps) = cond (is_cell (kind_in e.code.structs (block_in e p.block) p.field)) (p ∷ modifiables e ps) (modifiables e ps)
 
+equal-place : (p q : Place) → Decides (ghosts.eq p q) (p ≡ q)
+equal-place p q = search rules
+
 pub times-modifiable : (e : EngineState) (p : Place) (ps : List Place) → is_cell (kind_in e.code.structs (block_in e p.block) p.field) ≡ true → times p (modifiables e ps) ≡ times p ps
 times-modifiable e p [] h = refl
-times-modifiable e p (q ∷ qs) h = elim (same_place p q) [
+times-modifiable e p (q ∷ qs) h = elim (cases_Bool (ghosts.eq p q)) [
   | inl same ↦
-      let there : is_cell (kind_in e.code.structs (block_in e q.block) q.field) ≡ true = subst (λ (r : Place). is_cell (kind_in e.code.structs (block_in e r.block) r.field) ≡ true) same.1 h in
-      rw (there, same.0) (ap suc (times-modifiable e p qs h))
+      let there : is_cell (kind_in e.code.structs (block_in e q.block) q.field) ≡ true =
+      subst (λ (r : Place). is_cell (kind_in e.code.structs (block_in e r.block) r.field) ≡ true) ((equal-place p q).0 same) h in
+      rw (there, same) (ap suc (times-modifiable e p qs h))
   | inr other ↦ elim (cases_Bool (is_cell (kind_in e.code.structs (block_in e q.block) q.field))) [
-    | inl yes ↦ rw (yes, other.0) (times-modifiable e p qs h)
-    | inr no ↦ rw (no, other.0) (times-modifiable e p qs h)
+    | inl one ↦ rw (one, other) (times-modifiable e p qs h)
+    | inr not_one ↦ rw (not_one, other) (times-modifiable e p qs h)
   ]
 ]
 
 pub times-other : (e : EngineState) (p : Place) (ps : List Place) → (is_cell (kind_in e.code.structs (block_in e p.block) p.field) ≡ true → ⊥) → times p (modifiables e ps) ≡ 0
 times-other e p [] h = refl
 times-other e p (q ∷ qs) h = elim (cases_Bool (is_cell (kind_in e.code.structs (block_in e q.block) q.field))) [
-  | inl yes ↦ elim (same_place p q) [
-    | inl same ↦ absurd (h (subst (λ (r : Place). is_cell (kind_in e.code.structs (block_in e r.block) r.field) ≡ true) (sym same.1) yes))
-    | inr other ↦ rw (yes, other.0) (times-other e p qs h)
+  | inl one ↦ elim (cases_Bool (ghosts.eq p q)) [
+    | inl same ↦ absurd (h (subst (λ (r : Place). is_cell (kind_in e.code.structs (block_in e r.block) r.field) ≡ true) (sym ((equal-place p q).0 same)) one))
+    | inr other ↦ rw (one, other) (times-other e p qs h)
   ]
-  | inr no ↦ rw no (times-other e p qs h)
+  | inr not_one ↦ rw not_one (times-other e p qs h)
 ]
 
--- the place that comes next, and those after it
-next-is : (ps : List Place) (i : ℕ) (p : Place) → p ≡ get_or ps i p → i < length ps → drop i ps ≡ p ∷ drop (i + 1) ps
-next-is ps i p is h = at_drop_more (λ (l : List Place). l) ps i p h ∙ ap (λ (q : Place). q ∷ drop (i + 1) ps) (sym is)
-
--- it is told, where it is a modifiable
-pub modifiable-told : (e : EngineState) (ps : List Place) (i : ℕ) (p : Place) (before more all : List Place) → p ≡ get_or ps i p → i < length ps
-    → is_cell (kind_in e.code.structs (block_in e p.block) p.field) ≡ true → before ++ modifiables e (drop i ps) ≡ all → more ≡ before ++ p ∷ [] → more ++ modifiables e (drop (i + 1) ps) ≡ all
-modifiable-told e ps i p before more all is h yes so added =
-    let first : modifiables e (p ∷ drop (i + 1) ps) ≡ p ∷ modifiables e (drop (i + 1) ps) = rw yes refl in
+-- the place that comes next is told, where it is a modifiable
+pub modifiable-told : (e : EngineState) (ps : List Place) (i : ℕ) (d : Place) (before more all : List Place) → i < length ps
+    → is_cell (kind_in e.code.structs (block_in e (get_or ps i d).block) (get_or ps i d).field) ≡ true → before ++ modifiables e (drop i ps) ≡ all
+    → more ≡ before ++ get_or ps i d ∷ [] → more ++ modifiables e (drop (i + 1) ps) ≡ all
+modifiable-told e ps i d before more all h one so added =
+    let first : modifiables e (get_or ps i d ∷ drop (i + 1) ps) ≡ get_or ps i d ∷ modifiables e (drop (i + 1) ps) = rw one refl in
     ap (λ (l : List Place). l ++ modifiables e (drop (i + 1) ps)) added
-    ∙ (append_assoc before (p ∷ []) (modifiables e (drop (i + 1) ps))
-    ∙ (ap (λ (l : List Place). before ++ l) (sym (ap (modifiables e) (next-is ps i p is h) ∙ first)) ∙ so))
+    ∙ (append_assoc before (get_or ps i d ∷ []) (modifiables e (drop (i + 1) ps))
+    ∙ (ap (λ (l : List Place). before ++ l) (sym (at_drop_more (modifiables e) ps i d h ∙ first)) ∙ so))
 
 -- and else it is not
-pub other-passed : (e : EngineState) (ps : List Place) (i : ℕ) (p : Place) (before all : List Place) → p ≡ get_or ps i p → i < length ps
-    → (is_cell (kind_in e.code.structs (block_in e p.block) p.field) ≡ true → ⊥) → before ++ modifiables e (drop i ps) ≡ all → before ++ modifiables e (drop (i + 1) ps) ≡ all
-other-passed e ps i p before all is h other so = elim (cases_Bool (is_cell (kind_in e.code.structs (block_in e p.block) p.field))) [
-  | inl yes ↦ absurd (other yes)
-  | inr no ↦
-      let first : modifiables e (p ∷ drop (i + 1) ps) ≡ modifiables e (drop (i + 1) ps) = rw no refl in
-      ap (λ (l : List Place). before ++ l) (sym (ap (modifiables e) (next-is ps i p is h) ∙ first)) ∙ so
+pub other-passed : (e : EngineState) (ps : List Place) (i : ℕ) (d : Place) (before all : List Place) → i < length ps
+    → (is_cell (kind_in e.code.structs (block_in e (get_or ps i d).block) (get_or ps i d).field) ≡ true → ⊥) → before ++ modifiables e (drop i ps) ≡ all
+    → before ++ modifiables e (drop (i + 1) ps) ≡ all
+other-passed e ps i d before all h other so = elim (cases_Bool (is_cell (kind_in e.code.structs (block_in e (get_or ps i d).block) (get_or ps i d).field))) [
+  | inl one ↦ absurd (other one)
+  | inr not_one ↦
+      let first : modifiables e (get_or ps i d ∷ drop (i + 1) ps) ≡ modifiables e (drop (i + 1) ps) = rw not_one refl in
+      ap (λ (l : List Place). before ++ l) (sym (at_drop_more (modifiables e) ps i d h ∙ first)) ∙ so
 ]
 
 -- all were passed

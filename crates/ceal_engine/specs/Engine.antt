@@ -66,8 +66,8 @@ stored_at m (Core n) = core m n
 -- what was spent on it so far. `memory`, `steps` and `live` say something only in Finished, and `work` in
 -- Finished and Partial. Of a run or a repair, `looked` is how many contents were looked at since the run began,
 -- `differed` how many of them were not what a read had recorded, `queued` the number of reads that are queued, and
--- `writes` that of the writes among the nodes. `marked` is what the places held at the end when they were marked, if they
--- were since the run began
+-- `writes` that of the writes among the nodes. `marked` is what the places held at the end when they were marked,
+-- if they were since the run began
 pub record EngineState : Type 0 where
   pub code : Code
   pub fuel : ℕ

@@ -1,5 +1,5 @@
 -- What the places of an engine held at the end when they were marked.
-use Rattle.std.specs.Prelude.{◌≡◌, ◌⊎◌, true, Option, None, IsSome, [], unwrap_or}
+use Rattle.std.specs.Prelude.{◌≡◌, ◌⊎◌, true, None, IsSome, [], unwrap_or}
 use Rattle.ceal_base.specs.Access.{word_in}
 use Rattle.ceal_base.specs.Fitting.{kind_in}
 use Rattle.ceal_base.specs.declared.word.Place.{Place}

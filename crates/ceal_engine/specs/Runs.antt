@@ -40,8 +40,8 @@ under_way code fuel inputs call run = state_of code fuel inputs call (its.Kept r
 abbrev pub trace_in : Running → Option Trace
 trace_in run = trace_of (forest_of run.tables.trace.nodes)
 
--- what a first run that has ended leaves: it can be kept, its items are the first trace, its looks are paid, and nothing
--- is marked
+-- what a first run that has ended leaves: it can be kept, its items are the first trace, its looks are paid, and
+-- nothing is marked
 pub record IsFirstOf (code : Code) (fuel : ℕ) (inputs : List Block) (call : Option Call) (run : Running) : Type 0 where
   pub kept : Keeps code fuel inputs (its.Kept run stage.Finished) call
   pub first : IsSomeAnd (trace_in run) (IsFirst (finished code fuel inputs call run))

@@ -55,7 +55,7 @@ fn has_changed<R: Abort>(rt: &R, engine: &Engine, wanted: &[Place]) -> Result<()
     Ok(())
 }
 
-/// The input and its square change, the input alone, and none of them.
+/// The input and its square change, then only the input, and then none of them.
 fn squares<R: Abort>(rt: &R, engine: &mut Engine) -> Result<(), Fail> {
     add(engine, Shape::ModInt, &[Word::Num(3)])?;
     add(engine, Shape::ModInt, &[Word::Num(0)])?;

@@ -1,6 +1,6 @@
 // Which places hold something else at the end than before.
 
-ghost use Rattle.std.specs.Prelude.{◌≡◌, ◌≢◌, ◌↔◌, ⊥, true, is_some, map, Some, IfOk, IsSome, OnOk, OnErr};
+ghost use Rattle.std.specs.Prelude.{◌≡◌, ◌≢◌, ◌↔◌, true, is_some, map, Some, IfOk, IsSome, OnOk, OnErr};
 ghost use Rattle.ceal_base.specs.Fitting.{kind_in};
 ghost use Rattle.ceal_base.specs.declared.word.Place.{Place as PlaceOf};
 ghost use Rattle.ceal_code.specs.Value.{is_cell};
@@ -15,8 +15,8 @@ use ceal_base::word::Place;
 
 impl Engine {
     /// From now on `changed` compares what the places hold at the end of a run with what they hold now. The first time
-    /// since the call was run from nothing it takes the time of all places that were touched, and then the time of those
-    /// that were changed since.
+    /// since the call was run from nothing it takes the time of all places that were touched, and then the time of
+    /// those that were changed since.
     pub fn mark(&mut self) -> Result<(), NoMemory>
         requires { self.old.phase ≡ Finished }
         ensures same { self.new ≡ record self.old { marked = self.new.marked } }

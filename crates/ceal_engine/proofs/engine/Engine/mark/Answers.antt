@@ -1,12 +1,11 @@
-use Rattle.std.proofs.Common.{◌≡◌, ◌∙◌, List, Option, ap, refl, sym}
+use Rattle.std.proofs.Common.{◌≡◌, ◌∙◌, List, Option, ap, refl}
 use Rattle.ceal_base.specs.declared.word.Place.{Place}
 use Rattle.ceal_base.specs.declared.word.Word.{Word}
 use Rattle.ceal_engine.proofs.Keeping.{run-kept, sound-left, state-marked}
 use Rattle.ceal_engine.proofs.MarkedEnds.{map-ok, map-err, marked-held, there-marked}
 use Rattle.ceal_engine.specs.Engine.{EngineState}
-use Rattle.ceal_engine.specs.Keeping.{marked_kept, phase_of, running_in, state_of}
+use Rattle.ceal_engine.specs.Keeping.{marked_kept, running_in, state_of}
 use Rattle.ceal_engine.specs.Marks.{IsModifiable, held_at_end}
-use Rattle.ceal_engine.specs.declared.phase.Phase.TheVariants.{Finished}
 use Rattle.ceal_engine.proofs.engine.Engine.mark.Goals as goal
 
 pub mark-requires : goal.mark-requires
