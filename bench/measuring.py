@@ -42,6 +42,12 @@ class Starter:
 STARTING = Starter()
 
 
+def begin():
+    """A process that was forked starts programs by a starter that no other process speaks to."""
+    global STARTING
+    STARTING = Starter()
+
+
 class Program:
     def __init__(self, path):
         self.path = os.path.abspath(path)
