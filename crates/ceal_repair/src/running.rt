@@ -22,11 +22,11 @@ use crate::bases::{renew_bases, set_inputs};
 use crate::tables::Tables;
 use crate::words::RunWords;
 use ceal_base::forest::Key;
-use ceal_base::memory::{BlockWords, Inputs};
+use ceal_base::memory::Inputs;
 use ceal_base::no_memory::NoMemory;
 use ceal_base::word::{BlockId, Word};
 use ceal_code::code::Code;
-use ceal_code::initialise::{made_shape, make_block};
+use ceal_code::initialise::{made_shape, put_words};
 use ceal_heap::heap::Heap;
 use ceal_memo::seed::Seed;
 use std::alloc::Global;
@@ -49,11 +49,10 @@ pub enum Outcome {
 
 /// The words of a block, where the heap takes that many: at most 255. Valid code makes no larger block; one that was
 /// larger would be answered as out of memory.
-fn few_words(block: &BlockWords) -> Result<&[Word], NoMemory>
-    ensures words { IfOk result (λ words. words.now ≡ block.now.words) }
-    ensures few { IfOk result (λ words. length words.now < 256) }
+fn few_words(words: &[Word]) -> Result<&[Word], NoMemory>
+    ensures words { IfOk result (λ few. few.now ≡ words.now) }
+    ensures few { IfOk result (λ few. length few.now < 256) }
 {
-    let words = block.items();
     if words.len() < 256 {
         Ok(words)
     } else {
@@ -111,10 +110,10 @@ impl Running {
     }
 
     /// Makes the block of a key, with what its modifiables hold before any write. Reads of its places may be queued,
-    /// no others.
+    /// no others. Its words are put in place of those that are given.
     pub fn make(
         &mut self,
-        alloc: Global,
+        words: &mut Vec<Word>,
         code: &Code,
         inputs: &Inputs,
         key: &Key,
@@ -144,30 +143,30 @@ impl Running {
             × (is_in s (cell_of self.old.tables.mods p).reads ≡ true)) }
         ensures kept { Kept self.new.tables }
     {
-        let block = self.words_for(alloc, code, inputs, key)?;
+        self.put_words_of(words, code, inputs, key)?;
         let shape = made_shape(code, key);
-        let made = self.heap.make(shape, few_words(&block)?)?;
+        let made = self.heap.make(shape, few_words(words.as_slice())?)?;
         let structs = code.structs.items();
         renew_bases(&mut self.tables, structs, made.block, made.before, shape)?;
         Ok(made.block)
     }
 
-    /// The words of a new block for a key.
-    fn words_for(
+    /// Puts the words of a new block for a key in place of those that there are.
+    fn put_words_of(
         &self,
-        alloc: Global,
+        words: &mut Vec<Word>,
         code: &Code,
         inputs: &Inputs,
         key: &Key,
-    ) -> Result<BlockWords, NoMemory>
-        ensures { IfOk result (λ block.
-            block ≡ made code.now (words_of code.now inputs.now self.now.heap) key.now) }
+    ) -> Result<(), NoMemory>
+        ensures { OnOk result (words.new.items
+            ≡ (made code.now (words_of code.now inputs.now self.now.heap) key.now).words) }
     {
-        let words = RunWords {
+        let known = RunWords {
             code,
             inputs,
             heap: &self.heap,
         };
-        make_block(alloc, code, &words, key)
+        put_words(words, code, &known, key)
     }
 }

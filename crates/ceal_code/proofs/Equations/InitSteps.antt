@@ -2,7 +2,6 @@
 use Rattle.std.proofs.Common.{◌≡◌, ℕ, ◌+◌, ◌<◌, List, [], ◌∷◌, ◌++◌, length, take, get_or, refl, if◌then◌else◌}
 use Rattle.std.proofs.lemmas.List.{take_more}
 use Rattle.ceal_base.specs.Access.{holds}
-use Rattle.ceal_base.specs.Block.{Block}
 use Rattle.ceal_base.specs.declared.kind.Shape.TheVariants.{Struct}
 use Rattle.ceal_base.specs.declared.typed.StructInfo.{StructInfo}
 use Rattle.ceal_base.specs.declared.word.Word.{Word}
@@ -48,11 +47,10 @@ module _ (structs : List StructInfo) (x : Plain) (env : Variables) (s : ℕ) whe
       → set_by_all structs x env s words (take (i + 1) ts) ≡ set_by structs x env s (set_by_all structs x env s words (take i ts)) (get_or ts i d)
   set-take ts i d words h = rw (take_more ts i d h) (set-push (take i ts) words (get_or ts i d))
 
-  -- the block after one statement more
-  pub block-take : (ts : List InitStmt) (i : ℕ) (t : InitStmt) (first now next : Block) → i < length ts → t ≡ get_or ts i t
-      → now ≡ record first { words = set_by_all structs x env s first.words (take i ts) }
-      → next ≡ record now { words = set_by structs x env s now.words t }
-      → next ≡ record first { words = set_by_all structs x env s first.words (take (i + 1) ts) }
-  block-take ts i t first now next h same inv e = rw (set-take ts i t first.words h, ← same) (rw inv at e)
+  -- the words after one statement more
+  pub words-take : (ts : List InitStmt) (i : ℕ) (t : InitStmt) (first now next : List Word) → i < length ts → t ≡ get_or ts i t
+      → now ≡ set_by_all structs x env s first (take i ts) → next ≡ set_by structs x env s now t
+      → next ≡ set_by_all structs x env s first (take (i + 1) ts)
+  words-take ts i t first now next h same inv e = rw (set-take ts i t first h, ← same) (rw inv at e)
 
 pub ruleset init_steps = (set-if, set-field, set-none, set-push)

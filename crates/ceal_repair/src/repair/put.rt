@@ -80,7 +80,9 @@ impl<'a> Repair<'a> {
             ((start : Start) → ActsMaking start key var self.old → Runs start self.new) }
     {
         self.step()?;
-        let block = self.running.make(self.alloc, self.code, self.inputs, &key)?;
+        let block = self
+            .running
+            .make(self.args, self.code, self.inputs, &key)?;
         let pointer = pointer_to(&key, block);
         self.cursor = self
             .running

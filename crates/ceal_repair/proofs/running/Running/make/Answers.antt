@@ -13,7 +13,7 @@ pub returns-clause-words : goal.returns-clause-words
 returns-clause-words c =
     made-words c.args.code.now
     (words_of c.args.code.now c.args.inputs.now c.args.self.now.heap) c.make.new.self c.in_ok-made.made.block c.made_shape-shape.result c.args.key.now c.in_ok-few_words.field-0.now
-    c.in_ok-made.ensures.made c.made_shape-shape.ensures.value (c.in_ok-few_words.ensures.words ∙ ap (λ (b : Block). b.words) c.in_ok-block.ensures)
+    c.in_ok-made.ensures.made c.made_shape-shape.ensures.value (c.in_ok-few_words.ensures.words ∙ c.as_slice.ensures ∙ c.in_ok-put_words_of.ensures)
 
 pub returns-clause-bases : goal.returns-clause-bases
 returns-clause-bases c =
