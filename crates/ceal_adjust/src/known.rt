@@ -28,7 +28,8 @@ impl Model for KnownBlock {
 
     ghost Value = { Numbered };
 
-    ghost view = { λ k. record { number = k.number; block = record { shape = k.shape; words = k.words.items } } };
+    ghost view = { λ k.
+        record { number = k.number; block = record { shape = k.shape; words = k.words.items } } };
 }
 
 impl KnownBlock {

@@ -83,7 +83,12 @@ impl<'a> Model for Members<'a> {
 
     ghost Value = { Start };
 
-    ghost coded = { Prim.hlevel (codes, statement.the_row.coded, expr.the_row.coded, initialising.the_row.coded) };
+    ghost coded = { Prim.hlevel (
+      codes,
+      statement.the_row.coded,
+      expr.the_row.coded,
+      initialising.the_row.coded,
+    ) };
 
     ghost view = { λ o. record { program = o.program; fuel = o.fuel } };
 

@@ -33,8 +33,7 @@ pub fn trace_law()
 {}
 
 /// Each command of a unit of valid code lies on a path from the unit's first command, and is right for the variables
-/// that
-/// have a word on that path (our own).
+/// that have a word on that path (our own).
 pub fn path_law()
     ensures law { PathLaw }
 {}
@@ -46,16 +45,14 @@ pub fn progress_law()
 {}
 
 /// An honest walk over the items of a trace ends at the store that the items lead to, and the input blocks after a
-/// trace
-/// that replays a call are those of the memory after it (our own).
+/// trace that replays a call are those of the memory after it (our own).
 pub fn after_law()
     ensures store { StoreLaw }
     ensures inputs { Inputs_after_law }
 {}
 
 /// A run from scratch is after each number of steps at a state that it came to, and it ends at one from which no step
-/// goes
-/// on.
+/// goes on.
 pub fn ended_law()
     ensures law { EndedLaw }
     ensures states { StateLaw }

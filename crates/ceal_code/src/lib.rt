@@ -1,6 +1,5 @@
 //! Trace code: commands in units, which a change-propagating runtime runs and re-executes, as it does the closures of
-//! CEAL's
-//! compiled code (Hammer, Acar and Chen, PLDI 2009).
+//! CEAL's compiled code (Hammer, Acar and Chen, PLDI 2009).
 //!
 //! `specs/` says what code means: the value of an expression, one step of a run, the run from scratch, the trace
 //! that a run leaves, when a trace replays a call and is honest, and when code is valid. `validate` says exactly

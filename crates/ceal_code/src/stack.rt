@@ -32,9 +32,8 @@ pub struct Closure {
     pub args: Words,
 }
 
-/// The continuation of a read: the unit that goes on with the content of the place, the variable of the unit that takes
-/// it,
-/// and the words for the unit's other parameters, where they stand.
+/// The continuation of a read: the unit that goes on with the content of the place, the variable of the unit that
+/// takes it, and the words for the unit's other parameters, where they stand.
 #[derive(Clone, Copy)]
 pub struct Continuation<'a> {
     pub unit: UnitId,
@@ -51,8 +50,7 @@ pub struct Activation {
 }
 
 /// Units still to do. One of them runs, or none; the others wait, over those that are set aside. What has room for the
-/// words of a
-/// unit keeps it.
+/// words of a unit keeps it.
 #[derive(Drop)]
 pub struct Stack {
     pub(crate) runs: bool,

@@ -281,8 +281,7 @@ fn perform<'c, P: PlainWords>(
 
 impl Stack {
     /// The next step of the stack, which is that after it; a block that is made and a read are to be taken from it.
-    /// After
-    /// running out of memory it is of no further use.
+    /// After running out of memory it is of no further use.
     #[tactic(auto, unfolding(crate::specs::Step::next))]
     pub fn step<'c, P: PlainWords>(
         &mut self,

@@ -25,7 +25,8 @@ impl Model for Unit {
 
     ghost coded = { Prim.hlevel (codes, expr.the_row.coded) };
 
-    ghost view = { λ u. record { function = u.function; params = u.params.items; body = u.body.items } };
+    ghost view = { λ u.
+        record { function = u.function; params = u.params.items; body = u.body.items } };
 }
 
 impl Unit {

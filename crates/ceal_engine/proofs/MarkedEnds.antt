@@ -1,7 +1,6 @@
 -- What the places held when they were marked, and which of them are told as changed.
 use Rattle.std.proofs.Common.{◌≡◌, ◌+◌, ◌<◌, ◌≤◌, ℕ, suc, true, false, cond, inl, inr, Option, Some, None, List, [], ◌∷◌, ◌++◌, length, get_or, drop, slice_get, unwrap_or, refl, sym, ap, subst, ◌∙◌}
-use Rattle.std.proofs.Common.{append_assoc, append-nil, arith, rules}
-use Rattle.std.specs.Bool.{Decides}
+use Rattle.std.proofs.Common.{append_assoc, append-nil, arith}
 use Rattle.std.specs.Option.{option_map}
 use Rattle.std.specs.Prelude.{IfSome, IsSome, is_some, OnOk, OnErr, Result, Ok, Err}
 use Rattle.std.proofs.lemmas.Bool.{cases_Bool, false≢true}
@@ -31,6 +30,7 @@ use Rattle.ceal_engine.specs.declared.phase.Phase.TheVariants.{Finished as IsFin
 use Rattle.ceal_engine.specs.declared.run.Run.{Run}
 use Rattle.ceal_engine.specs.declared.run.Run.TheVariants as its
 use Rattle.ceal_heap.specs.Heap.{plain_of as heap_words}
+use Rattle.ceal_mods.proofs.IndexLemmas.{place-decides}
 use Rattle.ceal_mods.specs.Cell.{latest_value}
 use Rattle.ceal_mods.specs.Marks.{times}
 use Rattle.ceal_mods.specs.Mods.{cell_of, held_at_mark as held_by_mods}
@@ -118,15 +118,12 @@ abbrev pub modifiables : EngineState → List Place → List Place
 modifiables e [] = []
 modifiables e (p ∷ ps) = cond (is_cell (kind_in e.code.structs (block_in e p.block) p.field)) (p ∷ modifiables e ps) (modifiables e ps)
 
-equal-place : (p q : Place) → Decides (ghosts.eq p q) (p ≡ q)
-equal-place p q = search rules
-
 pub times-modifiable : (e : EngineState) (p : Place) (ps : List Place) → is_cell (kind_in e.code.structs (block_in e p.block) p.field) ≡ true → times p (modifiables e ps) ≡ times p ps
 times-modifiable e p [] h = refl
 times-modifiable e p (q ∷ qs) h = elim (cases_Bool (ghosts.eq p q)) [
   | inl same ↦
       let there : is_cell (kind_in e.code.structs (block_in e q.block) q.field) ≡ true =
-      subst (λ (r : Place). is_cell (kind_in e.code.structs (block_in e r.block) r.field) ≡ true) ((equal-place p q).0 same) h in
+      subst (λ (r : Place). is_cell (kind_in e.code.structs (block_in e r.block) r.field) ≡ true) ((place-decides p q).0 same) h in
       rw (there, same) (ap suc (times-modifiable e p qs h))
   | inr other ↦ elim (cases_Bool (is_cell (kind_in e.code.structs (block_in e q.block) q.field))) [
     | inl one ↦ rw (one, other) (times-modifiable e p qs h)
@@ -138,7 +135,7 @@ pub times-other : (e : EngineState) (p : Place) (ps : List Place) → (is_cell (
 times-other e p [] h = refl
 times-other e p (q ∷ qs) h = elim (cases_Bool (is_cell (kind_in e.code.structs (block_in e q.block) q.field))) [
   | inl one ↦ elim (cases_Bool (ghosts.eq p q)) [
-    | inl same ↦ absurd (h (subst (λ (r : Place). is_cell (kind_in e.code.structs (block_in e r.block) r.field) ≡ true) (sym ((equal-place p q).0 same)) one))
+    | inl same ↦ absurd (h (subst (λ (r : Place). is_cell (kind_in e.code.structs (block_in e r.block) r.field) ≡ true) (sym ((place-decides p q).0 same)) one))
     | inr other ↦ rw (one, other) (times-other e p qs h)
   ]
   | inr not_one ↦ rw not_one (times-other e p qs h)

@@ -27,7 +27,8 @@ impl Model for Graph {
 
     ghost coded = { Prim.hlevel (codes, expr.the_row.coded, stmt.the_row.coded) };
 
-    ghost view = { λ g. record { structs = g.structs; functions = g.functions.items; blocks = g.blocks.items } };
+    ghost view = { λ g.
+        record { structs = g.structs; functions = g.functions.items; blocks = g.blocks.items } };
 }
 
 impl Graph {

@@ -12,9 +12,8 @@ use ceal_order::rising::Rising;
 const FEWEST_BUCKETS: usize = 64;
 
 /// The stamps under a hash. A group with stamps is in the chain of the bucket that its hash falls into: there those
-/// with
-/// higher numbers are before it, and `next` is the link to the one after it. The link 0 leads nowhere, and n + 1 to the
-/// group n.
+/// with higher numbers are before it, and `next` is the link to the one after it. The link 0 leads nowhere, and n + 1
+/// to the group n.
 #[derive(Drop)]
 pub struct Group {
     pub hash: u32,

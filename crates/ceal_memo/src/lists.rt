@@ -24,8 +24,7 @@ const MOST_LISTS: usize = 4294967295;
 const NO_GROUP: u32 = u32::MAX;
 
 /// A list of stamps for each hash. A list has a number, which stays its own as long as it has stamps; the number of a
-/// list
-/// that has become empty goes to the next new hash.
+/// list that has become empty goes to the next new hash.
 #[derive(Drop)]
 pub struct Lists {
     heads: Vec<u32>,

@@ -19,8 +19,7 @@ use std::alloc::Global;
 use std::marker::Model;
 
 /// Entries of recorded reads and of allocations by their keys: a stamp has one at most. The keys themselves are only
-/// with
-/// who tells them (`Keys`). Each call that is handed an order needs that the memo follows it, and leaves it so.
+/// with who tells them (`Keys`). Each call that is handed an order needs that the memo follows it, and leaves it so.
 #[derive(Drop)]
 pub struct Memo {
     table: Table,

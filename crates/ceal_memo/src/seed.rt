@@ -16,8 +16,7 @@ pub struct Seed {
 
 impl Seed {
     /// The words that SipHash makes of two numbers, which it has for its secret. They should come from all that those
-    /// may
-    /// choose whose keys are hashed, in such a way that none of them can choose them.
+    /// may choose whose keys are hashed, in such a way that none of them can choose them.
     pub fn of(first: u64, second: u64) -> Seed {
         let mut start = DefaultHasher::new();
         start.write_u64(first);

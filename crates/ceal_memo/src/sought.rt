@@ -24,8 +24,7 @@ pub trait Sought {
 }
 
 /// The earliest stamp of a list with a key after one and before another. Those with another key are passed: of these
-/// there are
-/// some only where two keys have one hash.
+/// there are some only where two keys have one hash.
 pub fn first_with_key<S: Sought>(
     list: &Rising,
     order: &Order,

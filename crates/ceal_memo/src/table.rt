@@ -18,8 +18,7 @@ use std::alloc::Global;
 use std::marker::Model;
 
 /// Entries by the hashes of their keys. Contracts see, for each hash, the list of the stamps of the entries under it.
-/// Each
-/// call that is handed an order needs that the table follows it, and leaves it so.
+/// Each call that is handed an order needs that the table follows it, and leaves it so.
 #[derive(Drop)]
 pub struct Table {
     lists: Lists,

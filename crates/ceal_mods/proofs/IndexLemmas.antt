@@ -11,13 +11,13 @@ use Rattle.ceal_mods.specs.declared.index.Index.{Index}
 use Rattle.ceal_mods.specs.Index.{where_from, cell_in, with_cell, slot_of, Indexes}
 use Rattle.ceal_mods.specs.Slots.{no_slot}
 
-place-Decides : (p q : Place) → Decides (ghosts.eq p q) (p ≡ q)
-place-Decides p q = search rules
+pub place-decides : (p q : Place) → Decides (ghosts.eq p q) (p ≡ q)
+place-decides p q = search rules
 
 pub same_place : (p q : Place) → ((ghosts.eq p q ≡ true) × (p ≡ q)) ⊎ ((ghosts.eq p q ≡ false) × (p ≢ q))
 same_place p q = elim (cases_Bool (ghosts.eq p q)) [
-  | inl equal ↦ inl (equal, (place-Decides p q).0 equal)
-  | inr differ ↦ inr (differ, λ same. false≢true (sym differ ∙ (place-Decides p q).1 same))
+  | inl equal ↦ inl (equal, (place-decides p q).0 equal)
+  | inr differ ↦ inr (differ, λ same. false≢true (sym differ ∙ (place-decides p q).1 same))
 ]
 
 -- the first cell of a place is at a slot
@@ -51,7 +51,7 @@ slot_none i p (e ∷ es) few none = elim (cases_Bool (ghosts.eq p e.0)) [
 
 pub where_pushed : (i : ℕ) (p : Place) (c : Cell) (es : List (Place × Cell)) → i + length es ≤ no_slot → where_from i p es ≡ no_slot
     → where_from i p (es ++ (p, c) ∷ []) ≡ i + length es
-where_pushed i p c [] few none = rw ((place-Decides p p).1 refl) (omega arith)
+where_pushed i p c [] few none = rw ((place-decides p p).1 refl) (omega arith)
 where_pushed i p c (e ∷ es) few none = elim (cases_Bool (ghosts.eq p e.0)) [
   | inl here ↦ absurd (let no : i ≡ no_slot = rw here at none in omega (arith, no, few))
   | inr not_here ↦
@@ -66,7 +66,7 @@ where_other i p q c (e ∷ es) other = ap (λ (n : ℕ). cond (ghosts.eq q e.0) 
 pub lookup_pushed : (p q : Place) (c : Cell) (es : List (Place × Cell)) → lookup (ghosts.eq p) es ≡ None
     → lookup (ghosts.eq q) (es ++ (p, c) ∷ []) ≡ cond (ghosts.eq p q) (Some c) (lookup (ghosts.eq q) es)
 lookup_pushed p q c [] none = elim (same_place p q) [
-  | inl same ↦ rw (same.0, (place-Decides q p).1 (sym same.1)) refl
+  | inl same ↦ rw (same.0, (place-decides q p).1 (sym same.1)) refl
   | inr differ ↦ elim (same_place q p) [ inl same ↦ absurd (differ.1 (sym same.1)) | inr other ↦ rw (differ.0, other.0) refl ]
 ]
 lookup_pushed p q c (e ∷ es) none = elim (cases_Bool (ghosts.eq p e.0)) [
@@ -100,7 +100,7 @@ lookup_with p q [] k c stands = absurd stands
 lookup_with p q (e ∷ es) zero c stands = elim (same_place p q) [
   | inl same ↦ (let here : ghosts.eq q e.0 ≡ true = subst (λ (r : Place). ghosts.eq r e.0 ≡ true) same.1 stands in rw (same.0, here) refl)
   | inr differ ↦ elim (same_place q e.0) [
-    | inl same ↦ absurd (differ.1 ((place-Decides p e.0).0 stands ∙ sym same.1))
+    | inl same ↦ absurd (differ.1 ((place-decides p e.0).0 stands ∙ sym same.1))
     | inr other ↦ rw (differ.0, other.0) refl
   ]
 ]

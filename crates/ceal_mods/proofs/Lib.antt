@@ -1,9 +1,9 @@
 -- what crates above cite
+pub mod IndexLemmas
 pub mod StampLemmas
 -- the rest
 pub mod ModsLemmas
 pub mod WritesLemmas
-pub mod IndexLemmas
 pub mod Samples
 pub mod MarksLemmas
 pub mod ChangedPlaces

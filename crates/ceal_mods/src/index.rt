@@ -18,10 +18,8 @@ const NEAR_FIELDS: u32 = 256;
 const NEAR_BLOCKS: u32 = 4096;
 
 /// A slot for each place. Blocks are numbered from 0, and fields too, so a place is found by its two numbers, as long
-/// as
-/// these are not much above the number of slots; a place of a larger number is found by hashing. A sheet has a row for
-/// each
-/// field: few fields are modifiables, and the numbers of blocks are dense.
+/// as these are not much above the number of slots; a place of a larger number is found by hashing. A sheet has a row
+/// for each field: few fields are modifiables, and the numbers of blocks are dense.
 #[derive(Drop)]
 pub struct Index {
     inputs: Sheet,

@@ -50,8 +50,7 @@ pub fn stamps_after()
 }
 
 /// Laws: there is a value at each stamp of a write and at no other one, and writes whose stamps rise along one order
-/// are
-/// equal where they have the same value at each stamp.
+/// are equal where they have the same value at each stamp.
 pub fn writes_go_by_values()
     ensures there { (s : ℕ) (writes : List Write)
         → is_some (written_at s writes) ≡ is_in s (stamps_of writes) }

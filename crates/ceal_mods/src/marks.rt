@@ -13,9 +13,8 @@ use std::alloc::Global;
 use std::marker::Model;
 
 /// What the places held at the end when they were marked, by the slots of their cells. A slot is listed, once, as soon
-/// as
-/// its cell may hold something else; there is room to list them all. Cells that came since are not listed: their places
-/// held 0.
+/// as its cell may hold something else; there is room to list them all. Cells that came since are not listed: their
+/// places held 0.
 #[derive(Drop)]
 pub struct Marks {
     ends: Vec<(Place, Word)>,
@@ -31,7 +30,8 @@ impl Model for Marks {
 
     ghost view = { λ m. record { ends = m.ends.items; slots = m.slots.items } };
 
-    ghost invariant = { λ m. IsListed m.ends.items m.listed.items m.slots.items (vec_capacity m.slots) };
+    ghost invariant = { λ m.
+        IsListed m.ends.items m.listed.items m.slots.items (vec_capacity m.slots) };
 }
 
 impl Marks {

@@ -32,9 +32,8 @@ use std::marker::Model;
 
 /// The modifiables, each with its base, its writes and its reads; a place that was never touched has the base 0. Each
 /// call that is handed an order needs that they follow it, and leaves them so. A place is found by its numbers and a
-/// stamp
-/// by halves; a write or a read after all others of its place goes in without a search. Removals and look-ups take no
-/// memory.
+/// stamp by halves; a write or a read after all others of its place goes in without a search. Removals and look-ups
+/// take no memory.
 #[derive(Drop)]
 pub struct Mods {
     cells: Vec<(Place, Cell)>,
@@ -102,8 +101,7 @@ impl Mods {
     }
 
     /// Sets what a place that was never touched holds before any write, and answers true. A place that was touched is
-    /// left as it
-    /// is, and the answer is false.
+    /// left as it is, and the answer is false.
     pub fn begin(&mut self, place: Place, value: Word) -> Result<bool, NoMemory>
         ensures untouched { IfOk result
             (λ begun. IsTrue begun → cell_of self.old place ≡ untouched) }
@@ -372,8 +370,7 @@ fn enter(
 }
 
 // Gives a place that has no cell one with this base. Most cells begin so; it is made when it has its slot, so that it
-// is
-// moved once.
+// is moved once.
 fn enter_base(
     cells: &mut Vec<(Place, Cell)>,
     index: &mut Index,

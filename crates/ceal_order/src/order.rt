@@ -33,7 +33,8 @@ impl Model for Order {
     ghost view = { λ a. record { stamps = stamps_of a.links.items; spare = a.spare } };
 
     ghost invariant = { λ a.
-        Sound a.links.items a.free a.spare (stamps_of a.links.items) (spares_of a.links.items a.free) };
+        Sound a.links.items a.free a.spare (stamps_of a.links.items)
+        (spares_of a.links.items a.free) };
 }
 
 impl Order {

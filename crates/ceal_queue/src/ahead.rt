@@ -27,7 +27,8 @@ impl Model for Ahead {
 
     ghost Value = { Roomy };
 
-    ghost view = { λ a. record { items = headed a.first a.rest.items; capacity = a.rest.capacity } };
+    ghost view = { λ a.
+        record { items = headed a.first a.rest.items; capacity = a.rest.capacity } };
 }
 
 impl Ahead {

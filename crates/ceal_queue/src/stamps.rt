@@ -31,7 +31,8 @@ impl Model for Stamps {
 
     ghost Value = { Roomy };
 
-    ghost view = { λ a. record { items = a.sequence ++ a.plain.items; capacity = vec_capacity a.plain } };
+    ghost view = { λ a.
+        record { items = a.sequence ++ a.plain.items; capacity = vec_capacity a.plain } };
 
     ghost invariant = { λ a. InOne a.sequence a.plain.items };
 }

@@ -1,6 +1,6 @@
 -- The nodes of a run that reads a and writes one more to b, in the tables, and what has to be queued after an edit of
 -- a.
-use Rattle.std.proofs.Common.{None, Some, ◌≡◌, ℕ, pos, true, false, List, [], ◌∷◌, refl, inr, inl}
+use Rattle.std.proofs.Common.{None, Some, ◌≡◌, ℕ, pos, false, List, [], ◌∷◌, refl, inr, inl}
 use Rattle.ceal_base.specs.declared.forest.Item.TheVariants as item
 use Rattle.ceal_base.specs.declared.kind.Shape.TheVariants.{ModInt}
 use Rattle.ceal_base.specs.declared.word.BlockId.TheVariants.{Input}

@@ -1,7 +1,7 @@
 -- No byte of a save is a percent sign.
-use Rattle.std.proofs.Common.{◌≡◌, ℕ, zero, suc, ◌+◌, ◌/◌, ◌%◌, ◌<◌, ◌≤◌, ◌^◌, ◌==◌, ◌&&◌, Bool, true, false, not, pos, negsuc, List, [], ◌∷◌, ◌++◌, length, refl, sym, ap, ◌∙◌, subst, arith}
-use Rattle.std.specs.Prelude.{IsTrue, codes}
-use Rattle.std.specs.Fmt.{decimal, signed_decimal}
+use Rattle.std.proofs.Common.{◌≡◌, ℕ, suc, ◌+◌, ◌%◌, ◌<◌, ◌≤◌, ◌^◌, ◌==◌, ◌&&◌, Bool, true, false, not, pos, negsuc, List, [], ◌∷◌, ◌++◌, length, refl, ap, ◌∙◌, arith}
+use Rattle.std.specs.Prelude.{codes}
+use Rattle.std.specs.Fmt.{decimal}
 use Rattle.std.specs.List.{list_all, AllByRecursion}
 use Rattle.std.proofs.lemmas.Bool.Decides.{nat_tests}
 use Rattle.std.proofs.lemmas.Fmt.{decimal_by_steps}
@@ -22,10 +22,10 @@ use Rattle.ceal_dump.specs.DumpText.{block_text, place_text, word_text, words_te
 use Rattle.ceal_dump.specs.DumpText.{key_text, item_line, item_lines, inputs_text, call_text, trace_text, memory_text}
 use Rattle.ceal_dump.specs.DumpText.{dump_text, HasDump, Small, SmallBlock, SmallPlace, SmallWord, SmallWords}
 use Rattle.ceal_dump.specs.DumpText.{SmallShape, SmallBlocks, SmallKey, SmallItem, SmallItems, InRange}
-use Rattle.ceal_script.specs.Characters.{is_letter, is_name_byte}
-use Rattle.ceal_script.specs.Spelling.{is_identifier, IsName}
+use Rattle.ceal_script.specs.Characters.{is_name_byte}
+use Rattle.ceal_script.specs.Spelling.{IsName}
 use Rattle.ceal_snap.proofs.ReadBack.{name-bytes}
-use Rattle.ceal_snap.specs.SaveText.{Save, name_lines, head_text, save_text, IsSave}
+use Rattle.ceal_snap.specs.SaveText.{name_lines, head_text, save_text}
 use Rattle.ceal_snap.specs.Marks.{is_plain, are_plain, NoMarkLaw}
 
 -- a text without a percent sign

@@ -13,8 +13,7 @@ use ceal_order::stamp::Stamp;
 use slab::Slab;
 
 /// A node but for its key or its closure, the second part, which has a key in a slab of its own. All of it is in
-/// numbers
-/// of 32 bits, so that the slab's tag takes no more than that.
+/// numbers of 32 bits, so that the slab's tag takes no more than that.
 #[derive(Drop)]
 pub enum Held {
     Root,

@@ -15,8 +15,7 @@ use ceal_order::stamp::Stamp;
 use slab::Slab;
 
 /// A node that is put in, as its parts. Each kind has a type of its own, so that its parts go to where they stand, and
-/// no
-/// whole node is made on the way.
+/// no whole node is made on the way.
 pub trait NewNode {
     /// the node that these are the parts of
     ghost node: { Self → Node };

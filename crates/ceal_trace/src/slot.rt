@@ -11,8 +11,7 @@ use ceal_order::room::make_room;
 pub const NO_STAMP: u32 = u32::MAX;
 
 /// The key of a stamp's node, its steps, and the stamp of its end where it is a finished read. A number that is no
-/// stamp has
-/// no key.
+/// stamp has no key.
 #[derive(Clone, Copy)]
 pub struct Slot {
     pub key: usize,

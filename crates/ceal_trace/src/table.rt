@@ -17,9 +17,8 @@ use ceal_order::stamp::Stamp;
 use std::alloc::Global;
 use std::marker::Model;
 
-/// A slot for each stamp and each spare place of the order, by its number, and a few more; and the nodes. Contracts see
-/// a
-/// row for each slot, with the node in it.
+/// A slot for each stamp and each spare place of the order, by its number, and a few more; and the nodes. Contracts
+/// see a row for each slot, with the node in it.
 #[derive(Drop)]
 pub struct Table {
     slots: Vec<Slot>,

@@ -29,7 +29,12 @@ impl Model for Pool {
 
     ghost Value = { SizeClass };
 
-    ghost view = { λ p. record { size = p.size; pieces = pieces_from p.size 0 p.marks.lens p.chunk; spare = p.spare } };
+    ghost view = { λ p.
+        record {
+          size = p.size;
+          pieces = pieces_from p.size 0 p.marks.lens p.chunk;
+          spare = p.spare;
+        } };
 
     ghost invariant = { λ p. IsLaidOut p.size p.chunk p.marks.lens p.made p.head p.spare };
 }

@@ -1,6 +1,5 @@
 -- What is written as a dump is the tail of what is written as a save, and the checker says yes to it.
-use Rattle.std.proofs.Common.{◌≡◌, ◌⊎◌, inl, inr, ℕ, Option, Some, None, List, refl, sym, subst}
-use Rattle.ceal_base.specs.declared.call.Call.{Call}
+use Rattle.std.proofs.Common.{◌≡◌, ◌⊎◌, inl, inr, ℕ, List, refl, sym, subst}
 use Rattle.ceal_base.specs.declared.recorded.Record.{Record}
 use Rattle.ceal_compile.specs.declared.program.Program.{Program}
 use Rattle.ceal_dump.specs.DumpText.{dump_text}

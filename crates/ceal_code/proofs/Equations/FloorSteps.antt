@@ -1,7 +1,7 @@
 -- Units that wait above a floor, and those under it.
 use Rattle.std.proofs.Common.{◌≡◌, ℕ, zero, suc, ◌+◌, ◌-◌, ◌≤◌, List, [], ◌∷◌, ◌++◌, length, take, drop, append-nil, min, max, sym, ap, ap₂, ◌∙◌, arith, inl, inr}
 use Rattle.std.proofs.Math.Seq.{drop-nil}
-use Rattle.std.proofs.lemmas.List.{drop-append-le, length-drop, length-take, drop-take, drop_all, take_all, take-append-drop}
+use Rattle.std.proofs.lemmas.List.{drop-append-le, length-drop, length-take, drop-take, drop_all, take-append-drop}
 use Rattle.ceal_base.specs.declared.word.Word.{Word}
 use Rattle.ceal_code.proofs.Equations.StackSteps.{le-either}
 use Rattle.ceal_code.proofs.Equations.WaitSteps.{wait-over, wait-pop, wait-empty}

@@ -1,10 +1,8 @@
 -- After a read among kept nodes whose unit is over, the kept nodes continue, in code.
 use Rattle.std.proofs.Common.{◌≡◌, ℕ, Some, List, refl, sym, ap, ◌∙◌}
 use Rattle.ceal_base.specs.Block.{Block}
-use Rattle.ceal_base.specs.declared.word.BlockId.{BlockId}
 use Rattle.ceal_base.specs.declared.word.Place.{Place}
 use Rattle.ceal_code.specs.Program.{Code}
-use Rattle.ceal_heap.specs.Heap.{block_of}
 use Rattle.ceal_order.specs.declared.stamp.Stamp.{Stamp}
 use Rattle.ceal_repair.proofs.KeptNodes.StaleReadEnd.{next-kept, lies-kept, first-kept, now-go-on}
 use Rattle.ceal_repair.proofs.Reuse.ReadReuseInCode.{passes-as}

@@ -4,16 +4,14 @@ use Rattle.std.specs.Prelude.{⊤}
 use Rattle.ceal_base.specs.Block.{Block}
 use Rattle.ceal_base.specs.declared.forest.Item.{Item}
 use Rattle.ceal_base.specs.declared.forest.Item.TheVariants as item
-use Rattle.ceal_base.specs.declared.word.BlockId.{BlockId}
 use Rattle.ceal_base.specs.declared.word.Place.{Place}
 use Rattle.ceal_code.specs.Program.{Code}
 use Rattle.ceal_code.specs.Replay.{Store, KnownBlock}
 use Rattle.ceal_code.specs.Step.{Stack, Over, next}
 use Rattle.ceal_code.specs.Value.{Plain}
-use Rattle.ceal_heap.specs.Heap.{Contents, block_of}
+use Rattle.ceal_heap.specs.Heap.{Contents}
 use Rattle.ceal_order.proofs.Places.{place_tells}
 use Rattle.ceal_order.specs.Stamps as order
-use Rattle.ceal_order.specs.Stamps.{is_in}
 use Rattle.ceal_order.specs.declared.stamp.Stamp.{Stamp}
 use Rattle.ceal_repair.proofs.Revocation.FirstNode.{cursor-at, front-long}
 use Rattle.ceal_repair.proofs.Nodes.NodeItems.{behind-all, contents-append, contents-base, opened-put, began-put, closed-last, known-append}

@@ -1,15 +1,11 @@
 -- Change propagation begins from a kept run.
-use Rattle.std.proofs.Common.{◌≡◌, ◌≤◌, inl, ℕ, List, [], ◌∷◌, ◌++◌, reverse, refl, sym, ap, subst, ◌∙◌, arith}
+use Rattle.std.proofs.Common.{◌≡◌, inl, ℕ, List, [], ◌∷◌, reverse, refl, sym, ap, ◌∙◌, arith}
 use Rattle.std.proofs.lemmas.List.{reverse-reverse}
-use Rattle.std.specs.Prelude.{IsSome}
 use Rattle.ceal_base.specs.Block.{Block}
-use Rattle.ceal_base.specs.Trace.{Trace, Nothing, Stepped, Allocated, Wrote, WasRead, flat, blocks_of}
-use Rattle.ceal_base.specs.declared.forest.Item.TheVariants as item
-use Rattle.ceal_base.specs.declared.word.BlockId.{BlockId}
-use Rattle.ceal_base.specs.declared.word.BlockId.TheVariants.{Input, Core}
+use Rattle.ceal_base.specs.Trace.{Trace, blocks_of}
 use Rattle.ceal_base.specs.declared.word.Word.{Word}
 use Rattle.ceal_code.specs.Program.{Code}
-use Rattle.ceal_code.specs.Replay.{In, core_numbers}
+use Rattle.ceal_code.specs.Replay.{core_numbers}
 use Rattle.ceal_heap.specs.Heap.{Contents, next}
 use Rattle.ceal_repair.proofs.Propagation.NewBlockNumbers.{GoesOn, goes-on, begins-sound, is-origin}
 use Rattle.ceal_repair.proofs.Runs.FewNumbers.{trace-there, trace-only}
@@ -24,7 +20,6 @@ use Rattle.ceal_repair.specs.declared.frame.Frame.TheVariants.{Begun as CodeBegu
 use Rattle.ceal_repair.specs.declared.repair.Repair.{Repair}
 use Rattle.ceal_repair.specs.declared.running.Running.{Running}
 use Rattle.ceal_repair.specs.declared.tables.Tables.{Tables}
-use Rattle.ceal_theory.specs.KnownContent.{allocs}
 use Rattle.ceal_theory.specs.SliceLaws.{Turns}
 use Rattle.ceal_theory.specs.Slices.{beginning}
 

@@ -8,11 +8,10 @@ use Rattle.ceal_base.specs.Trace.{Trace}
 use Rattle.ceal_base.specs.declared.word.BlockId.TheVariants.{Core}
 use Rattle.ceal_base.specs.declared.word.Word.{Word}
 use Rattle.ceal_code.specs.Program.{Code}
-use Rattle.ceal_code.specs.Fitting.{Fits}
-use Rattle.ceal_code.specs.Replay.{In, here, there, IsHonest, Replays, count}
+use Rattle.ceal_code.specs.Replay.{In, here, there, IsHonest, count}
 use Rattle.ceal_heap.specs.Heap.{block_of, next, plain_block, Known}
 use Rattle.ceal_repair.proofs.Propagation.NewBlockNumbers.{GoesOn, goes-on, turns-room}
-use Rattle.ceal_repair.specs.Propagation.{HasCome, IsUpToDate, IsUnderWay, IsSpent, IsWithin, IsLess, Propagated, KeepsFront}
+use Rattle.ceal_repair.specs.Propagation.{HasCome, IsUnderWay, IsSpent, IsWithin, IsLess, Propagated, KeepsFront}
 use Rattle.ceal_repair.proofs.Runs.FewNumbers.{few-given, few-blocks}
 use Rattle.ceal_repair.proofs.Propagation.KeptRun.{same-running}
 use Rattle.ceal_repair.proofs.Propagation.UpToDateRun.{too-many, concluded-run, spent-out, repaired}
@@ -28,7 +27,7 @@ use Rattle.ceal_repair.specs.declared.running.Running.{Running}
 use Rattle.ceal_theory.specs.Carried.{numbered_from_zero}
 use Rattle.ceal_theory.proofs.SlicedRepair.SliceLaws.{other-names-law, slices-law, turns-law}
 use Rattle.ceal_theory.specs.SliceLaws.{Turned, Turns}
-use Rattle.ceal_theory.specs.Slices.{Repair, Slices, repair_at, goes_on, with_inputs}
+use Rattle.ceal_theory.specs.Slices.{Repair, Slices, repair_at, goes_on}
 
 in-count : (b : ℕ) (bs : List ℕ) → In b bs → 1 ≤ count b bs
 in-count b [] i = elim i [ ]

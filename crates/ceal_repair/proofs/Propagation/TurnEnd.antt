@@ -10,7 +10,7 @@ use Rattle.ceal_base.specs.declared.word.BlockId.TheVariants.{Core}
 use Rattle.ceal_base.specs.declared.word.Word.{Word}
 use Rattle.ceal_code.specs.Program.{Code}
 use Rattle.ceal_code.specs.Step.{Stack, Over, next}
-use Rattle.ceal_heap.specs.Heap.{Contents, block_of, plain_block, plain_of}
+use Rattle.ceal_heap.specs.Heap.{Contents, plain_block, plain_of}
 use Rattle.ceal_repair.proofs.Propagation.NewBlockNumbers.{GoesOn, goes-on, continues-front, turns-sound, turns-more}
 use Rattle.ceal_repair.proofs.Runs.RunEnd.{frames-none}
 use Rattle.ceal_repair.proofs.Runs.FewNumbers.{given-same}

@@ -1,7 +1,7 @@
 -- An allocation that is left over is taken.
 use Rattle.std.proofs.Common.{◌≡◌, ◌≢◌, ℕ, inl, inr, ◌+◌, ◌<◌, ◌≤◌, true, false, Option, Some, None, List, [], ◌∷◌, ◌++◌, length, refl, sym, ap, subst, ◌∙◌, arith, append_assoc, append-nil}
 use Rattle.std.proofs.Common.{length-append}
-use Rattle.std.specs.Prelude.{IsSome, option_map}
+use Rattle.std.specs.Prelude.{option_map}
 use Rattle.std.proofs.Math.Path.{fun_ext}
 use Rattle.std.proofs.lemmas.Bool.{eq-eqb}
 use Rattle.std.proofs.lemmas.Bool.Decides.{eqb_tells}
@@ -18,7 +18,7 @@ use Rattle.ceal_code.specs.Program.{Code}
 use Rattle.ceal_code.specs.Replay.{Store, In, here, KnownBlock, count, cleared, cell_default}
 use Rattle.ceal_code.specs.Step.{Stack, Run, Makes, next}
 use Rattle.ceal_code.specs.Value.{Plain, Variables, set, field_kind}
-use Rattle.ceal_heap.specs.Heap.{Contents, Live, block_of, plain_of, plain_block, standing, known, Standing, Unused, Revoked, Released}
+use Rattle.ceal_heap.specs.Heap.{Contents, Live, plain_of, plain_block, standing, known, Standing, Unused, Revoked, Released}
 use Rattle.ceal_order.specs.Stamps as order
 use Rattle.ceal_order.specs.Stamps.{is_in, head_of, place}
 use Rattle.ceal_order.specs.declared.stamp.Stamp.{Stamp}

@@ -4,7 +4,6 @@ use Rattle.std.proofs.lemmas.Bool.{cases_Bool}
 use Rattle.ceal_base.specs.Block.{Block}
 use Rattle.ceal_base.specs.declared.forest.Item.TheVariants as item
 use Rattle.ceal_base.specs.declared.forest.Key.{Key}
-use Rattle.ceal_base.specs.declared.word.BlockId.{BlockId}
 use Rattle.ceal_base.specs.declared.word.Place.{Place}
 use Rattle.ceal_code.specs.Program.{Code}
 use Rattle.ceal_code.specs.Step.{Stack}

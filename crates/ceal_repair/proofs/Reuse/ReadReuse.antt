@@ -1,6 +1,5 @@
 -- A read that is left over is taken.
 use Rattle.std.proofs.Common.{◌≡◌, ◌≢◌, ◌⊎◌, ℕ, zero, suc, inl, inr, ◌+◌, ◌<◌, true, false, Some, None, List, [], ◌∷◌, ◌++◌, length, refl, sym, ap, subst, ◌∙◌, append_assoc}
-use Rattle.std.specs.Prelude.{IsSome}
 use Rattle.std.proofs.lemmas.Bool.{cases_Bool, eq-eqb}
 use Rattle.std.proofs.lemmas.Bool.Decides.{eqb_tells}
 use Rattle.ceal_base.specs.Block.{Block}
@@ -18,7 +17,7 @@ use Rattle.ceal_code.specs.Program.{Code}
 use Rattle.ceal_code.specs.Replay.{Store, KnownBlock}
 use Rattle.ceal_code.specs.Step.{Stack, Reads, next}
 use Rattle.ceal_code.specs.Value.{Plain}
-use Rattle.ceal_heap.specs.Heap.{Contents, block_of}
+use Rattle.ceal_heap.specs.Heap.{Contents}
 use Rattle.ceal_order.specs.Stamps as order
 use Rattle.ceal_order.specs.Stamps.{is_in, head_of, place}
 use Rattle.ceal_order.specs.declared.stamp.Stamp.{Stamp}
@@ -31,7 +30,7 @@ use Rattle.ceal_repair.proofs.Reuse.ReadMatch.{MatchRead, match-read}
 use Rattle.ceal_repair.proofs.Reuse.AllocReuse.{bound-now, words-same, course-bare}
 use Rattle.ceal_repair.specs.Around.{Tails, Passes, Inside}
 use Rattle.ceal_repair.proofs.Runs.FewNumbers.{given-same}
-use Rattle.ceal_repair.specs.Blocks.{HasBlocks, Given, KeepsReadable}
+use Rattle.ceal_repair.specs.Blocks.{HasBlocks, KeepsReadable}
 use Rattle.ceal_repair.specs.Entries.{stamp_of_number, entry, end_entry, entries, CutTo, Lies}
 use Rattle.ceal_repair.specs.Moment.{View, Start, Placed, RunningNow, PassingNow, through, state_at}
 use Rattle.ceal_repair.specs.Frames.{Taken}

@@ -1,7 +1,6 @@
 -- A read that is taken, in code: what stood before it was revoked, and the units below wait.
 use Rattle.std.proofs.Common.{◌≡◌, ◌≢◌, ℕ, ◌+◌, Some, List, ◌∷◌, refl, sym, ap, ◌∙◌}
 use Rattle.ceal_base.specs.Block.{Block}
-use Rattle.ceal_base.specs.declared.word.BlockId.{BlockId}
 use Rattle.ceal_base.specs.declared.word.Place.{Place}
 use Rattle.ceal_base.specs.declared.word.Word.{Word}
 use Rattle.ceal_code.specs.Program.{Code}
@@ -9,7 +8,6 @@ use Rattle.ceal_code.specs.Stacks.{stack_in}
 use Rattle.ceal_code.specs.Step.{Stack, Reads, next}
 use Rattle.ceal_code.specs.declared.stack.Closure.{Closure}
 use Rattle.ceal_code.specs.declared.step.Act.TheVariants as does
-use Rattle.ceal_heap.specs.Heap.{block_of}
 use Rattle.ceal_order.specs.Stamps.{head_of}
 use Rattle.ceal_order.specs.declared.stamp.Stamp.{Stamp}
 use Rattle.ceal_repair.proofs.Nodes.NodeItems.{more}

@@ -1,10 +1,8 @@
 -- Nodes that are left over are revoked one after another, up to a node.
 use Rattle.std.proofs.Common.{◌≡◌, ◌≢◌, ◌≤◌, ℕ, inl, inr, true, Some, List, ◌∙◌, arith}
 use Rattle.ceal_base.specs.Block.{Block}
-use Rattle.ceal_base.specs.declared.word.BlockId.{BlockId}
 use Rattle.ceal_base.specs.declared.word.Place.{Place}
 use Rattle.ceal_code.specs.Program.{Code}
-use Rattle.ceal_heap.specs.Heap.{block_of}
 use Rattle.ceal_order.specs.Stamps.{is_in, successor}
 use Rattle.ceal_repair.proofs.Revocation.FirstNode.{LeftOf, until-still, is-first, cut-more, cut-there, cut-all, not-none, cursor-there}
 use Rattle.ceal_repair.specs.Blocks.{HasBlocks, KeepsReadable}

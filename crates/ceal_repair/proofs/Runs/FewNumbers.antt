@@ -1,11 +1,11 @@
 -- How many numbers are given out to core blocks: no more than there were blocks that could be read at a time.
-use Rattle.std.proofs.Common.{◌≡◌, ◌≢◌, ◌<◌, ◌≤◌, ◌+◌, ◌*◌, ◌⊎◌, ◌↔◌, ℕ, zero, suc, inl, inr, true, false, Some, None, List, [], ◌∷◌, ◌++◌, length, slice_get, refl, sym, ap, subst, ◌∙◌, arith}
+use Rattle.std.proofs.Common.{◌≡◌, ◌≢◌, ◌<◌, ◌≤◌, ◌+◌, ◌⊎◌, ℕ, zero, suc, inl, inr, true, false, Some, None, List, [], ◌∷◌, ◌++◌, length, refl, sym, ap, subst, ◌∙◌, arith}
 use Rattle.std.proofs.lemmas.Bool.{cases_lt}
 use Rattle.std.proofs.lemmas.Bool.Decides.{eqb_tells}
 use Rattle.std.proofs.lemmas.Option.{slice_get_past, slice_get_cases}
 use Rattle.std.specs.Prelude.{Option, IsSome}
 use Rattle.ceal_base.specs.Block.{Block}
-use Rattle.ceal_base.specs.Trace.{Trace, Nothing, Stepped, Allocated, Wrote, WasRead, flat, blocks_of, steps_of}
+use Rattle.ceal_base.specs.Trace.{Trace, blocks_of, steps_of}
 use Rattle.ceal_base.specs.declared.kind.Shape.{Shape}
 use Rattle.ceal_base.specs.declared.word.BlockId.{BlockId}
 use Rattle.ceal_base.specs.declared.word.BlockId.TheVariants.{Input, Core}
@@ -18,7 +18,7 @@ use Rattle.ceal_heap.specs.declared.number.State.{State}
 use Rattle.ceal_heap.specs.declared.number.State.TheVariants.{Live as LiveState, Revoked as RevokedState, Released as ReleasedState}
 use Rattle.ceal_words.specs.SizeClass.{SizeClass}
 use Rattle.ceal_repair.proofs.Nodes.NodeItems.{blocks-allocs}
-use Rattle.ceal_repair.specs.Answers.{StandsForTrace, IsKeptRun}
+use Rattle.ceal_repair.specs.Answers.{IsKeptRun}
 use Rattle.ceal_repair.specs.Blocks.{KeepsReadable, GivesOne, HasFew, Given}
 use Rattle.ceal_repair.specs.declared.running.Running.{Running}
 use Rattle.ceal_theory.proofs.Work.ItemCounts.{count-law}

@@ -1,5 +1,5 @@
 -- A run from nothing, when its last unit is over.
-use Rattle.std.proofs.Common.{true, ◌≡◌, ◌<◌, ◌≤◌, ◌*◌, inl, inr, ℕ, Option, Some, None, List, [], ◌++◌, length, reverse, refl, sym, ap, subst, ◌∙◌, arith, append-nil}
+use Rattle.std.proofs.Common.{true, ◌≡◌, ◌<◌, ◌≤◌, inl, inr, ℕ, Option, Some, None, List, [], ◌++◌, length, reverse, refl, sym, ap, subst, ◌∙◌, arith, append-nil}
 use Rattle.ceal_base.specs.Block.{Block}
 use Rattle.ceal_base.specs.Trace.{Nothing, flat}
 use Rattle.ceal_base.specs.declared.word.Word.{Word}

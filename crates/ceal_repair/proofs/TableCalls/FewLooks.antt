@@ -1,8 +1,8 @@
 -- How many contents are looked at.
-use Rattle.std.proofs.Common.{◌≡◌, ◌≤◌, ◌+◌, ◌*◌, ℕ, inl, inr, List, [], ◌∷◌, Some, None, true, false, refl, sym, ap, ◌∙◌, arith}
+use Rattle.std.proofs.Common.{◌≡◌, ◌≤◌, ◌+◌, ℕ, inl, inr, List, [], ◌∷◌, Some, None, true, false, ap, arith}
 use Rattle.std.proofs.Math.Nat.{min-le_left}
 use Rattle.std.proofs.lemmas.Bool.Decides.{eqb_tells}
-use Rattle.std.specs.Prelude.{min, ◌-◌, ◌^◌, Option, IfSome, IfNone, length}
+use Rattle.std.specs.Prelude.{min, ◌-◌, ◌^◌, Option, IfSome, IfNone}
 use Rattle.std.specs.Option.{is_some}
 use Rattle.ceal_base.specs.declared.word.Place.{Place}
 use Rattle.ceal_base.specs.declared.word.Word.{Word}

@@ -1,7 +1,8 @@
 -- The places of a tree, of faults, and of a program as far as its faults are there. They are near where they are in a
 -- text of n bytes, or at its end.
-use Rattle.std.proofs.Common.{◌≤◌, ℕ, Option, Some, None, List, [], ◌∷◌, ◌++◌}
+use Rattle.std.proofs.Common.{◌≤◌, ℕ, Bool, true, false, Option, Some, None, List, [], ◌∷◌, ◌++◌, if◌then◌else◌}
 use Rattle.ceal_base.specs.declared.fault.Fault.{Fault}
+use Rattle.ceal_base.specs.declared.fault.FaultCode.{FaultCode}
 use Rattle.ceal_base.specs.declared.fault.Span.{Span}
 use Rattle.ceal_base.specs.declared.syntax.Entry.{Entry}
 use Rattle.ceal_base.specs.declared.syntax.Entry.TheVariants.{Struct, Function}
@@ -35,13 +36,29 @@ unfoldable pub Each : {A : Type 0} → (A → Type 0) → List A → Type 0
 Each P [] = Unit {0}
 Each P (x ∷ xs) = P x × Each P xs
 
-pub each-append : {A : Type 0} (P : A → Type 0) (xs ys : List A) → Each P xs → Each P ys → Each P (xs ++ ys)
+pub none : {A : Type 0} {P : A → Type 0} → Each P []
 unfolding Each
-each-append P [] ys h k = k
-each-append P (x ∷ xs) ys h k = (h.0, each-append P xs ys h.1 k)
+none = tt
+
+pub both : {A : Type 0} {P : A → Type 0} (xs ys : List A) → Each P xs → Each P ys → Each P (xs ++ ys)
+unfolding Each
+both [] ys h k = k
+both (x ∷ xs) ys h k = (h.0, both xs ys h.1 k)
 
 abbrev pub FaultNear : ℕ → Fault → Type 0
 FaultNear n f = Near n f.span
+
+-- these faults are near
+abbrev pub AllNear : ℕ → List Fault → Type 0
+AllNear n fs = Each (FaultNear n) fs
+
+pub one-near : {n : ℕ} (code : FaultCode) (at : Span) → Near n at → AllNear n (record { code = code; span = at } ∷ [])
+unfolding Each
+one-near code at h = (h, tt)
+
+pub unless-near : {n : ℕ} (b : Bool) (code : FaultCode) (at : Span) → Near n at → AllNear n (if b then [] else record { code = code; span = at } ∷ [])
+unless-near true code at h = none
+unless-near false code at h = one-near code at h
 
 unfoldable mutual
   pub FormNear : ℕ → ExprForm → Type 0

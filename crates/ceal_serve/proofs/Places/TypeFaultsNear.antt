@@ -36,30 +36,16 @@ use Rattle.ceal_types.specs.Faults.{condition_faults, argument_faults, call_faul
 use Rattle.ceal_types.specs.Faults.{body_faults, tree_faults, parameter_kind, held_kind}
 use Rattle.ceal_types.specs.Known.{Known, Declared, TypingContext, operand_span, operand_type, type_of, member_known, type_of_field}
 use Rattle.ceal_types.specs.Tables.{Name}
-use Rattle.ceal_serve.proofs.Places.Near.{Near, Each, each-append, FaultNear, FormNear, OperandNear, ExprNear, TypeNear, ValueNear, StmtNear, StmtsNear, DeclNear, OwnNear, EntryNear, TreeIsNear}
+use Rattle.ceal_serve.proofs.Places.Near.{Near, Each, AllNear, none, both, one-near, unless-near}
+use Rattle.ceal_serve.proofs.Places.Near.{FormNear, OperandNear, ExprNear, TypeNear, ValueNear, StmtNear, StmtsNear, DeclNear, OwnNear, EntryNear, TreeIsNear}
 
 module _ (n : ℕ) where
-  -- these faults are near
   abbrev pub All : List Fault → Type 0
-  All fs = Each (FaultNear n) fs
-
-  both : (a b : List Fault) → All a → All b → All (a ++ b)
-  both a b h k = each-append (FaultNear n) a b h k
-
-  none : All []
-  unfolding Each
-  none = tt
-
-  one-near : (code : FaultCode) (at : Span) → Near n at → All (one code at)
-  unfolding Each
-  one-near code at h = (h, tt)
+  All fs = AllNear n fs
 
   if-near : (b : Bool) (xs ys : List Fault) → All xs → All ys → All (if b then xs else ys)
   if-near true xs ys h k = h
   if-near false xs ys h k = k
-
-  unless-near : (b : Bool) (code : FaultCode) (at : Span) → Near n at → All (one_unless b code at)
-  unless-near b code at h = if-near b [] (one code at) none (one-near code at h)
 
   where-near : (b : Bool) (code : FaultCode) (at : Span) → Near n at → All (one_if b code at)
   where-near b code at h = if-near b (one code at) [] (one-near code at h) none

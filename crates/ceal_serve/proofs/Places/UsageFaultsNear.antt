@@ -1,5 +1,5 @@
 -- Where a program is near, so are its faults of usage.
-use Rattle.std.proofs.Common.{ℕ, Bool, true, false, Some, None, List, [], ◌∷◌, ◌++◌, if◌then◌else◌}
+use Rattle.std.proofs.Common.{ℕ, Bool, true, false, Some, None, List, [], ◌∷◌, ◌++◌}
 use Rattle.ceal_base.specs.declared.fault.Fault.{Fault}
 use Rattle.ceal_base.specs.declared.fault.FaultCode.{FaultCode}
 use Rattle.ceal_base.specs.declared.fault.FaultCode.TheVariants.{U1, U2, U3, U4, U5, U6}
@@ -17,27 +17,12 @@ use Rattle.ceal_usage.specs.Faults.{one, form_mentions, operand_mentions, mentio
 use Rattle.ceal_usage.specs.Faults.{core_faults, row_core_faults, faults_unless_own, init_faults, row_init_faults}
 use Rattle.ceal_usage.specs.Faults.{function_faults, usage_faults}
 use Rattle.ceal_usage.specs.Verdict.{faults_of_each}
-use Rattle.ceal_serve.proofs.Places.Near.{Near, Each, each-append, FaultNear, TypedFormNear, TypedOperandNear, TypedNear, TypedValueNear, TypedStmtNear, TypedStmtsNear, FunctionNear}
+use Rattle.ceal_serve.proofs.Places.Near.{Near, Each, AllNear, none, both, one-near, unless-near}
+use Rattle.ceal_serve.proofs.Places.Near.{TypedFormNear, TypedOperandNear, TypedNear, TypedValueNear, TypedStmtNear, TypedStmtsNear, FunctionNear}
 
 module _ (n : ℕ) where
-  -- these faults are near
   abbrev pub All : List Fault → Type 0
-  All fs = Each (FaultNear n) fs
-
-  both : (a b : List Fault) → All a → All b → All (a ++ b)
-  both a b h k = each-append (FaultNear n) a b h k
-
-  none : All []
-  unfolding Each
-  none = tt
-
-  one-near : (code : FaultCode) (at : Span) → Near n at → All (one code at)
-  unfolding Each
-  one-near code at h = (h, tt)
-
-  unless-near : (b : Bool) (code : FaultCode) (at : Span) → Near n at → All (if b then [] else one code at)
-  unless-near true code at h = none
-  unless-near false code at h = one-near code at h
+  All fs = AllNear n fs
 
   each-near : {A : Type 0} (P : A → Type 0) (faults : A → List Fault) → ((x : A) → P x → All (faults x)) → (xs : List A) → Each P xs → All (faults_of_each faults xs)
   unfolding Each faults_of_each

@@ -1,5 +1,5 @@
 -- Repairs that are carried.
-use Rattle.std.proofs.Common.{◌≡◌, ◌↔◌, ℕ, zero, suc, ◌+◌, ◌≤◌, ◌<◌, true, Option, Some, None, List, [], length, ◌⊎◌, inl, inr, refl, sym, ap, ap₂, ◌∙◌, subst, arith}
+use Rattle.std.proofs.Common.{◌≡◌, ◌↔◌, ℕ, zero, suc, ◌+◌, ◌≤◌, ◌<◌, true, Option, Some, None, List, [], length, ◌⊎◌, inl, inr, refl, sym, ◌∙◌, subst, arith}
 use Rattle.std.proofs.Math.Path.{fun_ext}
 use Rattle.std.proofs.lemmas.Bool.{cases_order}
 use Rattle.ceal_base.specs.Block.{Block}
@@ -10,11 +10,10 @@ use Rattle.ceal_base.specs.declared.word.BlockId.TheVariants.{Input, Core}
 use Rattle.ceal_base.specs.declared.word.Word.{Word}
 use Rattle.ceal_code.proofs.Replay.ReplayedCall.{begin-self}
 use Rattle.ceal_code.proofs.Words.SameIsEqual.{none-some}
-use Rattle.ceal_code.specs.Alike.{Pairs, Tied, IdAlike, PlainAlike, MaybeAlike, TraceAlike, Within, OneToOne}
+use Rattle.ceal_code.specs.Alike.{Pairs, Tied, IdAlike, PlainAlike, TraceAlike, Within, OneToOne}
 use Rattle.ceal_code.specs.Fitting.{Fits}
-use Rattle.ceal_code.specs.Known.{Held}
 use Rattle.ceal_code.specs.Program.{Code}
-use Rattle.ceal_code.specs.Replay.{In, IsHonest, KnownBlock, Replays, plain_of, plain_after, input_plain}
+use Rattle.ceal_code.specs.Replay.{IsHonest, Replays, plain_of, plain_after, input_plain}
 use Rattle.ceal_code.specs.Value.{Plain}
 use Rattle.ceal_theory.proofs.Repair.DistinctBlocks.{uses}
 use Rattle.ceal_theory.proofs.Renaming.FlippedPairs.{flipped, one-flip, tied-back, trace-flip}
@@ -27,11 +26,11 @@ use Rattle.ceal_code.proofs.Alike.BlockPairs.{one-within}
 use Rattle.ceal_theory.proofs.Repair.RepairReplays.{plain-none}
 use Rattle.ceal_theory.proofs.SlicedRepair.SliceLaws.{begin-law, other-names-law, slice-law, slices-law}
 use Rattle.ceal_theory.proofs.SlicedRepair.Soundness.{uses-in}
-use Rattle.ceal_theory.specs.Adjust.{Extended, Above}
+use Rattle.ceal_theory.specs.Adjust.{Above}
 use Rattle.ceal_theory.specs.Carried.{Knows, Carried, CarriedSlices, CarriedBeginLaw, CarriedMoreLaw, CarriedSliceLaw, CarriedSameLaw, CarriedTraceLaw, CarriedOnLaw, numbered_from_zero}
 use Rattle.ceal_theory.specs.Laws.{Edited}
 use Rattle.ceal_theory.specs.Repair.{Single, own}
-use Rattle.ceal_theory.specs.SliceLaws.{held, IsNamed, NamedBeginning, Sliced}
+use Rattle.ceal_theory.specs.SliceLaws.{IsNamed, NamedBeginning, Sliced}
 use Rattle.ceal_theory.specs.Slices.{Repair, with_inputs, sliced, Slices, RepairHolds, beginning, AlikeRepairs, IsOldOrNewPair, RenamedSlices}
 
 some-none : {A : Type 0} {B : Type 0} (o : Option A) (x : A) → o ≡ Some x → o ≡ None → B

@@ -1,6 +1,5 @@
 -- What is past belongs to the call.
-use Rattle.std.proofs.Common.{◌≡◌, ℕ, ◌+◌, ◌≤◌, Bool, true, false, Option, Some, None, List, [], ◌∷◌, suc, max, inl, inr, refl, sym, subst, ◌∙◌, arith, if◌then◌else◌}
-use Rattle.std.proofs.lemmas.Bool.{cases_Bool}
+use Rattle.std.proofs.Common.{◌≡◌, ℕ, ◌≤◌, Bool, true, false, Option, Some, None, List, [], ◌∷◌, inl, inr, refl, arith, if◌then◌else◌}
 use Rattle.std.proofs.lemmas.Bool.Decides.{eqb_tells}
 use Rattle.std.specs.Prelude.{IfSome}
 use Rattle.ceal_base.specs.Block.{Block}
@@ -13,7 +12,7 @@ use Rattle.ceal_theory.proofs.SlicedRepair.CarriedLaws.{own-single, edited-so}
 use Rattle.ceal_theory.proofs.SlicedRepair.SliceLaws.{begin-law, slice-law, slices-law, done-law, is-done-law}
 use Rattle.ceal_theory.specs.Adjust.{Above}
 use Rattle.ceal_theory.specs.Computed.{Repaired}
-use Rattle.ceal_theory.specs.Pasts.{Past, NoTrace, Traced, Going, first_past, number_above, next_repair, done_past, left_by, slice_of, past_after, IsPastOf, PastLaw}
+use Rattle.ceal_theory.specs.Pasts.{Past, NoTrace, Traced, Going, first_past, number_above, done_past, left_by, past_after, IsPastOf, PastLaw}
 use Rattle.ceal_theory.specs.Repair.{own}
 use Rattle.ceal_theory.specs.Slices.{Repair, beginning, sliced, is_done, RepairHolds}
 

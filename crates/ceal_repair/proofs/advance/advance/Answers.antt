@@ -1,4 +1,4 @@
-use Rattle.std.proofs.Common.{◌≡◌, ◌≢◌, ◌≤◌, false, true, refl, sym, ap, subst, ◌∙◌, arith, rules}
+use Rattle.std.proofs.Common.{◌≡◌, ◌≢◌, ◌≤◌, false, true, sym, ap, subst, ◌∙◌, arith, rules}
 use Rattle.ceal_heap.specs.Heap.{next}
 use Rattle.ceal_repair.proofs.Propagation.KeptRun.{has-come-in, idle-first}
 use Rattle.ceal_repair.proofs.Propagation.SlicesOfRun.{since, begun-in, is-sliced, front-stays, is-repaired}

@@ -1,4 +1,4 @@
-use Rattle.std.proofs.Common.{◌≡◌, refl, ◌∙◌, sym}
+use Rattle.std.proofs.Common.{refl, ◌∙◌, sym}
 use Rattle.std.proofs.lemmas.Bool.{false≢true}
 use Rattle.ceal_traceck.proofs.Stages.{Begun, begins, Learns, Stores, unnamed, unaccepted, found, dishonest, is-honest, asked-there}
 use Rattle.ceal_traceck.proofs.check.check_items.Goals as goal

@@ -1,4 +1,4 @@
-use Rattle.std.proofs.Common.{ℕ, ◌<◌, ◌≤◌, [], unwrap_or, ap, ◌∙◌, sym, subst}
+use Rattle.std.proofs.Common.{ℕ, ◌<◌, [], unwrap_or, ap, ◌∙◌, sym, subst}
 use Rattle.ceal_fold.specs.Folding.{copies_with}
 use Rattle.ceal_fold.specs.States.{last_of, time, copy_at}
 use Rattle.ceal_fold.proofs.KnownSteps.{assigned-times, assigned-copies}
