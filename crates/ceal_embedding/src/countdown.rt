@@ -1,15 +1,15 @@
 // An engine whose program makes a list: the numbers from the first one down to 1.
 
-ghost use Rattle.std.specs.Prelude.{◌≡◌, IfOk, OnOk};
+ghost use Rattle.std.specs.Prelude.{◌≡◌, IfOk};
 ghost use Rattle.ceal_base.specs.declared.word.BlockId.TheVariants.{Input};
 ghost use Rattle.ceal_engine.specs.Engine.{IsPresent};
 ghost use Rattle.ceal_engine.specs.declared.phase.Phase.TheVariants.{Finished};
 
-use crate::calls::{add, call, input};
+use crate::calls::input;
+use crate::start::{Example, start};
 use crate::trouble::Trouble;
 use ceal_base::kind::Shape;
 use ceal_base::word::{Place, Word};
-use ceal_compile::compile::compile;
 use ceal_engine::engine::Engine;
 use std::alloc::Global;
 
@@ -51,23 +51,11 @@ pub fn open(alloc: Global) -> Result<Engine, Trouble>
     ensures present { IfOk result IsPresent }
     ensures finished { IfOk result (λ engine. engine.phase ≡ Finished) }
 {
-    let program = compile(alloc, SOURCE)?;
-    let mut engine = Engine::new(alloc, program.code, 1_000)?;
-    match prepare(&mut engine) {
-        Ok(()) => Ok(engine),
-        Err(trouble) => {
-            drop(engine);
-            Err(trouble)
-        }
-    }
-}
-
-/// Makes the inputs, and runs the program on them.
-fn prepare(engine: &mut Engine) -> Result<(), Trouble>
-    ensures present { OnOk result (IsPresent engine.new) }
-    ensures finished { OnOk result (engine.new.phase ≡ Finished) }
-{
-    add(engine, Shape::ModInt, &[Word::Num(4)])?;
-    add(engine, Shape::ModPtr(0), &[Word::Null])?;
-    call(engine, 2, &[Word::At(first()), Word::At(list())])
+    let example = Example {
+        source: SOURCE,
+        function: 2,
+        first: (Shape::ModInt, Word::Num(4)),
+        second: (Shape::ModPtr(0), Word::Null),
+    };
+    start(alloc, example)
 }

@@ -132,10 +132,7 @@ fn source(job: Job) -> &'static [u8]
         Job::Tree => TREE,
         Job::Expression => EXPRESSION,
         Job::Map => MAP,
-        Job::Readers => READERS,
-        Job::Same => READERS,
-        Job::Back => READERS,
-        Job::Again => READERS,
+        Job::Readers | Job::Same | Job::Back | Job::Again => READERS,
     }
 }
 
@@ -163,13 +160,9 @@ fn prepare(engine: &mut Engine, job: Job, size: u32) -> Result<(), Trouble>
     ensures finished { OnOk result (engine.new.phase ≡ Finished) }
 {
     match job {
-        Job::Tree => run_tree(engine, size),
-        Job::Expression => run_tree(engine, size),
+        Job::Tree | Job::Expression => run_tree(engine, size),
         Job::Map => run_list(engine, size),
-        Job::Readers => run_readers(engine, size),
-        Job::Same => run_readers(engine, size),
-        Job::Back => run_readers(engine, size),
-        Job::Again => run_readers(engine, size),
+        Job::Readers | Job::Same | Job::Back | Job::Again => run_readers(engine, size),
     }
 }
 
@@ -236,8 +229,7 @@ pub fn edit(engine: &mut Engine, job: Job, size: u32, number: u32) -> Result<(),
     ensures finished { OnOk result (engine.new.phase ≡ Finished) }
 {
     match job {
-        Job::Tree => edit_leaf(engine, size, number),
-        Job::Expression => edit_leaf(engine, size, number),
+        Job::Tree | Job::Expression => edit_leaf(engine, size, number),
         Job::Map => edit_list(engine, size, number),
         Job::Readers => update(engine, input(0), Word::Num(number as i64)),
         Job::Same => update(engine, input(0), Word::Num(5)),

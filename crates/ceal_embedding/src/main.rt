@@ -13,6 +13,7 @@ mod jobs;
 mod measured;
 mod order;
 mod square;
+mod start;
 mod trouble;
 mod turns;
 mod walk;

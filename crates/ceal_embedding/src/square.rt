@@ -1,15 +1,15 @@
 // An engine that a program drives by calls: the square of a number, kept up to date.
 
-ghost use Rattle.std.specs.Prelude.{◌≡◌, IfOk, OnOk};
+ghost use Rattle.std.specs.Prelude.{◌≡◌, IfOk};
 ghost use Rattle.ceal_base.specs.declared.word.BlockId.TheVariants.{Input};
 ghost use Rattle.ceal_engine.specs.Engine.{IsPresent};
 ghost use Rattle.ceal_engine.specs.declared.phase.Phase.TheVariants.{Finished};
 
-use crate::calls::{add, call, input};
+use crate::calls::input;
+use crate::start::{Example, start};
 use crate::trouble::Trouble;
 use ceal_base::kind::Shape;
 use ceal_base::word::{Place, Word};
-use ceal_compile::compile::compile;
 use ceal_engine::engine::Engine;
 use std::alloc::Global;
 
@@ -39,23 +39,11 @@ pub fn open(alloc: Global) -> Result<Engine, Trouble>
     ensures present { IfOk result IsPresent }
     ensures finished { IfOk result (λ engine. engine.phase ≡ Finished) }
 {
-    let program = compile(alloc, SOURCE)?;
-    let mut engine = Engine::new(alloc, program.code, 1_000)?;
-    match prepare(&mut engine) {
-        Ok(()) => Ok(engine),
-        Err(trouble) => {
-            drop(engine);
-            Err(trouble)
-        }
-    }
-}
-
-/// Makes the inputs, and runs the program on them.
-fn prepare(engine: &mut Engine) -> Result<(), Trouble>
-    ensures present { OnOk result (IsPresent engine.new) }
-    ensures finished { OnOk result (engine.new.phase ≡ Finished) }
-{
-    add(engine, Shape::ModInt, &[Word::Num(3)])?;
-    add(engine, Shape::ModInt, &[Word::Num(0)])?;
-    call(engine, 0, &[Word::At(side()), Word::At(area())])
+    let example = Example {
+        source: SOURCE,
+        function: 0,
+        first: (Shape::ModInt, Word::Num(3)),
+        second: (Shape::ModInt, Word::Num(0)),
+    };
+    start(alloc, example)
 }

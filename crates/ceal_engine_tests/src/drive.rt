@@ -54,6 +54,22 @@ pub(crate) fn slice(engine: &mut Engine, reads: u32) -> Result<Progress, Fail> {
     engine.slice(reads).map_err(failed)
 }
 
+pub(crate) fn mark(engine: &mut Engine) -> Result<(), Fail> {
+    if engine.phase() != Phase::Finished {
+        return Err(Fail::from("it is not finished"));
+    }
+    engine.mark()?;
+    Ok(())
+}
+
+/// The modifiables that hold something else at the end than when they were marked.
+pub(crate) fn changed(engine: &Engine) -> Result<Vec<Place>, Fail> {
+    if engine.phase() != Phase::Finished || !engine.is_marked() {
+        return Err(Fail::from("it is not marked"));
+    }
+    Ok(engine.changed()?)
+}
+
 /// The inputs with no pointer to a block: what is added first, since a pointer may lead to a later input.
 fn bare(inputs: &Inputs) -> Result<Inputs, Fail> {
     let mut bare = inputs.copy()?;

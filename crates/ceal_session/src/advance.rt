@@ -45,9 +45,7 @@ pub fn advanced(engine: &mut Engine, reads: Option<u32>) -> Result<Came, RunErro
 {
     match engine.phase() {
         Phase::New => unreachable!(),
-        Phase::Finished => engine.advance(reads),
-        Phase::Pending => engine.advance(reads),
-        Phase::Partial => engine.advance(reads),
+        Phase::Finished | Phase::Pending | Phase::Partial => engine.advance(reads),
         Phase::Dropped => {
             let outcome = engine.propagate();
             came_anew(outcome)

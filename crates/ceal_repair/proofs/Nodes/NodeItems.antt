@@ -14,7 +14,7 @@ use Rattle.ceal_base.specs.declared.word.BlockId.TheVariants.{Input, Core}
 use Rattle.ceal_base.specs.declared.word.Place.{Place}
 use Rattle.ceal_base.specs.declared.word.Word.{Word}
 use Rattle.ceal_code.specs.Known.{Subset}
-use Rattle.ceal_code.specs.Replay.{Store, In, here, there, core_numbers, stored}
+use Rattle.ceal_code.specs.Replay.{Store, In, here, there, core_numbers, stored, KnownBlock}
 use Rattle.ceal_order.specs.Stamps.{NotIn, Distinct, is_in}
 use Rattle.ceal_code.specs.Step.{Stack}
 use Rattle.ceal_order.specs.declared.stamp.Stamp.{Stamp}
@@ -363,6 +363,16 @@ known-append bs (item.Alloc (Input i) key ∷ is) js = known-append bs is js
 known-append bs (item.Write p value ∷ is) js = known-append bs is js
 known-append bs (item.Read p value u v args ∷ is) js = known-append bs is js
 known-append bs (item.End ∷ is) js = known-append bs is js
+
+-- the end of a read changes no content and makes no block
+pub same-ended : (count : ℕ) (store s s' : Store) (front : List Entry) (n : ℕ) (read : Stamp)
+    → ((p : Place) → KnownBlock count (known_after [] (forest_of front)) p.block → store p ≡ contents_after s front p)
+    → ((p : Place) → s' p ≡ s p)
+    → (p : Place) → KnownBlock count (known_after [] (forest_of (through front (new_entry n (End read))))) p.block
+    → store p ≡ contents_after s' (through front (new_entry n (End read))) p
+same-ended count store s s' front n read same bases p known =
+    same p (subst (λ bs. KnownBlock count bs p.block) (ap (known_after []) (forest-put front n (End read)) ∙ known-append [] (forest_of front) (item.End ∷ [])) known)
+    ∙ (contents-base s s' p (sym (bases p)) front ∙ sym (ap (λ (f : Store). f p) (contents-put s' front n (End read))))
 
 pub known-more : (bs : List ℕ) (is : List Item) → Subset bs (known_after bs is)
 known-more bs [] b i = i

@@ -6,7 +6,6 @@ use Rattle.ceal_base.specs.declared.forest.Item.{Item}
 use Rattle.ceal_base.specs.declared.forest.Item.TheVariants as item
 use Rattle.ceal_base.specs.declared.word.Place.{Place}
 use Rattle.ceal_code.specs.Program.{Code}
-use Rattle.ceal_code.specs.Replay.{Store, KnownBlock}
 use Rattle.ceal_code.specs.Step.{Stack, Over, next}
 use Rattle.ceal_code.specs.Value.{Plain}
 use Rattle.ceal_heap.specs.Heap.{Contents}
@@ -15,7 +14,7 @@ use Rattle.ceal_order.specs.Stamps as order
 use Rattle.ceal_order.specs.Stamps.{is_in, place}
 use Rattle.ceal_order.specs.declared.stamp.Stamp.{Stamp}
 use Rattle.ceal_repair.proofs.Revocation.FirstNode.{cursor-at, front-long}
-use Rattle.ceal_repair.proofs.Nodes.NodeItems.{behind-all, contents-put, contents-base, forest-put, opened-put, began-put, closed-last, known-append}
+use Rattle.ceal_repair.proofs.Nodes.NodeItems.{same-ended, behind-all, forest-put, opened-put, began-put, closed-last}
 use Rattle.ceal_repair.proofs.Runs.UnitSteps.{blocks-steps}
 use Rattle.ceal_repair.proofs.Reuse.NoNewEnds.{end-append, append-end, unfinished-none}
 use Rattle.ceal_repair.proofs.Runs.FewNumbers.{given-same}
@@ -32,7 +31,6 @@ use Rattle.ceal_repair.specs.declared.tables.Tables.{Tables}
 use Rattle.ceal_theory.proofs.Reuse.StepsBetween.{frames-self}
 use Rattle.ceal_theory.proofs.Reuse.TakenAfterRevocation.{bare-stepped}
 use Rattle.ceal_theory.specs.Course.{Wait, Takes, frames_at, running_at, BareMode, BareFrames, BareSame}
-use Rattle.ceal_theory.specs.Cover.{known_after}
 use Rattle.ceal_theory.specs.Groves.{Grove, Bare, bare}
 use Rattle.ceal_theory.specs.Levels.{first, around, levels}
 use Rattle.ceal_theory.specs.Repair.{State}
@@ -200,13 +198,6 @@ module _ (code : Code) (inputs : List Block) (start : Start) (st : Stack) (w : V
     unfolding mid-machine
     mid-number = refl
 
-    known-before : (q : Place)
-        → KnownBlock (length inputs) (known_after [] (forest_of (through (through now.placed.done now.placed.last) (entry next-taken.end (End (stamp_of_number next-taken.read)) 0)))) q.block
-        → KnownBlock (length inputs) (known_after [] (forest_of (through now.placed.done now.placed.last))) q.block
-    known-before q c = subst (λ bs. KnownBlock (length inputs) bs q.block)
-        (ap (known_after []) (forest-put (through now.placed.done now.placed.last) next-taken.end (End (stamp_of_number next-taken.read)))
-        ∙ known-append [] (forest_of (through now.placed.done now.placed.last)) (item.End ∷ [])) c
-
     -- what is left over inside the read is revoked, its end is in front, and the units below run with what is after it
     pub now-leave : RunningNow code inputs start below (record { tables = t; heap = heap; spent = w.spent; cursor = next-taken.end; limit = Some until; frames = w.frames })
     now-leave = record {
@@ -240,8 +231,7 @@ module _ (code : Code) (inputs : List Block) (start : Start) (st : Stack) (w : V
           (λ s. running_at s below next-taken.waits (forest_of (entries next-taken.behind ++ next-taken.rest)))
           (item.End ∷ []) now.course.store mid-machine (forest-put (through now.placed.done now.placed.last) next-taken.end (End (stamp_of_number next-taken.read)))
           left-turn mid-number bare-then
-          (λ q c. now.course.same q (known-before q c)
-          ∙ (contents-base (base_in w.tables.mods) (base_in t.mods) q (sym (bases-then q)) (through now.placed.done now.placed.last)
-          ∙ sym (ap (λ (f : Store). f q) (contents-put (base_in t.mods) (through now.placed.done now.placed.last) next-taken.end (End (stamp_of_number next-taken.read))))))
+          (same-ended (length inputs) now.course.store (base_in w.tables.mods) (base_in t.mods) (through now.placed.done now.placed.last) next-taken.end (stamp_of_number next-taken.read)
+          now.course.same bases-then)
           (given-same start.first start.numbers (start.chosen ++ now.course.made) w.heap heap blocks now.course.given);
     }

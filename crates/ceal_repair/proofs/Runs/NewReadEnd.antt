@@ -4,13 +4,11 @@ use Rattle.std.proofs.lemmas.Bool.Decides.{eqb_tells}
 use Rattle.ceal_base.specs.Block.{Block}
 use Rattle.ceal_base.specs.declared.forest.Item.{Item}
 use Rattle.ceal_base.specs.declared.forest.Item.TheVariants as item
-use Rattle.ceal_base.specs.declared.word.Place.{Place}
 use Rattle.ceal_code.specs.Program.{Code}
-use Rattle.ceal_code.specs.Replay.{Store, KnownBlock}
 use Rattle.ceal_code.specs.Step.{Stack, Over, next}
 use Rattle.ceal_order.specs.Stamps.{Distinct, is_in}
 use Rattle.ceal_order.specs.declared.stamp.Stamp.{Stamp}
-use Rattle.ceal_repair.proofs.Nodes.NodeItems.{forest-put, contents-put, contents-base, closed-last, known-append, unclosed-reads, not-in-is, entry-front, position-front, position-there}
+use Rattle.ceal_repair.proofs.Nodes.NodeItems.{same-ended, forest-put, closed-last, unclosed-reads, not-in-is, entry-front, position-front, position-there}
 use Rattle.ceal_repair.proofs.Nodes.NodeItems.{unfinished-waiting, waiting, waiting-open, comes-next, distinct-front}
 use Rattle.ceal_repair.proofs.Runs.UnitSteps.{NodeMore, nodes-distinct, placed-put, blocks-node, course-turn}
 use Rattle.ceal_repair.specs.Entries.{entries}
@@ -20,7 +18,6 @@ use Rattle.ceal_repair.specs.Frames.{Begun}
 use Rattle.ceal_repair.specs.Kept.{base_in}
 use Rattle.ceal_repair.specs.declared.tables.Tables.{Tables}
 use Rattle.ceal_theory.specs.Course.{Wait, Begins, running_at}
-use Rattle.ceal_theory.specs.Cover.{known_after}
 use Rattle.ceal_theory.specs.Repair.{State}
 use Rattle.ceal_theory.specs.Moves.{Went, next_move}
 use Rattle.ceal_trace.proofs.Entries.{has-read, ends-after, ends_other}
@@ -131,13 +128,6 @@ module _ (code : Code) (inputs : List Block) (start : Start) (st : Stack) (w : V
         (λ s. running_at s below (comes-next now.tails).waits (forest_of (entries now.left ++ now.tail)))
         (item.End ∷ []) now.course.store (forest-put (through now.placed.done now.placed.last) s (End read))
         (ended-turn over) refl
-        (λ q c. now.course.same q (known-before q c)
-        ∙ (contents-base (base_in w.tables.mods) (base_in t.mods) q (sym (k.bases q)) (through now.placed.done now.placed.last)
-        ∙ sym (ap (λ (f : Store). f q) (contents-put (base_in t.mods) (through now.placed.done now.placed.last) s (End read)))))
+        (same-ended (length inputs) now.course.store (base_in w.tables.mods) (base_in t.mods) (through now.placed.done now.placed.last) s read now.course.same k.bases)
         now.course.given;
   }
-    where
-      known-before : (q : Place) → KnownBlock (length inputs) (known_after [] (forest_of (through (through now.placed.done now.placed.last) (new_entry s (End read))))) q.block
-          → KnownBlock (length inputs) (known_after [] (forest_of (through now.placed.done now.placed.last))) q.block
-      known-before q c = subst (λ bs. KnownBlock (length inputs) bs q.block)
-          (ap (known_after []) (forest-put (through now.placed.done now.placed.last) s (End read)) ∙ known-append [] (forest_of (through now.placed.done now.placed.last)) (item.End ∷ [])) c

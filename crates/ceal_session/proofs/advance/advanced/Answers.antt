@@ -1,4 +1,4 @@
-use Rattle.std.proofs.Common.{◌∙◌, ap, sym, subst}
+use Rattle.std.proofs.Common.{inl, inr, ◌∙◌, ap, sym, subst}
 use Rattle.std.specs.Option.{IsSomeAnd}
 use Rattle.std.specs.Prelude.{IfSome}
 use Rattle.ceal_code.specs.Fitting.{Fits}
@@ -8,7 +8,7 @@ use Rattle.ceal_session.proofs.Engine.EngineKeepsPast.{brought-anew, brought-on,
 use Rattle.ceal_session.specs.Outcomes.{Outcome, EngineAfterCall}
 use Rattle.ceal_session.proofs.advance.advanced.Goals as goal
 
--- from a finished run the outcome is that of the engine's call
+-- where there is a run the outcome is that of the engine's call
 pub returns-in-Finished : goal.returns-in-Finished
 returns-in-Finished c = record {
   brings = λ call again.
@@ -16,31 +16,13 @@ returns-in-Finished c = record {
       let o = c.advance in
       brought-on e o.new.self c.phase.ensures.whole call
       (subst (λ a. IfSome a (λ call. Fits e.code e.inputs call.function call.args)) again c.phase.ensures.whole.call)
-      o.ensures.keeps.code o.ensures.keeps.fuel o.ensures.keeps.inputs (o.ensures.keeps.call ∙ again) c.args.reads (ap has_run (sym c.phase.ensures.value ∙ c.in-Finished.is)) again
-      o.result o.ensures.phase o.ensures.present o.ensures.comes (some-reads o.result c.args.reads o.ensures.more) o.ensures.keeps.out_of_fuel o.ensures.keeps.dropped;
-}
-
--- the same, where a repair begins
-pub returns-in-Pending : goal.returns-in-Pending
-returns-in-Pending c = record {
-  brings = λ call again.
-      let e = c.args.engine.now in
-      let o = c.advance-in-Pending in
-      brought-on e o.new.self c.phase.ensures.whole call
-      (subst (λ a. IfSome a (λ call. Fits e.code e.inputs call.function call.args)) again c.phase.ensures.whole.call)
-      o.ensures.keeps.code o.ensures.keeps.fuel o.ensures.keeps.inputs (o.ensures.keeps.call ∙ again) c.args.reads (ap has_run (sym c.phase.ensures.value ∙ c.in-Pending.is)) again
-      o.result o.ensures.phase o.ensures.present o.ensures.comes (some-reads o.result c.args.reads o.ensures.more) o.ensures.keeps.out_of_fuel o.ensures.keeps.dropped;
-}
-
--- the same, where a repair continues
-pub returns-in-Partial : goal.returns-in-Partial
-returns-in-Partial c = record {
-  brings = λ call again.
-      let e = c.args.engine.now in
-      let o = c.advance-in-Partial in
-      brought-on e o.new.self c.phase.ensures.whole call
-      (subst (λ a. IfSome a (λ call. Fits e.code e.inputs call.function call.args)) again c.phase.ensures.whole.call)
-      o.ensures.keeps.code o.ensures.keeps.fuel o.ensures.keeps.inputs (o.ensures.keeps.call ∙ again) c.args.reads (ap has_run (sym c.phase.ensures.value ∙ c.in-Partial.is)) again
+      o.ensures.keeps.code o.ensures.keeps.fuel o.ensures.keeps.inputs (o.ensures.keeps.call ∙ again) c.args.reads (elim c.in-Finished.is [
+        | inl finished ↦ ap has_run (sym c.phase.ensures.value ∙ finished)
+        | inr repaired ↦ elim repaired [
+          | inl pending ↦ ap has_run (sym c.phase.ensures.value ∙ pending)
+          | inr partial ↦ ap has_run (sym c.phase.ensures.value ∙ partial)
+        ]
+      ]) again
       o.result o.ensures.phase o.ensures.present o.ensures.comes (some-reads o.result c.args.reads o.ensures.more) o.ensures.keeps.out_of_fuel o.ensures.keeps.dropped;
 }
 

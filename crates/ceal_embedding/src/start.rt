@@ -1,0 +1,52 @@
+// How an example begins: its program runs once on two modifiables.
+
+ghost use Rattle.std.specs.Prelude.{◌≡◌, ◌<◌, ◌^◌, length, IfOk, OnOk};
+ghost use Rattle.ceal_engine.specs.Engine.{IsPresent};
+ghost use Rattle.ceal_engine.specs.declared.phase.Phase.TheVariants.{Finished};
+
+use crate::calls::{add, call, input};
+use crate::trouble::Trouble;
+use ceal_base::kind::Shape;
+use ceal_base::word::Word;
+use ceal_compile::compile::compile;
+use ceal_engine::engine::Engine;
+use std::alloc::Global;
+
+/// What an example runs: a function of a program, by its number, on two modifiables, which hold these words at first.
+#[derive(Clone, Copy)]
+pub struct Example<'a> {
+    pub source: &'a [u8],
+    pub function: u32,
+    pub first: (Shape, Word),
+    pub second: (Shape, Word),
+}
+
+/// An engine with the two modifiables as its inputs, and a finished run. A run may take a thousand steps.
+pub fn start(alloc: Global, example: Example) -> Result<Engine, Trouble>
+    requires small { length example.source.now < 2 ^ 32 }
+    ensures present { IfOk result IsPresent }
+    ensures finished { IfOk result (λ engine. engine.phase ≡ Finished) }
+{
+    let program = compile(alloc, example.source)?;
+    let mut engine = Engine::new(alloc, program.code, 1_000)?;
+    match run_once(&mut engine, example) {
+        Ok(()) => Ok(engine),
+        Err(trouble) => {
+            drop(engine);
+            Err(trouble)
+        }
+    }
+}
+
+/// Makes the inputs, and runs the program on them.
+fn run_once(engine: &mut Engine, example: Example) -> Result<(), Trouble>
+    ensures present { OnOk result (IsPresent engine.new) }
+    ensures finished { OnOk result (engine.new.phase ≡ Finished) }
+{
+    let (shape, word) = example.first;
+    add(engine, shape, &[word])?;
+    let (shape, word) = example.second;
+    add(engine, shape, &[word])?;
+    let arguments = [Word::At(input(0)), Word::At(input(1))];
+    call(engine, example.function, &arguments)
+}
