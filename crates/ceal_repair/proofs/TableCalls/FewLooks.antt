@@ -11,7 +11,6 @@ use Rattle.ceal_mods.specs.Mods.{Contents}
 use Rattle.ceal_repair.specs.Looks.{looks_owed, due, writes_at, write_count}
 use Rattle.ceal_repair.specs.declared.tables.Tables.{Tables}
 use Rattle.ceal_trace.specs.Nodes.{Entry, node_at, without_entry}
-use Rattle.ceal_trace.specs.declared.node.Node.{Node}
 use Rattle.ceal_trace.specs.declared.node.Node.TheVariants.{Write}
 
 -- a node is taken out
