@@ -15,8 +15,8 @@ use ceal_base::word::Place;
 
 impl Engine {
     /// From now on `changed` compares what the places hold at the end of a run with what they hold now. The first time
-    /// since the call was run from nothing it takes the time of all places that were touched, and then the time of
-    /// those that were changed since.
+    /// since the call was run from nothing it goes through all places that were touched, and later through those that
+    /// were made, edited or written since.
     pub fn mark(&mut self) -> Result<(), NoMemory>
         requires { self.old.phase ≡ Finished }
         ensures same { self.new ≡ record self.old { marked = self.new.marked } }
@@ -36,8 +36,9 @@ impl Engine {
     }
 
     /// The modifiables of inputs and of core blocks that hold something else at the end of the run than when `mark` was
-    /// called last, each once. The place of a block that has its number since then counts as the one that was there
-    /// before; where none was, it held 0. It takes the time of the places that were changed since.
+    /// called last, each once. A place is compared with what was there then, also where its block has the number of
+    /// one that was revoked since; a place that no block had had then counts as 0. It goes through the places that were
+    /// made, edited or written since.
     pub fn changed(&self) -> Result<Vec<Place>, NoMemory>
         requires finished { self.now.phase ≡ Finished }
         requires marked { IsSome self.now.marked }
