@@ -65,7 +65,10 @@ def step_of(program, name, size, count):
     work = PROGRAMS[name][1](size)
     idle, _ = spent(program, RUN, input_of(name, work.inputs), count)
     ran, written = spent(program, RUN, input_of(name, [*work.inputs, work.run, 'steps']), count)
-    steps = int(written.split()[-1])
+    told = written.split()[-1]
+    if not told.isdigit():
+        raise Failed(f'{name} at {size}: the run did not end')
+    steps = int(told)
     return steps, (statistics.median(ran) - statistics.median(idle)) / steps * 1e9
 
 
