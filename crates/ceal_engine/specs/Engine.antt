@@ -206,6 +206,8 @@ pub record IsEngine (e : EngineState) : Type 0 where
   -- in Dropped nothing of a run is there, and no core block
   pub none_left : e.phase ≡ Dropped → (n : ℕ) → core e.memory n ≡ None
   pub heap_there : is_some e.heap ≡ has_run e.phase
+  -- where there is no run nothing is marked
+  pub unmarked : has_run e.phase ≡ false → e.marked ≡ None
 
 -- the phase after an edit
 abbrev pub phase_after_edit : Phase → Phase

@@ -99,10 +99,11 @@ pub record SliceEnds (e n : EngineState) (k : Option ℕ) (next : ℕ) (r : Repa
   pub items : IsSomeAnd (trace n) (RenamedFrom e next r repair.items)
   pub work : n.work ≡ repair.spent
 
--- No slice is there within the fuel; the call was run again.
+-- No slice is there within the fuel; the call was run again, and nothing is marked.
 pub record IsAnew (e n : EngineState) (k : Option ℕ) (r : Repair) : Type 0 where
   pub none : sliced e.code own e.inputs k e.fuel r ≡ None
   pub first : IsSomeAnd (trace n) (IsFirst n)
+  pub unmarked : n.marked ≡ None
 
 -- The call was run again in place of a repair that was under way.
 pub record IsRunAgain (e n : EngineState) (k : Option ℕ) : Type 0 where
