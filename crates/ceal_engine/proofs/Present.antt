@@ -30,7 +30,8 @@ use Rattle.ceal_engine.proofs.LiveCount.{live-are}
 use Rattle.ceal_engine.proofs.MoreMemory.{core-none}
 use Rattle.ceal_engine.proofs.RunMemory.{allocs-flat, low-numbers, inputs-held, cores-held, steps-held}
 use Rattle.ceal_engine.specs.Engine.{EngineState, ReplaysCall, IsPresent, IsTraced, IsEngine, IsTidy, IsHeapOf, IsWhole, has_run, core, stands_for}
-use Rattle.ceal_engine.specs.Keeping.{Kept, phase_at, phase_of, running_in, forest_in, timeline_in, heap_in, steps_kept, queued_kept, marked_kept, store_in, state_of, IsPartKept, KeepsRun, Keeps, EngineInvariant}
+use Rattle.ceal_engine.specs.Keeping.{Kept, phase_at, phase_of, running_in, forest_in, timeline_in, heap_in, steps_kept, queued_kept, marked_kept, store_in, state_of}
+use Rattle.ceal_engine.specs.Keeping.{IsPartKept, KeepsRun, Keeps, EngineInvariant}
 use Rattle.ceal_engine.specs.Runs.{trace_in}
 use Rattle.ceal_engine.specs.declared.phase.Phase.{Phase}
 use Rattle.ceal_engine.specs.declared.phase.Phase.TheVariants.{New, Finished as IsFinished, Pending, Partial, Dropped}
