@@ -30,7 +30,8 @@ use Rattle.ceal_engine.proofs.LiveCount.{live-are}
 use Rattle.ceal_engine.proofs.MoreMemory.{core-none}
 use Rattle.ceal_engine.proofs.RunMemory.{allocs-flat, low-numbers, inputs-held, cores-held, steps-held}
 use Rattle.ceal_engine.specs.Engine.{EngineState, ReplaysCall, IsPresent, IsTraced, IsEngine, IsTidy, IsHeapOf, IsWhole, has_run, core, stands_for}
-use Rattle.ceal_engine.specs.Keeping.{Kept, phase_at, phase_of, running_in, forest_in, timeline_in, heap_in, steps_kept, queued_kept, store_in, state_of, IsPartKept, KeepsRun, Keeps, EngineInvariant}
+use Rattle.ceal_engine.specs.Keeping.{Kept, phase_at, phase_of, running_in, forest_in, timeline_in, heap_in, steps_kept, queued_kept, marked_kept, store_in, state_of}
+use Rattle.ceal_engine.specs.Keeping.{IsPartKept, KeepsRun, Keeps, EngineInvariant}
 use Rattle.ceal_engine.specs.Runs.{trace_in}
 use Rattle.ceal_engine.specs.declared.phase.Phase.{Phase}
 use Rattle.ceal_engine.specs.declared.phase.Phase.TheVariants.{New, Finished as IsFinished, Pending, Partial, Dropped}
@@ -265,6 +266,11 @@ module _ (code : Code) (fuel : ℕ) (inputs : List Block) (kept : Kept) (run : R
   none-left = by (λ r c. phase_of r ≡ Dropped → (n : ℕ) → core (state_of code fuel inputs c r).memory n ≡ None) (λ e n. refl) (λ c e n. refl)
       (λ c r s k e. let w = k.whole in absurd (grind (arith, rw e at w))) (λ c r k e. absurd (grind (arith, e)))
 
+  -- without a run nothing is marked
+  unmarked : has_run (phase_of run) ≡ false → marked_kept (running_in run) ≡ None
+  unmarked = by (λ r c. has_run (phase_of r) ≡ false → marked_kept (running_in r) ≡ None) (λ e. refl) (λ c e. refl)
+      (λ c r s k e. absurd (false≢true (sym e ∙ some-run s))) (λ c r k e. absurd (false≢true (sym e)))
+
   pub sound-engine : IsEngine (state_of code fuel inputs kept.call run)
   sound-engine = record {
     valid = s.is_valid;
@@ -286,4 +292,5 @@ module _ (code : Code) (fuel : ℕ) (inputs : List Block) (kept : Kept) (run : R
     idle = idle;
     none_left = none-left;
     heap_there = heap-there;
+    unmarked = unmarked;
   }

@@ -62,7 +62,7 @@ stored_at m (Core n) = core m n
 
 -- `inputs` are the input blocks with their present bases, `forest` has the flat items of the last run's
 -- trace, `timeline` its nodes and `heap` its core blocks, in Finished and Pending, and `work` is the number
--- of steps that were re-executed for it. In Partial they are those of the repair that goes on, and `work` is
+-- of steps that were re-executed for it. In Partial they are those of the repair that is under way, and `work` is
 -- what was spent on it so far. `memory`, `steps` and `live` say something only in Finished, and `work` in
 -- Finished and Partial. Of a run or a repair, `looked` is how many contents were looked at since the run began,
 -- `differed` how many of them were not what a read had recorded, `queued` the number of reads that are queued, and
@@ -201,11 +201,13 @@ pub record IsEngine (e : EngineState) : Type 0 where
   pub few_numbers : IfSome e.heap (λ heap. next heap ≤ 2 * e.fuel)
   pub traced : e.phase ≡ IsFinished → IfSome (trace e) (IsTraced e)
   pub present : e.phase ≡ IsFinished → IsPresent e
-  -- no read is queued where nothing is to be done
+  -- no read is queued in a finished run
   pub idle : e.phase ≡ IsFinished → e.queued ≡ 0
   -- in Dropped nothing of a run is there, and no core block
   pub none_left : e.phase ≡ Dropped → (n : ℕ) → core e.memory n ≡ None
   pub heap_there : is_some e.heap ≡ has_run e.phase
+  -- where there is no run nothing is marked
+  pub unmarked : has_run e.phase ≡ false → e.marked ≡ None
 
 -- the phase after an edit
 abbrev pub phase_after_edit : Phase → Phase

@@ -83,12 +83,12 @@ running_in its.Dropped = None
 abbrev pub contents : Mods → CellContents
 contents mods = λ p. latest_value (cell_of mods p)
 
--- that many core blocks of a heap from a number on, each modifiable with its content
+-- the core blocks of a heap from number `n` on, `k` of them, each modifiable with its content
 abbrev pub cores_from : Code → CellContents → Contents → ℕ → ℕ → List (Option Block)
 cores_from code s heap n zero = []
 cores_from code s heap n (suc k) = block_after code (plain_of heap) s (Core n) ∷ cores_from code s heap (n + 1) k
 
--- the memory at the end of a run; without a run the inputs with their bases alone
+-- the memory at the end of a run; without a run only the inputs with their bases
 abbrev pub store_in : Code → List Block → Option Running → Store
 store_in code inputs None = record { inputs = inputs; cores = [] }
 store_in code inputs (Some run) = record {
@@ -179,7 +179,7 @@ pub record IsUpToDate (code : Code) (fuel : ℕ) (inputs : List Block) (call : C
   pub honest : IsHonest code inputs trace
   pub idle : run.tables.stale.stamps ≡ []
 
--- The run's nodes stand for a repair of the call that goes on; it is one with new blocks numbered in their
+-- The run's nodes stand for a repair of the call that is under way; it is one with new blocks numbered in their
 -- order, but that the new blocks have the numbers that the heap gave to them.
 pub record IsPartKept (code : Code) (fuel : ℕ) (inputs : List Block) (call : Call) (run : Running) : Type 0 where
   pub repair : Repair

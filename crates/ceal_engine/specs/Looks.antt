@@ -39,13 +39,13 @@ LooksOfRepair e n = IsCounted n
 abbrev pub LooksOfRun : EngineState → Type 0
 LooksOfRun e = IsCounted e → due e ≤ 5 * e.work + 2 * e.differed
 
--- a repair, or a run from nothing in its place, which begins to count anew
+-- a repair, or a run from nothing in its place, which begins to count again
 abbrev pub LooksOfEither : EngineState → EngineState → Type 0
 LooksOfEither e n =
     ((has_run e.phase ≡ true) × LooksOfRepair e n) ⊎ (IsSomeAnd (trace n) (IsFirst n) × LooksOfRun n)
 
--- From one engine to another by edits, new inputs and repairs, whole or in parts, in any order: so many edits there
--- were, and so many steps at most were re-executed.
+-- From one engine to another by edits, new inputs and repairs, whole or in parts, in any order: the numbers are that of
+-- the edits, and a bound of the steps that were re-executed.
 pub data Updates : EngineState → EngineState → ℕ → ℕ → Type 0 where
   none : {e : EngineState} → Updates e e 0 0
   edit : {s e n : EngineState} {edits steps : ℕ} → Updates s e edits steps → LooksOfEdit e n

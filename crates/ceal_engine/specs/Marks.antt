@@ -1,11 +1,10 @@
 -- What the places of an engine held at the end when they were marked.
-use Rattle.std.specs.Prelude.{◌≡◌, ◌⊎◌, true, None, IsSome, [], unwrap_or}
+use Rattle.std.specs.Prelude.{◌≡◌, ◌⊎◌, Bool, true, None, [], unwrap_or}
 use Rattle.ceal_base.specs.Access.{word_in}
 use Rattle.ceal_base.specs.Fitting.{kind_in}
 use Rattle.ceal_base.specs.declared.word.Place.{Place}
 use Rattle.ceal_base.specs.declared.word.Word.{Word}
 use Rattle.ceal_base.specs.declared.word.Word.TheVariants.{Null}
-use Rattle.ceal_code.specs.PlainWords.{block_word}
 use Rattle.ceal_code.specs.Value.{is_cell}
 use Rattle.ceal_engine.specs.Engine.{EngineState, block_in, stored_at}
 use Rattle.ceal_mods.specs.Marks.{held_in}
@@ -18,10 +17,12 @@ held_at_mark e p = held_in (unwrap_or e.marked []) p
 abbrev pub held_at_end : EngineState → Place → Word
 held_at_end e p = word_in (stored_at e.memory p.block) p.field Null
 
--- the place is that of a modifiable of an input or of a core block, which has a word there
-pub record IsModifiable (e : EngineState) (p : Place) : Type 0 where
-  pub kind : is_cell (kind_in e.code.structs (block_in e p.block) p.field) ≡ true
-  pub word : IsSome (block_word (stored_at e.memory p.block) p.field)
+-- the place is that of a modifiable of an input or of a core block
+abbrev pub is_modifiable : EngineState → Place → Bool
+is_modifiable e p = is_cell (kind_in e.code.structs (block_in e p.block) p.field)
+
+abbrev pub IsModifiable : EngineState → Place → Type 0
+IsModifiable e p = is_modifiable e p ≡ true
 
 -- what was marked is marked still, or nothing is
 abbrev pub KeepsMark : EngineState → EngineState → Type 0

@@ -1,4 +1,4 @@
--- An engine whose repair goes on, and what a slice makes of it.
+-- An engine whose repair is under way, and what a slice makes of it.
 use Rattle.std.specs.Prelude.{◌≡◌, ◌⊎◌, ◌<◌, ◌≤◌, ℕ, true, false, Option, Some, None, Result, Ok, Err, ⊤}
 use Rattle.std.specs.Option.{IsSomeAnd}
 use Rattle.ceal_base.specs.Block.{Block}
@@ -41,7 +41,7 @@ progress_of came.More = More
 progress_of came.Done = Done
 progress_of came.Anew = Done
 
--- how many steps were spent on the repair that goes on; a new one begins with none
+-- how many steps were spent on the repair that is under way; a new one begins with none
 abbrev pub spent_in : Phase → ℕ → ℕ
 spent_in New work = 0
 spent_in Finished work = 0
@@ -54,7 +54,7 @@ abbrev pub words_in : Option Contents → Plain
 words_in None b = None
 words_in (Some heap) b = plain_of heap b
 
--- the repair that a slice of an engine with this trace goes on with
+-- the repair that a slice of an engine with this trace continues
 abbrev pub carried_by : EngineState → Trace → Repair
 carried_by e l = record { items = l; known = words_in e.heap; number = 0; spent = spent_in e.phase e.work }
 
@@ -67,7 +67,7 @@ pub record CarriesRepair (e : EngineState) (next : ℕ) (r : Repair) : Type 0 wh
   pub sound : RepairHolds e.code own e.inputs call.function call.args r
   pub carried : Carried e.code e.inputs next r (carried_by e items)
 
--- a repair of the call goes on, and no more steps were spent on it than the fuel
+-- a repair of the call is under way, and no more steps were spent on it than the fuel
 pub record IsUnderWay (e : EngineState) : Type 0 where
   pub next : ℕ
   pub repair : Repair
@@ -83,7 +83,7 @@ pub record RenamedFrom (e : EngineState) (next : ℕ) (r : Repair) (l m : Trace)
   pub kept : (b c : ℕ) → Tied b c pairs → b < next → b ≡ c
   pub apart : (b c : ℕ) → Tied b c pairs → r.known (Core b) ≡ None → words_in e.heap (Core c) ≡ None
 
--- A slice of the repair is there, and is not done; its items are the engine's trace, and the engine goes on with it.
+-- A slice of the repair is there, and is not done; its items are the engine's trace, and the engine continues with it.
 pub record SliceContinues (e n : EngineState) (k : Option ℕ) (next : ℕ) (r : Repair) : Type 0 where
   pub repair : Repair
   pub is : sliced e.code own e.inputs k e.fuel r ≡ Some repair
@@ -99,10 +99,11 @@ pub record SliceEnds (e n : EngineState) (k : Option ℕ) (next : ℕ) (r : Repa
   pub items : IsSomeAnd (trace n) (RenamedFrom e next r repair.items)
   pub work : n.work ≡ repair.spent
 
--- No slice is there within the fuel; the call was run again.
+-- No slice is there within the fuel; the call was run again, and nothing is marked.
 pub record IsAnew (e n : EngineState) (k : Option ℕ) (r : Repair) : Type 0 where
   pub none : sliced e.code own e.inputs k e.fuel r ≡ None
   pub first : IsSomeAnd (trace n) (IsFirst n)
+  pub unmarked : n.marked ≡ None
 
 -- The call was run again in place of a repair that was under way.
 pub record IsRunAgain (e n : EngineState) (k : Option ℕ) : Type 0 where
@@ -123,7 +124,7 @@ IsOut e k r =
     (sliced e.code own e.inputs k e.fuel r ≡ None)
     ⊎ ((r' : Repair) × (sliced e.code own e.inputs k e.fuel r ≡ Some r') × (is_done e.code e.inputs r' ≡ true))
 
--- What that many reads, or all, make of the engine's repair, by the answer.
+-- What `k` reads, or all of them, make of the engine's repair, by the answer.
 abbrev pub RepairOutcome : EngineState → EngineState → Option ℕ → ℕ → Repair → Result Came RunError → Type 0
 RepairOutcome e n k next r (Ok came.More) = SliceContinues e n k next r
 RepairOutcome e n k next r (Ok came.Done) = SliceEnds e n k next r

@@ -64,7 +64,7 @@ pub record IsUnchanged (e : EngineState) (old : Trace) : Type 0 where
   pub same : trace e ≡ Some old
   pub work : e.work ≡ 0
 
--- Nodes at the beginning of the old list that agree with the walk over the present inputs stand as they were,
+-- Nodes at the beginning of the old list that agree with the walk over the present inputs stay as they were,
 -- each with its stamp, its content and its steps, in front of all others.
 abbrev pub KeepsFront : EngineState → EngineState → Type 0
 KeepsFront old new =

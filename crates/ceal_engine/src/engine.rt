@@ -35,9 +35,9 @@ mod runs;
 
 /// Runs trace code on inputs, and keeps the memory of the run up to date where inputs are edited.
 ///
-/// Contracts see the code and the fuel, the inputs with their present bases, the call, the phase, the trace of the last
-/// run with its nodes and its heap, and what a finished run came to: its memory by block numbers, its steps, its number
-/// of core blocks, and the work.
+/// Contracts see the code and the fuel, the inputs with their present bases, the call, the phase, and the trace of the
+/// last run with its nodes and its heap. Of a finished run they also see its memory by block numbers, its steps, its
+/// number of core blocks, and the work.
 #[derive(Drop)]
 pub struct Engine {
     alloc: Global,

@@ -49,7 +49,7 @@ fn push_node(items: &mut Vec<Item>, node: Seen<'_>) -> Result<(), NoMemory>
     }
 }
 
-/// Adds that many steps.
+/// Adds `steps` steps.
 fn push_steps(items: &mut Vec<Item>, steps: u32) -> Result<(), NoMemory>
     ensures { OnOk result (items.new.items ≡ items.old.items ++ ticks steps) }
 {

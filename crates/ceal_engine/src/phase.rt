@@ -12,7 +12,7 @@ pub enum Phase {
     Finished,
     /// a run, but an input was edited since
     Pending,
-    /// a part of a repair, which goes on
+    /// a part of a repair, which is under way
     Partial,
     /// no run: it was out of fuel, or there was no memory
     Dropped,

@@ -31,7 +31,7 @@ pub enum Stage {
     Finished,
     /// an input was edited since
     Pending,
-    /// a part of a repair, which goes on
+    /// a part of a repair, which is under way
     Partial,
 }
 
@@ -118,7 +118,7 @@ impl Run {
         drop(mem::replace(self, Run::Dropped));
     }
 
-    /// From now on this much work is told of the run.
+    /// From now on this is the work of the run.
     pub fn tell(&mut self, work: u32)
         ensures { self.new ≡ told_of work self.old }
     {

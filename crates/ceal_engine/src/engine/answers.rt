@@ -1,4 +1,4 @@
-// What an engine tells of its inputs, its run and its trace.
+// What can be asked of an engine: its inputs, its run and its trace.
 
 ghost use Rattle.std.specs.Prelude.{◌≡◌, ◌<◌, true, Some, None, IfOk, IsSome, MatchOption};
 ghost use Rattle.std.specs.Option.{option_map, IsSomeAnd};
@@ -76,7 +76,7 @@ impl Engine {
         self.run.finished().tables.trace.steps() as u32
     }
 
-    /// How many steps were re-executed for the last `run` or `propagate`. The step of a read belongs to what stands
+    /// How many steps were re-executed for the last `run` or `propagate`. The step of a read belongs to what is
     /// before the read, so a stale read by itself is no work.
     pub fn work(&self) -> u32
         requires { self.now.phase ≡ Finished }

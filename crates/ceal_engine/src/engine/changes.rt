@@ -1,11 +1,8 @@
 // Which places hold something else at the end than before.
 
-ghost use Rattle.std.specs.Prelude.{◌≡◌, ◌≢◌, ◌↔◌, true, is_some, map, Some, IfOk, IsSome, OnOk, OnErr};
-ghost use Rattle.ceal_base.specs.Fitting.{kind_in};
+ghost use Rattle.std.specs.Prelude.{◌≡◌, ◌≢◌, false, is_some, IfOk, IsSome, OnOk, OnErr};
 ghost use Rattle.ceal_base.specs.declared.word.Place.{Place as PlaceOf};
-ghost use Rattle.ceal_code.specs.Value.{is_cell};
-ghost use Rattle.ceal_engine.specs.Engine.{block_in};
-ghost use Rattle.ceal_engine.specs.Marks.{IsModifiable, held_at_end, held_at_mark};
+ghost use Rattle.ceal_engine.specs.Marks.{IsModifiable, held_at_end, held_at_mark, is_modifiable};
 ghost use Rattle.ceal_engine.specs.declared.phase.Phase.TheVariants.{Finished};
 ghost use Rattle.ceal_mods.specs.Marks.{times};
 
@@ -47,9 +44,7 @@ impl Engine {
         ensures only { IfOk result (λ places. (p : PlaceOf) → IsModifiable self.now p
             → held_at_end self.now p ≡ held_at_mark self.now p → times p places.items ≡ 0) }
         ensures modifiables { IfOk result (λ places. (p : PlaceOf)
-            → (is_cell (kind_in self.now.code.structs (block_in self.now p.block) p.field) ≡ true
-            → ⊥)
-            → times p places.items ≡ 0) }
+            → is_modifiable self.now p ≡ false → times p places.items ≡ 0) }
     {
         let told = self.run.finished().tables.mods.changed()?;
         let mut places = Vec::new(self.alloc);

@@ -153,6 +153,7 @@ returns-in_ok-run_again-in-Ok-Spent-clause-comes c = λ next r carries.
       none = subst (λ e. (CarriesRepair e next r → sliced_repair e.code own e.inputs c.args.reads e.fuel r ≡ None)) c.self.view_is
           (no-slice v.code v.fuel v.inputs v.run v.call.call c.self.invariant.keeps c.open.new.run is c.args.reads run c.in-Ok-Spent.field-0 sliced c.in-Ok-Spent.field-0-is next r) carries;
       first = c.in_ok-run_again-in-Ok-Spent.ensures.anew.first;
+      unmarked = c.in_ok-run_again-in-Ok-Spent.ensures.anew.unmarked;
     }
 
 -- the fuel was spent, and the run from nothing ended with an error

@@ -38,9 +38,9 @@ returns-clause-told c =
     ∙ ap (modifiables c.args.self.now) c.as_slice-place-items.ensures.value in
     λ p m differs.
     let fin = subst (λ (e : EngineState). e.phase ≡ Finished) (sym c.self.view_is) c.requires.finished in
-    let held = as-held v.code v.inputs v.fuel v.call.call v.run fin c.finished.result.now c.finished.ensures p (subst (λ (e : EngineState). IsModifiable e p) (sym c.self.view_is) m) in
+    let held = as-held v.code v.inputs v.fuel v.call v.run c.self.invariant fin c.finished.result.now c.finished.ensures p (subst (λ (e : EngineState). IsModifiable e p) (sym c.self.view_is) m) in
     ap (times p) all
-    ∙ (times-modifiable c.args.self.now p c.in_ok-told.told.items m.kind
+    ∙ (times-modifiable c.args.self.now p c.in_ok-told.told.items m
     ∙ c.in_ok-told.ensures.told p (λ same. differs (subst (λ (e : EngineState). held_at_end e p ≡ held_at_mark e p) c.self.view_is (sym held.0 ∙ (same ∙ held.1)))))
 
 pub returns-clause-only : goal.returns-clause-only
@@ -50,9 +50,9 @@ returns-clause-only c =
     ∙ ap (modifiables c.args.self.now) c.as_slice-place-items.ensures.value in
     λ p m same.
     let fin = subst (λ (e : EngineState). e.phase ≡ Finished) (sym c.self.view_is) c.requires.finished in
-    let held = as-held v.code v.inputs v.fuel v.call.call v.run fin c.finished.result.now c.finished.ensures p (subst (λ (e : EngineState). IsModifiable e p) (sym c.self.view_is) m) in
+    let held = as-held v.code v.inputs v.fuel v.call v.run c.self.invariant fin c.finished.result.now c.finished.ensures p (subst (λ (e : EngineState). IsModifiable e p) (sym c.self.view_is) m) in
     ap (times p) all
-    ∙ (times-modifiable c.args.self.now p c.in_ok-told.told.items m.kind
+    ∙ (times-modifiable c.args.self.now p c.in_ok-told.told.items m
     ∙ c.in_ok-told.ensures.only p (held.0 ∙ (subst (λ (e : EngineState). held_at_end e p ≡ held_at_mark e p) (sym c.self.view_is) same ∙ sym held.1)))
 
 pub returns-clause-modifiables : goal.returns-clause-modifiables

@@ -26,7 +26,7 @@ returns-clause-err c =
 
 -- a modifiable of the engine is one of the engine that is marked
 still : (e n : EngineState) (m : Option (List (Place × Word))) → n ≡ record e { marked = m } → (p : Place) → IsModifiable e p → (IsModifiable n p) × (held_at_end n p ≡ held_at_end e p)
-still e n m is p h = rw is (record { kind = h.kind; word = h.word }, refl)
+still e n m is p h = rw is (h, refl)
 
 pub returns-clause-marked : goal.returns-clause-marked
 returns-clause-marked c =
@@ -43,5 +43,6 @@ returns-clause-held c =
     map-ok c.mark.result _ _
     (λ held p modifiable.
     let there = still c.args.self.now (state_of v.code v.fuel v.inputs v.call.call c.mark.new.self) (marked_kept (running_in c.mark.new.self)) same p modifiable in
-    marked-held v.code v.inputs v.fuel v.call.call c.mark.new.self (ap (λ (e : EngineState). e.phase) same ∙ c.requires) held p there.0 ∙ there.1)
+    marked-held v.code v.inputs v.fuel v.call c.mark.new.self
+    (sound-left v.code v.fuel v.inputs v.call v.run c.mark.new.self c.mark.ensures.same c.self.invariant) (ap (λ (e : EngineState). e.phase) same ∙ c.requires) held p there.0 ∙ there.1)
     c.mark.ensures.held
