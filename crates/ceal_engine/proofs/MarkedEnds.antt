@@ -1,6 +1,6 @@
 -- What the places held when they were marked, and which of them are told as changed.
 use Rattle.std.proofs.Common.{◌≡◌, ◌+◌, ◌<◌, ◌≤◌, ℕ, suc, Bool, true, false, cond, inl, inr, Option, Some, None, List, [], ◌∷◌, ◌++◌, refl, sym, ap, subst, ◌∙◌}
-use Rattle.std.proofs.Common.{zero, length, get_or, drop, map, slice_get, slice_index, unwrap_or, append_assoc, append-nil, arith}
+use Rattle.std.proofs.Common.{pos, zero, length, get_or, drop, map, slice_get, slice_index, unwrap_or, append_assoc, append-nil, arith}
 use Rattle.std.specs.Option.{option_map}
 use Rattle.std.specs.Prelude.{IfSome, IsSome, is_some, OnOk, OnErr, Result, Ok, Err, ◌==◌}
 use Rattle.std.proofs.lemmas.Bool.{cases_Bool, false≢true}
@@ -12,35 +12,41 @@ use Rattle.ceal_base.specs.Fitting.{block_fits, fields_fit, fits_field, inputs_f
 use Rattle.ceal_base.specs.Same.{index_of, renamed_block, renamed_word}
 use Rattle.ceal_base.specs.Shapes.{kinds_of_shape}
 use Rattle.ceal_base.specs.contracts.word.PlacePartialEq.TheImpl.{ghosts}
+use Rattle.ceal_base.specs.Trace.{Trace}
+use Rattle.ceal_base.specs.declared.call.Call.{Call}
 use Rattle.ceal_base.specs.declared.kind.FieldKind.{FieldKind}
 use Rattle.ceal_base.specs.declared.typed.StructInfo.{StructInfo}
 use Rattle.ceal_base.specs.declared.word.BlockId.{BlockId}
 use Rattle.ceal_base.specs.declared.word.BlockId.TheVariants.{Input, Core}
 use Rattle.ceal_base.specs.declared.word.Place.{Place}
 use Rattle.ceal_base.specs.declared.word.Word.{Word}
-use Rattle.ceal_base.specs.declared.word.Word.TheVariants.{Null}
+use Rattle.ceal_base.specs.declared.word.Word.TheVariants.{Null, Num}
 use Rattle.ceal_code.proofs.Replay.FinalMemory.{get-map}
 use Rattle.ceal_code.proofs.Replay.ReplayedCall.{get-after}
-use Rattle.ceal_code.proofs.Words.SameIsEqual.{both, some-same}
+use Rattle.ceal_code.proofs.Words.SameIsEqual.{both, none-some, some-same}
 use Rattle.ceal_code.specs.PlainWords.{block_word}
 use Rattle.ceal_code.specs.Program.{Code}
-use Rattle.ceal_code.specs.Replay.{Store, filled, with_contents}
+use Rattle.ceal_code.specs.Replay.{IsHonest, Store, filled, with_contents}
 use Rattle.ceal_code.specs.Value.{is_cell}
 use Rattle.ceal_engine.proofs.Inputs.{all-get, fit-all}
 use Rattle.ceal_engine.proofs.Present.{sound-present}
+use Rattle.ceal_engine.proofs.RunMemory.{core-absent, input-absent}
 use Rattle.ceal_engine.proofs.ReadRun.{cell-content, core-is, kind-filled}
 use Rattle.ceal_engine.specs.Engine.{EngineState, IsPresent, block_in, block_of, core, stored_at}
-use Rattle.ceal_engine.specs.Keeping.{EngineInvariant, Kept, contents, marked_kept, phase_of, running_in, state_of, store_in}
+use Rattle.ceal_engine.specs.Keeping.{EngineInvariant, Keeps, Kept, contents, marked_kept, phase_of, running_in, state_of, store_in}
 use Rattle.ceal_engine.specs.Marks.{IsModifiable, held_at_end, held_at_mark}
 use Rattle.ceal_engine.specs.declared.phase.Phase.TheVariants.{Finished as IsFinished}
 use Rattle.ceal_engine.specs.declared.run.Run.{Run}
 use Rattle.ceal_engine.specs.declared.run.Run.TheVariants as its
 use Rattle.ceal_engine.specs.declared.run.Stage.{Stage}
-use Rattle.ceal_heap.specs.Heap.{plain_of as heap_words}
+use Rattle.ceal_engine.specs.declared.run.Stage.TheVariants as stage
+use Rattle.ceal_heap.specs.Heap.{plain_of as heap_words, standing}
 use Rattle.ceal_mods.proofs.IndexLemmas.{place-decides}
 use Rattle.ceal_mods.specs.Cell.{latest_value}
 use Rattle.ceal_mods.specs.Marks.{times}
 use Rattle.ceal_mods.specs.Mods.{cell_of, held_at_mark as held_by_mods}
+use Rattle.ceal_repair.specs.Answers.{IsKeptRun}
+use Rattle.ceal_repair.specs.Words.{default_by_standing}
 use Rattle.ceal_repair.specs.declared.running.Running.{Running}
 
 -- what follows where there is a result, or an error
@@ -107,6 +113,19 @@ core-word e present n f k =
 
 -- ---- what a modifiable holds at the end
 
+-- a finished run, with its trace
+record IsDoneRun (code : Code) (fuel : ℕ) (inputs : List Block) (r : Running) : Type 0 where
+  pub function : ℕ
+  pub args : List Word
+  pub trace : Trace
+  pub of : IsKeptRun code inputs function args fuel trace r
+  pub honest : IsHonest code inputs trace
+
+-- what the places of core blocks that are not there are marked with
+abbrev pub AbsentCores : EngineState → EngineState → Type 0
+AbsentCores e marked = IfSome e.heap (λ heap. (n field : ℕ) → core e.memory n ≡ None
+    → held_at_mark marked (record { block = Core n; field = field }) ≡ default_by_standing e.code.structs (standing heap (Core n)) field)
+
 module _ (code : Code) (inputs : List Block) where
   here : (s : Store) (b : BlockId) (n f : ℕ) (o : Option Block) → n ≡ f → is_cell (kind_in code.structs o f) ≡ true → IsSome (block_word (option_map (filled code s b) o) f)
       → s (record { block = b; field = n }) ≡ word_in (option_map (filled code s b) o) f Null
@@ -166,7 +185,17 @@ module _ (code : Code) (inputs : List Block) where
       (core-word e present n f (subst (λ (c : Code). is_cell (kind_in c.structs (core e.memory n) f) ≡ true) (sym same-code)
       (subst (λ m. is_cell (kind_in code.structs (core m n) f) ≡ true) (sym same-memory) h)))
 
+  none-filled : (s : Store) (b : BlockId) (o : Option Block) → option_map (filled code s b) o ≡ None → o ≡ None
+  none-filled s b None e = refl
+  none-filled s b (Some block) e = none-some (filled code s b block) (sym e)
+
   module _ (fuel : ℕ) (kept : Kept) where
+    done-run : (call : Option Call) (r : Running) (g : Stage) → Keeps code fuel inputs (its.Kept r g) call → phase_of (its.Kept r g) ≡ IsFinished → IsDoneRun code fuel inputs r
+    done-run None r g k e = elim k [ ]
+    done-run (Some call) r stage.Finished k e = record { function = call.function; args = call.args; trace = k.trace; of = k.of; honest = k.honest }
+    done-run (Some call) r stage.Pending k e = absurd (grind (arith, e))
+    done-run (Some call) r stage.Partial k e = absurd (grind (arith, e))
+
     abbrev state : Run → EngineState
     state run = state_of code fuel inputs kept.call run
 
@@ -191,6 +220,27 @@ module _ (code : Code) (inputs : List Block) where
     marked-held its.New s e h p m = absurd (grind (arith, e))
     marked-held (its.Kept r g) s e h p m = h p ∙ ends-so r g s e p m
     marked-held its.Dropped s e h p m = absurd (grind (arith, e))
+
+    -- the place of an input that is not there is marked with 0
+    pub marked-input : (run : Run) → EngineInvariant code fuel inputs kept run → phase_of run ≡ IsFinished
+        → IfSome (running_in run) (λ r. (p : Place) → held_by_mods r.tables.mods p ≡ latest_value (cell_of r.tables.mods p)) → (i field : ℕ) → length inputs ≤ i
+        → held_at_mark (state run) (record { block = Input i; field = field }) ≡ Num (pos 0)
+    marked-input its.New s e h i field out = absurd (grind (arith, e))
+    marked-input (its.Kept r g) s e h i field out =
+        let d = done-run kept.call r g s.keeps e in
+        h (record { block = Input i; field = field }) ∙ input-absent code inputs d.function d.args fuel d.trace r d.of d.honest i field out
+    marked-input its.Dropped s e h i field out = absurd (grind (arith, e))
+
+    -- and that of a core block that is not there with what it holds before any write
+    pub marked-core : (run : Run) → EngineInvariant code fuel inputs kept run → phase_of run ≡ IsFinished
+        → IfSome (running_in run) (λ r. (p : Place) → held_by_mods r.tables.mods p ≡ latest_value (cell_of r.tables.mods p)) → AbsentCores (state run) (state run)
+    marked-core its.New s e h = absurd (grind (arith, e))
+    marked-core (its.Kept r g) s e h = λ n field none.
+        let d = done-run kept.call r g s.keeps e in
+        h (record { block = Core n; field = field })
+        ∙ core-absent code inputs d.function d.args fuel d.trace r d.of d.honest n field
+        (none-filled (contents r.tables.mods) (Core n) (heap_words r.heap (Core n)) (sym (core-is code inputs r n) ∙ none))
+    marked-core its.Dropped s e h = absurd (grind (arith, e))
 
 -- a finished run is marked
 pub there-marked : (run : Run) → phase_of run ≡ IsFinished → is_some (marked_kept (running_in run)) ≡ is_some (running_in run) → IsSome (marked_kept (running_in run))

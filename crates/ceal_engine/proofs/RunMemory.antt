@@ -1,9 +1,10 @@
 -- The memory of a run: what its modifiables hold is what the trace leaves, its heap has the blocks of the trace.
 use Rattle.std.proofs.Common.{◌≡◌, ℕ, zero, suc, ◌+◌, ◌<◌, ◌≤◌, nat_le, Bool, true, false, Option, Some, None, List, [], ◌∷◌, ◌++◌, length, slice_get, refl, sym, ap, ap₂, subst, ◌∙◌, arith}
-use Rattle.std.proofs.Common.{append-nil}
+use Rattle.std.proofs.Common.{append-nil, pos, if◌then◌else◌, inl, inr, ◌⊎◌}
 use Rattle.std.specs.Option.{option_map}
 use Rattle.ceal_base.proofs.TraceLemmas.{steps-flat}
 use Rattle.ceal_base.specs.Block.{Block}
+use Rattle.ceal_base.specs.Operators.{same_place}
 use Rattle.ceal_base.specs.Trace.{Trace, Nothing, Stepped, Allocated, Wrote, WasRead, flat, steps_of, blocks_of, steps_in}
 use Rattle.ceal_base.specs.declared.forest.Item.{Item}
 use Rattle.ceal_base.specs.declared.forest.Item.TheVariants as item
@@ -11,13 +12,14 @@ use Rattle.ceal_base.specs.declared.word.BlockId.{BlockId}
 use Rattle.ceal_base.specs.declared.word.BlockId.TheVariants.{Input, Core}
 use Rattle.ceal_base.specs.declared.word.Place.{Place}
 use Rattle.ceal_base.specs.declared.word.Word.{Word}
+use Rattle.ceal_base.specs.declared.word.Word.TheVariants.{Num}
 use Rattle.ceal_code.proofs.Replay.AfterLaws.{store-law, inputs-law}
 use Rattle.ceal_code.proofs.Replay.MemoryChanges.{get-within}
 use Rattle.ceal_code.proofs.Replay.ReplayedCall.{get-after}
-use Rattle.ceal_code.proofs.Words.SameIsEqual.{some-same, none-some}
+use Rattle.ceal_code.proofs.Words.SameIsEqual.{some-same, none-some, place-same}
 use Rattle.ceal_code.specs.After.{store_after, memory_after}
 use Rattle.ceal_code.specs.Program.{Code}
-use Rattle.ceal_code.specs.Replay.{Store, In, here, there, KnownBlock, count, core_numbers, bases, plain_of, cell_default, filled, block_after, inputs_after, IsHonest}
+use Rattle.ceal_code.specs.Replay.{Store, In, here, there, KnownBlock, count, core_numbers, bases, plain_of, cell_default, content_in, filled, block_after, inputs_after, IsHonest}
 use Rattle.ceal_code.specs.Value.{Plain, field_kind}
 use Rattle.ceal_engine.proofs.Inputs.{extended-refl}
 use Rattle.ceal_engine.proofs.LiveCount.{number-of}
@@ -28,7 +30,7 @@ use Rattle.ceal_heap.specs.Heap.{Contents, Known, Standing, Unused, Live, Revoke
 use Rattle.ceal_mods.specs.Mods.{Contents as Mods, cell_of}
 use Rattle.ceal_mods.specs.Writes.{Write as WriteOf, last_of}
 use Rattle.ceal_repair.proofs.Nodes.NodeItems.{allocs-append, known-more}
-use Rattle.ceal_repair.proofs.Runs.NewBlock.{count-in, in-count, contents-written}
+use Rattle.ceal_repair.proofs.Runs.NewBlock.{count-in, in-count, contents-written, unwritten}
 use Rattle.ceal_repair.proofs.Lists.ListChanges.{last-contents}
 use Rattle.ceal_repair.specs.Answers.{StandsForTrace, IsKeptRun}
 use Rattle.ceal_repair.specs.Kept.{base_in}
@@ -44,6 +46,7 @@ use Rattle.ceal_theory.proofs.Store.Walk.{flat-honest, flat-after}
 use Rattle.ceal_theory.specs.Adjust.{Above}
 use Rattle.ceal_theory.specs.Cover.{known_after}
 use Rattle.ceal_theory.specs.KnownContent.{allocs, written_after}
+use Rattle.ceal_theory.specs.Known.{KnownItems}
 use Rattle.ceal_theory.specs.Listed.{Listed}
 use Rattle.ceal_theory.specs.Repair.{own}
 use Rattle.ceal_theory.specs.Slices.{beginning, starting, default_in, RepairHolds}
@@ -74,6 +77,37 @@ allocs-known bs (item.Alloc (Input c) key ∷ is) b i = allocs-known bs is b i
 allocs-known bs (item.Write p value ∷ is) b i = allocs-known bs is b i
 allocs-known bs (item.Read p value u v args ∷ is) b i = allocs-known bs is b i
 allocs-known bs (item.End ∷ is) b i = allocs-known bs is b i
+
+-- and what is known after them is what was known before, or what they allocate
+known-turn : (b c : ℕ) (bs ds : List ℕ) → In b (c ∷ bs) ⊎ In b ds → In b bs ⊎ In b (c ∷ ds)
+known-turn b c bs ds (inl here) = inr here
+known-turn b c bs ds (inl (there i)) = inl i
+known-turn b c bs ds (inr i) = inr (there i)
+
+known-from : (bs : List ℕ) (is : List Item) (b : ℕ) → In b (known_after bs is) → In b bs ⊎ In b (allocs is)
+known-from bs [] b i = inl i
+known-from bs (item.Step ∷ is) b i = known-from bs is b i
+known-from bs (item.Alloc (Core c) key ∷ is) b i = known-turn b c bs (allocs is) (known-from (c ∷ bs) is b i)
+known-from bs (item.Alloc (Input c) key ∷ is) b i = known-from bs is b i
+known-from bs (item.Write p value ∷ is) b i = known-from bs is b i
+known-from bs (item.Read p value u v args ∷ is) b i = known-from bs is b i
+known-from bs (item.End ∷ is) b i = known-from bs is b i
+
+-- no item writes a place of an input that is not there
+unwritten-input : {n : ℕ} {bs cs : List ℕ} {is : List Item} → KnownItems n bs is cs → (p : Place) (i : ℕ) → p.block ≡ Input i → n ≤ i → (w : Word) → written_after p w is ≡ w
+unwritten-input KnownItems.none p i e l w = refl
+unwritten-input (KnownItems.step k) p i e l w = unwritten-input k p i e l w
+unwritten-input (KnownItems.close k) p i e l w = unwritten-input k p i e l w
+unwritten-input (KnownItems.alloc a k) p i e l w = unwritten-input k p i e l w
+unwritten-input {n} {bs} (KnownItems.write {p = q} {value = v} {is = is} a c k) p i e l w =
+    ap (λ (x : Word). written_after p x is) (other (same_place p q) refl) ∙ unwritten-input k p i e l w
+  where
+    other : (t : Bool) → same_place p q ≡ t → (if same_place p q then v else w) ≡ w
+    other false s = rw s refl
+    other true s =
+        let less : i < n = subst (KnownBlock n bs) (ap (λ (z : Place). z.block) (sym (place-same p q s)) ∙ e) a in
+        absurd (omega (arith, less, l))
+unwritten-input (KnownItems.read a c d k) p i e l w = unwritten-input k p i e l w
 
 -- the blocks of the trace have numbers below the next one of the heap
 pub low-numbers : (code : Code) (inputs : List Block) (l : Trace) (run : Running) → StandsForTrace code inputs l run → Above (next run.heap) l
@@ -213,6 +247,27 @@ module _ (code : Code) (inputs : List Block) (f : ℕ) (args : List Word) (fuel 
       cores-are code (contents mods) run.heap n
       ∙ after-known code (heap_words run.heap) words (contents mods) (store_after code (bases code inputs) l) (Core n) (heap_words run.heap (Core n)) refl (sym (k.stands.words n))
       (λ block e field. core-held n block e field ∙ ap (λ (s : Store). s (record { block = Core n; field = field })) after-store)
+
+  -- no place of an input that is not there is written, and so it holds 0
+  pub input-absent : (i field : ℕ) → length inputs ≤ i → contents mods (record { block = Input i; field = field }) ≡ Num (pos 0)
+  input-absent i field out =
+      latest (record { block = Input i; field = field })
+      ∙ (unwritten-input listed.items (record { block = Input i; field = field }) i refl out (base_in mods (record { block = Input i; field = field }))
+      ∙ (k.stands.blocks.bases.of_inputs i field ∙ ap (λ o. content_in code.structs o field) (get-out inputs i out)))
+
+  -- nor is one of a core block that is not there, which holds what its number does before any write
+  not-known : (n : ℕ) → heap_words run.heap (Core n) ≡ None → In n [] ⊎ In n (allocs (flat l)) → ⊥
+  not-known n e (inl i) = elim i [ ]
+  not-known n e (inr i) =
+      let live = (k.stands.blocks.lives.live n).1 (subst (λ is. In n (allocs is)) (sym k.stands.items) i) in
+      none-some (plain_block live.0) (sym e ∙ ap (λ (st : Standing). option_map plain_block (known st)) live.1)
+
+  pub core-absent : (n field : ℕ) → heap_words run.heap (Core n) ≡ None
+      → contents mods (record { block = Core n; field = field }) ≡ default_by_standing code.structs (standing run.heap (Core n)) field
+  core-absent n field e =
+      latest (record { block = Core n; field = field })
+      ∙ (unwritten listed.items (record { block = Core n; field = field }) n refl (λ i. not-known n e (known-from [] (flat l) n i)) (base_in mods (record { block = Core n; field = field }))
+      ∙ k.stands.blocks.bases.of_cores n field)
 
 -- its steps are those of the trace
 pub steps-held : (code : Code) (inputs : List Block) (f : ℕ) (args : List Word) (fuel : ℕ) (l : Trace) (run : Running) → IsKeptRun code inputs f args fuel l run → steps_kept (Some run) ≡ steps_of l

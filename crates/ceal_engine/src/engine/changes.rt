@@ -1,10 +1,16 @@
 // Which places hold something else at the end than before.
 
-ghost use Rattle.std.specs.Prelude.{◌≡◌, ◌≢◌, false, is_some, IfOk, IsSome, OnOk, OnErr};
+ghost use Rattle.std.specs.Prelude.{◌≡◌, ◌≢◌, ◌≤◌, ℕ, pos, false, is_some, None, length};
+ghost use Rattle.std.specs.Prelude.{IfOk, IfSome, IsSome, OnOk, OnErr};
+ghost use Rattle.ceal_base.specs.declared.word.BlockId.TheVariants.{Core, Input};
 ghost use Rattle.ceal_base.specs.declared.word.Place.{Place as PlaceOf};
+ghost use Rattle.ceal_base.specs.declared.word.Word.TheVariants.{Num};
+ghost use Rattle.ceal_engine.specs.Engine.{core};
 ghost use Rattle.ceal_engine.specs.Marks.{IsModifiable, held_at_end, held_at_mark, is_modifiable};
 ghost use Rattle.ceal_engine.specs.declared.phase.Phase.TheVariants.{Finished};
+ghost use Rattle.ceal_heap.specs.Heap.{standing};
 ghost use Rattle.ceal_mods.specs.Marks.{times};
+ghost use Rattle.ceal_repair.specs.Words.{default_by_standing};
 
 use super::Engine;
 use ceal_base::no_memory::NoMemory;
@@ -13,13 +19,19 @@ use ceal_base::word::Place;
 impl Engine {
     /// From now on `changed` compares what the places hold at the end of a run with what they hold now. The first time
     /// since the call was run from nothing it goes through all places that were touched, and later through those that
-    /// were made, edited or written since.
+    /// were made, edited or written since. A place whose block is not there has what it holds before any write.
     pub fn mark(&mut self) -> Result<(), NoMemory>
         requires { self.old.phase ≡ Finished }
         ensures same { self.new ≡ record self.old { marked = self.new.marked } }
         ensures marked { OnOk result (IsSome self.new.marked) }
         ensures held { OnOk result ((p : PlaceOf) → IsModifiable self.old p
             → held_at_mark self.new p ≡ held_at_end self.old p) }
+        ensures no_input { OnOk result ((i field : ℕ) → length self.old.inputs ≤ i
+            → held_at_mark self.new (record { block = Input i; field = field }) ≡ Num (pos 0)) }
+        ensures no_core { OnOk result (IfSome self.old.heap (λ heap. (n field : ℕ)
+            → core self.old.memory n ≡ None
+            → held_at_mark self.new (record { block = Core n; field = field })
+            ≡ default_by_standing self.old.code.structs (standing heap (Core n)) field)) }
         ensures err { OnErr result (self.new ≡ self.old) }
     {
         self.run.mark()

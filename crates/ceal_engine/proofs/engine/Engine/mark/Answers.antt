@@ -1,8 +1,8 @@
-use Rattle.std.proofs.Common.{◌≡◌, ◌∙◌, List, Option, ap, refl}
+use Rattle.std.proofs.Common.{◌≡◌, ◌∙◌, ◌≤◌, List, Option, length, ap, refl, subst, sym}
 use Rattle.ceal_base.specs.declared.word.Place.{Place}
 use Rattle.ceal_base.specs.declared.word.Word.{Word}
 use Rattle.ceal_engine.proofs.Keeping.{run-kept, sound-left, state-marked}
-use Rattle.ceal_engine.proofs.MarkedEnds.{map-ok, map-err, marked-held, there-marked}
+use Rattle.ceal_engine.proofs.MarkedEnds.{AbsentCores, map-ok, map-err, marked-core, marked-held, marked-input, there-marked}
 use Rattle.ceal_engine.specs.Engine.{EngineState}
 use Rattle.ceal_engine.specs.Keeping.{marked_kept, running_in, state_of}
 use Rattle.ceal_engine.specs.Marks.{IsModifiable, held_at_end}
@@ -45,4 +45,28 @@ returns-clause-held c =
     let there = still c.args.self.now (state_of v.code v.fuel v.inputs v.call.call c.mark.new.self) (marked_kept (running_in c.mark.new.self)) same p modifiable in
     marked-held v.code v.inputs v.fuel v.call c.mark.new.self
     (sound-left v.code v.fuel v.inputs v.call v.run c.mark.new.self c.mark.ensures.same c.self.invariant) (ap (λ (e : EngineState). e.phase) same ∙ c.requires) held p there.0 ∙ there.1)
+    c.mark.ensures.held
+
+pub returns-clause-no_input : goal.returns-clause-no_input
+returns-clause-no_input c =
+    let v = c.self.inside in
+    let same = state-marked v.code v.fuel v.inputs v.call.call v.run c.mark.new.self c.mark.ensures.same
+    ∙ ap (λ (e : EngineState). record e { marked = marked_kept (running_in c.mark.new.self) }) c.self.view_is in
+    map-ok c.mark.result _ _
+    (λ held i field out.
+    marked-input v.code v.inputs v.fuel v.call c.mark.new.self
+    (sound-left v.code v.fuel v.inputs v.call v.run c.mark.new.self c.mark.ensures.same c.self.invariant) (ap (λ (e : EngineState). e.phase) same ∙ c.requires) held i field
+    (subst (λ (e : EngineState). length e.inputs ≤ i) (sym c.self.view_is) out))
+    c.mark.ensures.held
+
+pub returns-clause-no_core : goal.returns-clause-no_core
+returns-clause-no_core c =
+    let v = c.self.inside in
+    let same = state-marked v.code v.fuel v.inputs v.call.call v.run c.mark.new.self c.mark.ensures.same
+    ∙ ap (λ (e : EngineState). record e { marked = marked_kept (running_in c.mark.new.self) }) c.self.view_is in
+    map-ok c.mark.result _ _
+    (λ held.
+    subst (λ (e : EngineState). AbsentCores e (state_of v.code v.fuel v.inputs v.call.call c.mark.new.self)) same
+    (marked-core v.code v.inputs v.fuel v.call c.mark.new.self
+    (sound-left v.code v.fuel v.inputs v.call v.run c.mark.new.self c.mark.ensures.same c.self.invariant) (ap (λ (e : EngineState). e.phase) same ∙ c.requires) held))
     c.mark.ensures.held
