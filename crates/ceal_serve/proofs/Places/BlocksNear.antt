@@ -1,12 +1,16 @@
 -- Where a program is near, so are the places of its blocks.
-use Rattle.std.proofs.Common.{◌≡◌, ℕ, zero, suc, Option, Some, None, List, [], ◌∷◌, slice_get, subst}
+use Rattle.std.proofs.Common.{◌≡◌, ℕ, zero, suc, Option, Some, None, List, [], ◌∷◌, ◌++◌, slice_get, subst}
+use Rattle.ceal_base.specs.declared.fault.Span.{Span}
 use Rattle.ceal_base.specs.declared.typed.TypedFunction.{TypedFunction}
 use Rattle.ceal_base.specs.declared.typed.TypedStmt.{TypedStmt, Declare, Assign, SetField, Write, Call, If', While', Return, Break, Continue}
 use Rattle.ceal_base.specs.declared.typed.TypedStmt.{Row_of-TypedStmt, end_of-TypedStmt, more_of-TypedStmt}
 use Rattle.ceal_flow.specs.Lowering.{places, row_places, all_places, places_in, function_places}
-use Rattle.ceal_serve.proofs.Places.Near.{Near, Each, both, TypedStmtNear, TypedStmtsNear, FunctionNear}
+use Rattle.ceal_serve.proofs.Places.Near.{Near, Each, each-append, TypedStmtNear, TypedStmtsNear, FunctionNear}
 
 module _ (n : ℕ) where
+  both : (a b : List Span) → Each (Near n) a → Each (Near n) b → Each (Near n) (a ++ b)
+  both a b h k = each-append (Near n) a b h k
+
   mutual
     unfolding places TypedStmtNear Each
 

@@ -36,14 +36,10 @@ unfoldable pub Each : {A : Type 0} → (A → Type 0) → List A → Type 0
 Each P [] = Unit {0}
 Each P (x ∷ xs) = P x × Each P xs
 
-pub none : {A : Type 0} {P : A → Type 0} → Each P []
+pub each-append : {A : Type 0} (P : A → Type 0) (xs ys : List A) → Each P xs → Each P ys → Each P (xs ++ ys)
 unfolding Each
-none = tt
-
-pub both : {A : Type 0} {P : A → Type 0} (xs ys : List A) → Each P xs → Each P ys → Each P (xs ++ ys)
-unfolding Each
-both [] ys h k = k
-both (x ∷ xs) ys h k = (h.0, both xs ys h.1 k)
+each-append P [] ys h k = k
+each-append P (x ∷ xs) ys h k = (h.0, each-append P xs ys h.1 k)
 
 abbrev pub FaultNear : ℕ → Fault → Type 0
 FaultNear n f = Near n f.span
@@ -52,13 +48,21 @@ FaultNear n f = Near n f.span
 abbrev pub AllNear : ℕ → List Fault → Type 0
 AllNear n fs = Each (FaultNear n) fs
 
-pub one-near : {n : ℕ} (code : FaultCode) (at : Span) → Near n at → AllNear n (record { code = code; span = at } ∷ [])
-unfolding Each
-one-near code at h = (h, tt)
+module _ (n : ℕ) where
+  pub none : AllNear n []
+  unfolding Each
+  none = tt
 
-pub unless-near : {n : ℕ} (b : Bool) (code : FaultCode) (at : Span) → Near n at → AllNear n (if b then [] else record { code = code; span = at } ∷ [])
-unless-near true code at h = none
-unless-near false code at h = one-near code at h
+  pub both : (a b : List Fault) → AllNear n a → AllNear n b → AllNear n (a ++ b)
+  both a b h k = each-append (FaultNear n) a b h k
+
+  pub one-near : (code : FaultCode) (at : Span) → Near n at → AllNear n (record { code = code; span = at } ∷ [])
+  unfolding Each
+  one-near code at h = (h, tt)
+
+  pub unless-near : (b : Bool) (code : FaultCode) (at : Span) → Near n at → AllNear n (if b then [] else record { code = code; span = at } ∷ [])
+  unless-near true code at h = none
+  unless-near false code at h = one-near code at h
 
 unfoldable mutual
   pub FormNear : ℕ → ExprForm → Type 0
