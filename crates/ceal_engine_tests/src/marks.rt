@@ -43,15 +43,13 @@ fn engine(alloc: Global, program: &[u8]) -> Result<Engine, Fail> {
 fn has_changed<R: Abort>(rt: &R, engine: &Engine, wanted: &[Place]) -> Result<(), Fail> {
     let places = changed(engine)?;
     let count = places.len();
-    let mut found = 0;
+    let mut all = true;
     for place in wanted {
-        if places.contains(place) {
-            found = found + 1;
-        }
+        all = all && places.contains(place);
     }
     drop(places);
     equal(rt, count, wanted.len());
-    equal(rt, found, wanted.len());
+    holds(rt, all);
     Ok(())
 }
 
@@ -84,7 +82,8 @@ fn an_output_that_changed(rt: HostRuntime) -> Result<(), Fail> {
     told
 }
 
-/// A cell is put before the list 1, 2: what points to the lists, and the tails of the new cell and of its image.
+/// A cell is put before the list 1, 2. Then the two modifiables that point to the lists have changed, and the tails of
+/// the new cell and of its image.
 fn puts_before<R: Abort>(rt: &R, engine: &mut Engine) -> Result<(), Fail> {
     add(engine, Shape::Struct(0), &[Word::Num(2), Word::Null])?;
     add(engine, Shape::Struct(0), &[Word::Num(1), input(0)])?;
