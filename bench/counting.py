@@ -42,13 +42,19 @@ def counted(program, text, words=RUN):
     return int(found[1])
 
 
+def rounds_for(work):
+    """How often an edit is made and undone. The memo's seed comes of the whole text, so the run of a longer script differs by some thousand
+    instructions: where an update takes few, many of them are counted."""
+    return 1 if work > 10_000 else ROUNDS if work > 100 else 32 * ROUNDS
+
+
 def update_of(program, name, before, ran, edit):
     title, lines = edit[0], lines_of(edit)
     told = program.once(RUN, input_of(name, [*before, *(it for line in lines for it in (line, 'propagate', 'work'))])).written.split()[-3 * len(lines) :]
     if any(it != 'ok' for it in told[0::3] + told[1::3]):
         raise Failed(f'{name}: an update was not carried out: {told}')
     works = [int(it) for it in told[2::3]]
-    rounds = 1 if sum(works) > 10_000 else ROUNDS
+    rounds = rounds_for(sum(works))
     script = before + [it for line in lines for it in (line, 'propagate')] * rounds
     spent = counted(program.path, input_of(name, script)) - ran
     return Update(title, sum(works) / len(works), spent / (rounds * len(lines)))
