@@ -72,8 +72,8 @@ trace_then Nothing t = t
 trace_then (Stepped rest) t = Stepped (trace_then rest t)
 trace_then (Allocated block key rest) t = Allocated block key (trace_then rest t)
 trace_then (Wrote place value rest) t = Wrote place value (trace_then rest t)
-trace_then (WasRead place value unit var args inside rest) t = WasRead place value unit var args inside
-    (trace_then rest t)
+trace_then (WasRead place value unit var args inside rest) t =
+    WasRead place value unit var args inside (trace_then rest t)
 
 -- how many steps are among the items
 abbrev pub steps_in : List Item → ℕ

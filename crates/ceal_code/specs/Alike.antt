@@ -129,7 +129,7 @@ pub data TraceAlike (ps : Pairs) : Trace → Trace → Type 0 where
 abbrev pub Within : Pairs → Pairs → Type 0
 Within ps qs = (b c : ℕ) → Tied b c ps → Tied b c qs
 
--- no number stands in two pairs on one side
+-- no number is in two different pairs on the same side
 pub record OneToOne (ps : Pairs) : Type 0 where
   pub left : (b c d : ℕ) → Tied b c ps → Tied b d ps → c ≡ d
   pub right : (b c d : ℕ) → Tied b d ps → Tied c d ps → b ≡ c

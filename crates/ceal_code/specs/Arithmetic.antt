@@ -1,4 +1,4 @@
--- Operators that look at numbers alone.
+-- Operators that look only at numbers.
 use Rattle.std.specs.Prelude.{◌≡◌}
 use Rattle.ceal_base.specs.Operators.{number_of, numbers_value, binary_value}
 use Rattle.ceal_base.specs.declared.operators.Binary.{Binary}

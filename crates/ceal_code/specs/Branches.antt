@@ -6,7 +6,7 @@ use Rattle.ceal_code.specs.Program.{Code}
 use Rattle.ceal_code.specs.declared.branches.Branch.{Branch}
 use Rattle.ceal_code.specs.declared.command.Cmd.{Cmd}
 
--- the lines of a branch; one that is a no part has its `else` before it and stands one level deeper
+-- the lines of a branch; one that is a no part has its `else` before it and is one level deeper
 abbrev pub branch_text : Code → List Cmd → Branch → List ℕ
 branch_text code body b =
     if b.is_no then line b.depth (codes "else") ++ commands code body b.left b.index (b.depth + 1)

@@ -23,7 +23,7 @@ ran code again steps m (Reads p u v args below) =
     again m
     (entered code u.0 (words_after_read code u.0 v args (content_of m (At p) (variable_default code u.0 v))) below)
 
--- what a run without fuel comes to: nothing, unless it is over
+-- the result of a run without fuel: nothing, unless it is over
 abbrev pub only_over : ℕ → Blocks → Act → Option Finished
 only_over steps m Over = Some (record { memory = m; steps = steps; blocks = length m.made })
 only_over steps m _ = None

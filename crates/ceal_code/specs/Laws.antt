@@ -51,8 +51,8 @@ TraceLaw = (code : Code) (inputs : List Block) (f : ℕ) (args : List Word) → 
     → (l : Trace) → Replays code inputs f args l → (h : IsHonest code inputs l)
     → Determined code inputs f args l h.after
 
--- in valid code some path comes to each command of a unit's body, and the command is right for what is known
--- on each path to it
+-- in valid code some path reaches each command of a unit's body, and the command is right for what is known on each
+-- path to it
 abbrev pub PathLaw : Type 0
 PathLaw = (code : Code) → valid code ≡ true → (u : ℕ) (unit : Unit) → slice_get code.units u ≡ Some unit
     → (i : ℕ) (c : Cmd) → slice_get unit.body i ≡ Some c → IsReached code unit i
@@ -66,14 +66,14 @@ ProgressLaw = (code : Code) → valid code ≡ true
     → (m : Blocks) (st : Stack)
     → Reaches code (record { inputs = inputs; made = [] }) (started code f args) m st → NotStuck code m st
 
--- a finished run is at a state that it came to, by as many steps as it tells, and at the end
+-- a finished run is at a state that it reached in as many steps as it tells, and at the end
 pub record Ended (code : Code) (inputs : List Block) (f : ℕ) (args : List Word) (r : Finished) : Type 0 where
   pub stack : Stack
   pub takes : Takes code (record { inputs = inputs; made = [] }) (started code f args) r.steps r.memory stack
   pub reaches : Reaches code (record { inputs = inputs; made = [] }) (started code f args) r.memory stack
   pub over : next code (block_at r.memory) stack ≡ Over
 
--- a run is at a state that it came to by that many steps, and goes on from there
+-- a run is at a state that it reached in `steps` steps, and continues from there
 pub record GoesFurther (code : Code) (inputs : List Block) (f : ℕ) (args : List Word) (steps : ℕ) : Type 0 where
   pub memory : Blocks
   pub stack : Stack

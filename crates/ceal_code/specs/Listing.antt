@@ -109,7 +109,7 @@ unfoldable mutual
   operand_text structs end_of-CodeExpr = []
   operand_text structs (more_of-CodeExpr e rest) = expr_text structs e
 
--- the items after the first, each with what stands between two
+-- the texts of the expressions after the first, with a comma before each
 unfoldable pub more_exprs : List StructInfo → List CodeExpr → List ℕ
 more_exprs structs [] = []
 more_exprs structs (e ∷ es) = codes ", " ++ expr_text structs e ++ more_exprs structs es
@@ -143,7 +143,7 @@ shape_text structs ModInt = codes "int"
 shape_text structs (ModPtr s) = name_of_struct (slice_get structs s)
 shape_text structs (Struct s) = name_of_struct (slice_get structs s)
 
--- a command's line, without what stands before it and its end
+-- a command's line, without its indentation and its end
 unfoldable pub command_text : Code → Cmd → List ℕ
 command_text code (Move v e) = var_text v ++ codes " = " ++ expr_text code.structs e
 command_text code Tick = codes "tick"
@@ -171,7 +171,7 @@ indent (suc n) = codes "  " ++ indent n
 abbrev pub line : ℕ → List ℕ → List ℕ
 line depth text = indent depth ++ text ++ codes "\n"
 
--- what stands at these indices: at two of them, the parts of an `if`
+-- what is at these indices: at two of them, the parts of an `if`
 abbrev pub at_each : (ℕ → ℕ → List ℕ) → List ℕ → ℕ → List ℕ
 at_each on [] depth = []
 at_each on (i ∷ []) depth = on i depth

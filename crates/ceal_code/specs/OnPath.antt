@@ -1,4 +1,4 @@
--- The commands of a unit's body that a run may come to, and what it knows there.
+-- The commands of a unit's body that a run may reach, and what it knows there.
 use Rattle.std.specs.Prelude.{◌≡◌, ℕ, Bool, true, false, Some, List, length, replicate, slice_get, slice_set, Contains}
 use Rattle.ceal_code.specs.Program.{Unit, Code}
 use Rattle.ceal_code.specs.Step.{kinds_of}
@@ -17,14 +17,14 @@ known_after known (Alloc v g args) = slice_set known v.0 true
 known_after known (Modref v shape) = slice_set known v.0 true
 known_after known _ = known
 
--- an index lies on a path from the first, on which these variables have got a word; `stepped` says that a command
--- stands before it on the path
+-- an index lies on a path from the first, on which these variables have got a word; `stepped` says that a command is
+-- before it on the path
 pub data IsOnPath (code : Code) (unit : Unit) : ℕ → (known : List Bool) → (stepped : Bool) → Type 0 where
   first : IsOnPath code unit 0 (params_known code unit) false
   next : {i j : ℕ} {known : List Bool} {stepped : Bool} {c : Cmd} → IsOnPath code unit i known stepped
       → slice_get unit.body i ≡ Some c → Contains (followers c i) j → IsOnPath code unit j (known_after known c) true
 
--- some path comes to the index
+-- some path reaches the index
 pub record IsReached (code : Code) (unit : Unit) (i : ℕ) : Type 0 where
   pub known : List Bool
   pub stepped : Bool

@@ -51,14 +51,14 @@ pub data Yields (code : Code) (x : Plain) : Stack → Trace → Type 0 where
 unfoldable pub learnt : Plain → BlockId → Block → Plain
 learnt x b block = λ c. if same_block c b then Some block else x c
 
--- the plain words of a block: in place of the contents of its modifiables stand their defaults
+-- the plain words of a block: those of its modifiables are their defaults, in place of their contents
 abbrev pub plain_words : List FieldKind → List Word → List Word
 plain_words [] words = words
 plain_words (kind ∷ kinds) [] = []
 plain_words (kind ∷ kinds) (word ∷ words) =
     (if is_cell (Some kind) then default_of_field kind else word) ∷ plain_words kinds words
 
--- a block with its plain words alone
+-- a block with only its plain words
 abbrev pub plain_block : List StructInfo → Block → Block
 plain_block structs block = record block { words = plain_words (kinds_of_shape structs block.shape) block.words }
 

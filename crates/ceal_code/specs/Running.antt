@@ -55,7 +55,7 @@ pub data Reaches (code : Code) (m : Blocks) (st : Stack) : Blocks → Stack → 
   step : {m' m'' : Blocks} {st' st'' : Stack}
       → Reaches code m st m' st' → Steps code m' st' m'' st'' → Reaches code m st m'' st''
 
--- that many steps
+-- the given number of steps
 pub data Takes (code : Code) (m : Blocks) (st : Stack) : (steps : ℕ) → Blocks → Stack → Type 0 where
   none : Takes code m st 0 m st
   more : {k : ℕ} {m' m'' : Blocks} {st' st'' : Stack}
@@ -78,7 +78,7 @@ WordThere structs m None w = ⊥
 WordThere structs m (Some kind) w = fits_kind structs m kind w ≡ true
 
 -- each variable of the expression is one of these kinds and has a word that fits it, each field is one of its struct,
--- and what stands left of `->` points to a block of that struct or is null
+-- and what is on the left of `->` points to a block of that struct or is null
 abbrev mutual
   pub ExprThere : List StructInfo → Blocks → List Kind → Variables → CodeExpr → Type 0
   ExprThere structs m kinds env (NumExpr k) = ⊤
@@ -189,7 +189,7 @@ CommandThere code m u env (Call g args w rest) =
     × ExprsThere code.structs m (variables code u) env rest
     × UnitThere code (unit_at code u).function w.0 (unit_at code w.0).params rest
 
--- each unit of the stack is there, and stands at a command of its body, with all that this one names
+-- each unit of the stack is there, and is at a command of its body, with all that this command names
 abbrev pub StackThere : Code → Blocks → Stack → Type 0
 StackThere code m Empty = ⊤
 StackThere code m (Run u i env below) =

@@ -1,4 +1,4 @@
--- What the next step of trace code is. Running, replaying and repairing all go by this one function.
+-- What the next step of trace code is. Running, replaying and repairing all use this one function.
 use Rattle.std.specs.Prelude.{ℕ, ◌+◌, ◌==◌, Option, Some, None, List, [], ◌∷◌, length, slice_get, unwrap_or}
 use Rattle.std.specs.Prelude.{if◌then◌else◌}
 use Rattle.ceal_base.specs.Access.{holds}
@@ -87,7 +87,7 @@ woven [] v value args = []
 woven (p ∷ ps) v value args =
     if p.0 == v then value ∷ woven ps v value args else first_word args ∷ woven ps v value (later_words args)
 
--- the words of a unit that goes on after a read
+-- the words of a unit that continues after a read
 abbrev pub words_after_read : Code → ℕ → ℕ → List Word → Word → List Word
 words_after_read code u v args value = woven (unit_at code u).params v value args
 
@@ -100,7 +100,7 @@ pub data Act : Type 0 where
   -- a new block for this key, to which the variable then points
   Makes : (key : Key) (var unit index : ℕ) (env : Variables) (below : Stack) → Act
   Writes : (place : Place) (value : Word) (after : Stack) → Act
-  -- the unit goes on with the content for the variable and with the arguments; `below` comes after it
+  -- the unit continues with the content for the variable and with the arguments; `below` comes after it
   Reads : (place : Place) (unit : UnitId) (var : ℕ) (args : List Word) (below : Stack) → Act
 
 -- a modifiable by itself; no shape but its own two has a key of this sort
@@ -121,13 +121,13 @@ abbrev pub writes_at : Option Place → Word → Stack → Act
 writes_at None value after = Quiet after
 writes_at (Some p) value after = Writes p value after
 
--- a read at a place; where there is none, its unit goes on with the default
+-- a read at a place; where there is none, its unit continues with the default
 abbrev pub reads_at : Code → Option Place → UnitId → ℕ → List Word → Stack → Act
 reads_at code None u v args below =
     Quiet (entered code u.0 (words_after_read code u.0 v args (variable_default code u.0 v)) below)
 reads_at code (Some p) u v args below = Reads p u v args below
 
--- the step of a command that stands in a unit at an index
+-- the step of a command at an index of a unit
 abbrev pub act : Code → Plain → Cmd → ℕ → ℕ → Variables → Stack → Act
 act code x (Move v e) u i env below = Quiet (Run u (i + 1) (set env v.0 (expr_value code.structs x env e)) below)
 act code x Tick u i env below = Quiet (Run u (i + 1) env below)

@@ -1,6 +1,6 @@
--- When code is valid: every number is in range, a unit's body is a tree that is gone through forwards, so that each
--- command of it lies on a path from the first, a variable is used only where it has a word, and expressions have the
--- types that are asked.
+-- When code is valid: every number is in range, a variable is used only where it has a word, and expressions have the
+-- types that are asked for. A unit's body is a tree that is gone through forwards, so that each command of it lies on a
+-- path from the first.
 use Rattle.std.specs.Prelude.{ℕ, zero, suc, ◌+◌, ◌==◌, ◌&&◌, nat_lt, nat_le, Bool, true, false, not, if◌then◌else◌}
 use Rattle.std.specs.Prelude.{Option, Some, None, List, [], ◌∷◌, ◌++◌, length, replicate, slice_get, slice_set}
 use Rattle.std.specs.Prelude.{unwrap_or}
@@ -53,7 +53,7 @@ is_content (Ptr s) = true
 is_content ModInt = false
 is_content (ModPtr s) = false
 
--- an expression of this type may stand where the kind is asked
+-- an expression of this type may be used where the kind is asked for
 abbrev pub fits : Kind → Typing → Bool
 fits kind None = false
 fits kind (Some AnyPointer) = is_pointer kind
@@ -256,7 +256,7 @@ command_ok code f known stepped (Read v p w args) =
 command_ok code f known stepped (Call g args w rest) =
     call_fits code f known g (slice_get code.functions g) args && unit_fits code f known (slice_get code.units w.0) rest
 
--- the path goes on rightly after a command
+-- the path continues correctly after a command
 abbrev pub onward : (ℕ → List Bool → Bool → Bool) → Cmd → ℕ → List Bool → Bool
 onward on (Move v e) i known = on (i + 1) (slice_set known v.0 true) true
 onward on Tick i known = on (i + 1) known true
@@ -280,7 +280,7 @@ paths_ok code f body zero i known stepped = false
 paths_ok code f body (suc fuel) i known stepped =
     path_ok code f (paths_ok code f body fuel) (slice_get body i) i known stepped
 
--- where an `If` goes on is after it
+-- the indices at which an `If` continues are after it
 abbrev pub goes_forward : Cmd → ℕ → Bool
 goes_forward (Move v e) i = true
 goes_forward Tick i = true
@@ -298,7 +298,7 @@ unfoldable pub all_forward : List Cmd → ℕ → Bool
 all_forward [] i = true
 all_forward (c ∷ cs) i = goes_forward c i && all_forward cs (i + 1)
 
--- the indices at which a run may go on after a command
+-- the indices at which a run may continue after a command
 abbrev pub followers : Cmd → ℕ → List ℕ
 followers (Move v e) i = (i + 1) ∷ []
 followers Tick i = (i + 1) ∷ []

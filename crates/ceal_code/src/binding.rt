@@ -178,7 +178,7 @@ fn given_word(p: VarId, v: u32, value: Word, args: &[Word], at: usize) -> Word
     }
 }
 
-/// The words of the parameters of a unit that goes on after a read, in place of those that there are. The last ones
+/// The words of the parameters of a unit that continues after a read, in place of those that there are. The last ones
 /// come first, as the last variable makes room for all.
 pub fn bind_given(
     env: &mut Vec<Word>,

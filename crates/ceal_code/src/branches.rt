@@ -1,4 +1,4 @@
-// The lines of a unit's body, by an explicit stack of the branches that are still to be written.
+// The lines of a unit's body, by an explicit stack of the branches that are not written yet.
 
 ghost use Rattle.std.specs.Prelude.{◌≡◌, ◌≤◌, ◌<◌, ◌+◌, ◌-◌, ◌++◌, codes, length, slice_get, IfOk};
 ghost use Rattle.ceal_code.specs.Branches.{branch_text, branches_text, branch_weights};
@@ -12,7 +12,7 @@ use ceal_base::no_memory::NoMemory;
 use ceal_base::text::Text;
 use std::alloc::Global;
 
-/// Adds a command's line, without what stands before it and its end.
+/// Adds a command's line, without its indentation and its end.
 #[tactic(auto, using(crate::proofs::Equations::TextSteps::joins), unfolding(crate::specs::Listing::command_text))]
 fn put_command(alloc: Global, out: &mut Text, code: &Code, command: &Cmd) -> Result<(), NoMemory>
     ensures { IfOk result
@@ -140,8 +140,8 @@ pub fn deeper(depth: usize) -> Result<usize, NoMemory>
     }
 }
 
-/// A branch that is still to be written: the index of its first command, how deep it stands, whether it is the no
-/// part of a condition at that depth, and how many commands a path of it may have.
+/// A branch that is not written yet: the index of its first command, how deep it is, whether it is the no part of a
+/// condition at that depth, and how many commands a path of it may have.
 #[derive(Drop)]
 pub struct Branch {
     pub index: usize,
@@ -158,7 +158,7 @@ struct Body<'a> {
     commands: &'a [Cmd],
 }
 
-/// Where a path of a body goes on: the index of a command, how deep it is, and how many commands the path may have.
+/// Where a path of a body continues: the index of a command, how deep it is, and how many commands the path may have.
 #[derive(Clone, Copy)]
 struct Point {
     index: usize,
@@ -186,7 +186,7 @@ fn place(index: usize, depth: usize, left: usize) -> Point
     Point { index, depth, left }
 }
 
-/// Puts the branch that goes on at an index.
+/// Puts the branch that continues at an index.
 fn put_next(body: &Body<'_>, branches: &mut Vec<Branch>, at: Point) -> Result<(), NoMemory>
     ensures text { IfOk result (λ _.
         branches_text body.now.code.now body.now.commands.now branches.new.items

@@ -51,7 +51,7 @@ struct Typing<'a> {
     known: &'a [bool],
 }
 
-/// Where a command stands: in a unit of a function of the code, where these variables are known.
+/// Where a command is: in a unit of a function of the code, where these variables are known.
 #[derive(Drop)]
 struct Site<'a> {
     code: &'a Code,
@@ -264,8 +264,8 @@ fn does_write_fit(place: Option<ExprType>, t: Option<ExprType>) -> bool
     }
 }
 
-/// Whether a command may stand in a unit of the function, where these variables are known; `stepped` says that a
-/// command before it takes a step.
+/// Whether a command may be in a unit of the function, where these variables are known; `stepped` says that a command
+/// before it takes a step.
 pub fn is_command_ok(code: &Code, f: u32, known: &[bool], stepped: bool, command: &Cmd) -> bool
     ensures { result ≡ command_ok code.now f known.now stepped command.now }
 {

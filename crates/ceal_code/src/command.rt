@@ -32,7 +32,7 @@ pub enum Cmd {
         place: CodeExpr,
         value: CodeExpr,
     },
-    /// the two indices in the body at which the run goes on
+    /// the two indices in the body at one of which the run continues
     If {
         test: CodeExpr,
         yes: u32,
@@ -59,7 +59,7 @@ pub enum Cmd {
     },
 }
 
-/// The indices of a body at which a run may go on after a command.
+/// The indices of a body at which a run may continue after a command.
 #[derive(Clone, Copy)]
 pub enum Followers {
     Nowhere,
@@ -68,7 +68,7 @@ pub enum Followers {
 }
 
 impl Cmd {
-    /// Where a run may go on after the command at an index.
+    /// Where a run may continue after the command at an index.
     pub fn followers(&self, index: usize) -> Followers
         requires room { index < 2 ^ 63 }
         ensures value { indices_in result ≡ followers self.now index }

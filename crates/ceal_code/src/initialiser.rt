@@ -19,8 +19,8 @@ fn is_set_ok(kind: Option<FieldKind>, t: Option<ExprType>) -> bool
     }
 }
 
-/// Whether a statement may stand in an initialiser of blocks of the struct, whose parameters have these kinds;
-/// `known` has true for each of them.
+/// Whether a statement may be in an initialiser of blocks of the struct, whose parameters have these kinds; `known` has
+/// true for each of them.
 #[cycle(stmts)]
 #[tactic(auto, using(crate::proofs::Equations::StmtSteps::stmt_steps))]
 fn is_stmt_ok(

@@ -51,8 +51,7 @@ pub fn after_law()
     ensures inputs { Inputs_after_law }
 {}
 
-/// A run from scratch is after each number of steps at a state that it came to, and it ends at one from which no step
-/// goes on.
+/// After any number of steps a run from scratch is at a state that they reach; it ends at one that no step follows.
 pub fn ended_law()
     ensures law { EndedLaw }
     ensures states { StateLaw }

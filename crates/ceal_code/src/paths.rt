@@ -1,4 +1,4 @@
-// The paths of a unit's body: an explicit stack of those that are still to be gone down.
+// The paths of a unit's body: an explicit stack of those that have still to be followed.
 
 ghost use Rattle.std.specs.Prelude.{◌≡◌, ◌≤◌, ◌<◌, ◌+◌, ◌-◌, ◌&&◌, ◌∷◌, [], ◌++◌, ℕ, Bool, List, true, false, length};
 ghost use Rattle.std.specs.Prelude.{replicate, slice_get, slice_set, IfOk};
@@ -13,8 +13,8 @@ use crate::expr::VarId;
 use ceal_base::no_memory::NoMemory;
 use std::alloc::Global;
 
-/// A path that is still to be gone down: the index of its first command, which variables are known there, whether
-/// a command before it takes a step, and how many commands it may have.
+/// A path that has still to be followed: the index of its first command, which variables are known there, whether a
+/// command before it takes a step, and how many commands it may have.
 #[derive(Drop)]
 pub struct Part {
     pub index: usize,
@@ -71,7 +71,7 @@ struct Body<'a> {
     commands: &'a [Cmd],
 }
 
-/// Puts the path that goes on at an index.
+/// Puts the path that continues at an index.
 #[tactic(auto, using(crate::proofs::Equations::PathSteps::part_steps))]
 fn put(
     body: &Body<'_>,

@@ -22,8 +22,8 @@ use ceal_base::words::Words;
 use std::alloc::Global;
 use std::mem;
 
-/// The closure of a read: the place that is read, the unit that goes on with its content, the variable of the unit that
-/// takes the content, and the arguments for the unit's other parameters.
+/// The closure of a read: the place that is read, the unit that continues with its content, the variable of the unit
+/// that takes the content, and the arguments for the unit's other parameters.
 #[derive(Drop)]
 pub struct Closure {
     pub place: Place,
@@ -32,8 +32,8 @@ pub struct Closure {
     pub args: Words,
 }
 
-/// The continuation of a read: the unit that goes on with the content of the place, the variable of the unit that
-/// takes it, and the words for the unit's other parameters, where they stand.
+/// The continuation of a read: the unit that continues with the content of the place, the variable of the unit that
+/// takes it, and the words for the unit's other parameters, which stay where they are.
 #[derive(Clone, Copy)]
 pub struct Continuation<'a> {
     pub unit: UnitId,
@@ -60,7 +60,7 @@ pub struct Stack {
 }
 
 impl Closure {
-    /// How the read goes on.
+    /// How the read continues.
     pub fn continuation(&self) -> Continuation<'_>
         ensures unit { result.unit ≡ self.now.unit }
         ensures var { result.var ≡ self.now.var }
@@ -212,7 +212,7 @@ impl Stack {
         Ok(())
     }
 
-    /// Puts the unit that goes on after a read on the stack, with the content that was read.
+    /// Puts the unit that continues after a read on the stack, with the content that was read.
     pub fn resume(
         &mut self,
         code: &Code,
@@ -286,7 +286,7 @@ impl Stack {
         Ok(())
     }
 
-    /// The unit that runs goes on at this index.
+    /// The unit that runs continues at this index.
     #[tactic(auto, unfolding(crate::specs::Stacks::stack_in))]
     pub(crate) fn jump(&mut self, index: usize)
         requires runs { self.old.runs ≡ true }
@@ -312,7 +312,7 @@ impl Stack {
         scope.evaluate(es, words)
     }
 
-    /// The unit that ran goes on, with a word for a variable.
+    /// The unit that ran continues, with a word for a variable.
     #[tactic(auto, unfolding(crate::specs::Stacks::stack_in))]
     pub fn set(&mut self, var: u32, word: Word) -> Result<(), NoMemory>
         ensures set { OnOk result (stack_in self.new
@@ -365,7 +365,7 @@ impl Stack {
         self.waits.reset();
     }
 
-    /// Sets the units aside: others can run now, and these afterwards. It answers the floor that they stand on.
+    /// Sets the units aside: others can run now, and these afterwards. It answers the floor that they are on.
     #[tactic(auto, unfolding(crate::specs::Stacks::stack_in))]
     pub fn set_aside(&mut self) -> Result<Floor, NoMemory>
         ensures above { IfOk result

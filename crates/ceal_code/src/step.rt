@@ -30,7 +30,7 @@ pub enum Act {
     Over,
     /// a step that leaves no item but itself in a trace
     Quiet,
-    /// a new block for the key; the variable of the unit gets it, which goes on over the stack
+    /// a new block for the key; the variable of the unit gets it, and the unit continues over the stack
     Makes {
         key: Key,
         var: u32,
@@ -40,7 +40,7 @@ pub enum Act {
         place: Place,
         value: Word,
     },
-    /// the closure goes on with the content of its place, and the stack comes after it
+    /// the closure continues with the content of its place, and the stack comes after it
     Reads(Closure),
 }
 
@@ -109,7 +109,7 @@ fn place_at(at: Word) -> Option<Place>
     }
 }
 
-/// Where a run goes on for the number of a test.
+/// Where a run continues for the number of a test.
 fn target(test: i64, yes: u32, no: u32) -> usize
     ensures { result ≡ (if holds (IsNum test) then yes else no) }
 {
@@ -158,7 +158,7 @@ fn write<'c>(stack: &mut Stack, at: Word, value: Word) -> Step<'c>
     }
 }
 
-/// A read through null: the unit goes on with the default at once.
+/// A read through null: the unit continues with the default at once.
 fn read_null(
     code: &Code,
     stack: &mut Stack,
@@ -280,8 +280,8 @@ fn perform<'c, P: PlainWords>(
 }
 
 impl Stack {
-    /// The next step of the stack, which is that after it; a block that is made and a read are to be taken from it.
-    /// After running out of memory it is of no further use.
+    /// The next step of the stack. The stack is then as it is after that step, except that a block that is made, and a
+    /// read, have still to be taken from it. After running out of memory it must not be used any more.
     #[tactic(auto, unfolding(crate::specs::Step::next))]
     pub fn step<'c, P: PlainWords>(
         &mut self,
@@ -317,7 +317,7 @@ impl Stack {
         }
     }
 
-    /// Takes the key of the block that is made, and the unit that it is for; the unit goes on over the stack.
+    /// Takes the key of the block that is made, and the unit that it is for; the unit continues over the stack.
     fn made<P: PlainWords>(
         &mut self,
         code: &Code,
@@ -356,7 +356,7 @@ impl Stack {
     }
 }
 
-/// The next step of the stack. After running out of memory the stack is of no further use.
+/// The next step of the stack. After running out of memory the stack must not be used any more.
 pub fn advance<P: PlainWords>(code: &Code, plain: &P, stack: &mut Stack) -> Result<Act, NoMemory>
     ensures act { IfOk result (λ a. next code.now (P.plain plain.now) (stack_in stack.old)
         ≡ act_in a (stack_in stack.new)) }

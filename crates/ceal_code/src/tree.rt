@@ -10,7 +10,7 @@ use crate::paths::{no_flags, set_flag};
 use ceal_base::no_memory::NoMemory;
 use std::alloc::Global;
 
-/// Whether an `If` goes on after itself, whichever way.
+/// Whether the indices at which an `If` continues are after it.
 fn goes_forward(command: &Cmd, index: usize) -> bool
     ensures { result ≡ goes_forward command.now index }
 {
@@ -76,7 +76,7 @@ fn mark_both(marks: &mut Vec<bool>, first: usize, second: usize) -> bool
     }
 }
 
-/// Marks the indices at which a run may go on after a command.
+/// Marks the indices at which a run may continue after a command.
 #[tactic(auto, using(crate::proofs::Equations::TreeSteps::mark_steps))]
 fn mark_followers(marks: &mut Vec<bool>, command: &Cmd, index: usize) -> bool
     requires room { index < 2 ^ 63 }

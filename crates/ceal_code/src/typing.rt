@@ -53,7 +53,7 @@ fn is_place_kind(kind: Kind) -> bool
     }
 }
 
-/// Whether an expression of this type may stand where the kind is asked; an ill typed expression has no type.
+/// Whether an expression of this type may be used where the kind is asked for; an ill typed expression has no type.
 pub fn is_fit(kind: Kind, t: Option<ExprType>) -> bool
     ensures { result ≡ fits kind t }
 {

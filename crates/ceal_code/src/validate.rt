@@ -334,9 +334,9 @@ fn are_functions_ok(
     Ok(kinds.is_empty())
 }
 
-/// Whether code is valid: every number in it is in range, the body of each unit is a tree that is gone through
-/// forwards, so that each command lies on a path from the first, a variable is used only where it has a word,
-/// expressions have the types that are asked, and no unit goes on to another without a step.
+/// Whether code is valid: every number in it is in range, a variable is used only where it has a word, expressions have
+/// the types that are asked for, and no unit moves on to another without a step. The body of each unit is a tree that
+/// is gone through forwards, so that each command lies on a path from the first.
 #[tactic(auto, unfolding(crate::specs::Valid::valid))]
 pub fn validate(alloc: Global, code: &Code) -> Result<bool, NoMemory>
     ensures exact { IfOk result (λ ok. ok ≡ valid code.now) }

@@ -202,8 +202,9 @@ reduction l p (Index s row d ∷ fs) = record { piece = p; frames = Index s row 
 reduction l p (Prefix op s ∷ fs) = reduction l (prefix_piece op s p) fs
 reduction l p (AddressOf s ∷ fs) = reduction l (address_piece s p) fs
 reduction l p (Left a op s ∷ fs) =
-    if nat_le l (level op) then reduction l
-    (infix_piece a op s p) fs else record { piece = p; frames = Left a op s ∷ fs }
+    if nat_le l (level op)
+    then reduction l (infix_piece a op s p) fs
+    else record { piece = p; frames = Left a op s ∷ fs }
 
 -- the state within a whole expression
 abbrev pub within : Inside → Whole → Place → State
@@ -304,17 +305,17 @@ at_argument d f args c =
 -- a whole expression has ended at this sign
 abbrev pub at_expression_end : Inside → ℕ → Receiver → Expr → SignOf → Option State
 at_expression_end i d (To.Value t) e c = ends_at i (value_statement t (Plain e)) c
-at_expression_end i d (To.Read t s) e c = state_in i
-    (wants (same_sign c Signs.RightParenthesis) (Modes.Ends (value_statement t (Read s e))))
+at_expression_end i d (To.Read t s) e c =
+    state_in i (wants (same_sign c Signs.RightParenthesis) (Modes.Ends (value_statement t (Read s e))))
 at_expression_end i d (To.Argument f args) e c = state_in i (at_argument d f (args ++ e ∷ []) c)
 at_expression_end i d (To.Set a x) e c = ends_at i (SetField a.span a x e) c
-at_expression_end i d (To.Write s) e c = state_in i
-    (wants (same_sign c Signs.Comma) (Modes.Within (new_whole d (To.Store s e)) Want))
-at_expression_end i d (To.Store s a) e c = state_in i
-    (wants (same_sign c Signs.RightParenthesis) (Modes.Ends (Write s a e)))
+at_expression_end i d (To.Write s) e c =
+    state_in i (wants (same_sign c Signs.Comma) (Modes.Within (new_whole d (To.Store s e)) Want))
+at_expression_end i d (To.Store s a) e c =
+    state_in i (wants (same_sign c Signs.RightParenthesis) (Modes.Ends (Write s a e)))
 at_expression_end i d (To.If s) e c = state_in i (wants (same_sign c Signs.RightParenthesis) (Modes.Opens (OfThen s e)))
-at_expression_end i d (To.While s) e c = state_in i
-    (wants (same_sign c Signs.RightParenthesis) (Modes.Opens (OfWhile s e)))
+at_expression_end i d (To.While s) e c =
+    state_in i (wants (same_sign c Signs.RightParenthesis) (Modes.Opens (OfWhile s e)))
 
 -- a whole expression with one parenthesis closed
 abbrev pub without_parenthesis : Whole → ℕ → List Frame → Whole
@@ -495,10 +496,10 @@ at_value d t s k =
 
 -- a token after `modref(`
 abbrev pub at_modref : Target → Span → Span → TokenKind → Option Mode
-at_modref t at s (Name y) = Some
-    (Modes.Making (Makings.Typed (value_statement t (Modref at (record { text = y; span = s })))))
-at_modref t at s (Reserved k) = wants (same_word k Words.Int)
-    (Modes.Making (Makings.Typed (value_statement t (ModrefInt at))))
+at_modref t at s (Name y) =
+    Some (Modes.Making (Makings.Typed (value_statement t (Modref at (record { text = y; span = s })))))
+at_modref t at s (Reserved k) =
+    wants (same_word k Words.Int) (Modes.Making (Makings.Typed (value_statement t (ModrefInt at))))
 at_modref t at s _ = None
 
 -- a token within an allocation
@@ -511,8 +512,8 @@ at_making (Makings.Opened st) s k = wants (is_sign Signs.RightParenthesis k) (Mo
 
 -- a token within the type of a declaration
 abbrev pub at_typing : Span → TypePart → Span → TokenKind → Option Mode
-at_typing at part s k = with_typing (λ p. Modes.Typing at p) (λ form x. Modes.Declared at form x)
-    (at_type false part s k)
+at_typing at part s k =
+    with_typing (λ p. Modes.Typing at p) (λ form x. Modes.Declared at form x) (at_type false part s k)
 
 -- the `=` of a declaration
 abbrev pub at_declared : Span → TypeForm → Ident → TokenKind → Option Mode

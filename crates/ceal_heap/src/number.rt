@@ -9,7 +9,8 @@ use ceal_base::kind::Shape;
 use ceal_words::slot::Slot;
 use std::mem;
 
-/// A block that can be read: the slot of its first words, and how many those are and come after them.
+/// A block that can be read: the slot of the words that are kept, how many those are, and how many zeros and nulls come
+/// after them.
 #[derive(Drop)]
 pub struct Held {
     pub slot: Slot,

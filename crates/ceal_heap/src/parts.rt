@@ -53,7 +53,7 @@ impl Parts {
     }
 }
 
-// Whether this is the last one of the first words.
+// Whether the last of the first `count` words is this one.
 fn is_last(words: &[Word], count: usize, word: Word) -> bool
     requires { count ≤ length words.now }
     ensures some { IsTrue result → 0 < count }

@@ -103,11 +103,13 @@ is_over (item ∷ rest) = false
 -- do are taken off. This takes no step
 abbrev pub frames_to_run : List Frame → List Frame
 frames_to_run [] = []
-frames_to_run (f ∷ below) = if is_over
-    (ready f.todo) then frames_to_run below else record f { todo = ready f.todo } ∷ below
+frames_to_run (f ∷ below) =
+    if is_over (ready f.todo)
+    then frames_to_run below
+    else record f { todo = ready f.todo } ∷ below
 
 -- the state after the first item of the first frame: a `while` again is the same as the `while`
 abbrev pub state_after_item : Typed → Blocks → Frame → List Item → List Frame → State
 state_after_item p m f [] below = record { memory = m; frames = below }
-state_after_item p m f (item ∷ rest) below = effect p m f.env rest below (statement_of item)
-    (out-TypedStmt (statement_of item))
+state_after_item p m f (item ∷ rest) below =
+    effect p m f.env rest below (statement_of item) (out-TypedStmt (statement_of item))

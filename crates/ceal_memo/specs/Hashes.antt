@@ -23,7 +23,8 @@ word_number (At p) = 3 * 2 ^ 64 + place_number p
 abbrev pub seed_word : List ℕ → ℕ → ℕ
 seed_word seed at = unwrap_or (slice_get seed at) 0
 
--- one more number, with the word of the seed that is next; where none is left, they begin anew behind what is there
+-- one more number, with the word of the seed that is next; where none is left, those of the seed begin again after what
+-- is there
 abbrev pub with_number : List ℕ → Digest → ℕ → Digest
 with_number seed d number = by (slice_get seed d.at)
   where

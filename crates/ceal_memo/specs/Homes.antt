@@ -26,7 +26,7 @@ HomeChange s home old new = (t : ℕ) → home_of new t ≡ (if s == t then home
 abbrev pub Houses : ByHash → List ℕ → Type 0
 Houses memo homes = (n s : ℕ) → is_in s (list_at memo.lists n) ≡ true → home_of homes s ≡ In n
 
--- each stamp of a memo stands once, in the list that is its home, and each hash has one list with stamps
+-- each stamp of a memo occurs once, in the list that is its home, and each hash has one list with stamps
 pub record IsKept (memo : ByHash) (homes : List ℕ) : Type 0 where
   pub houses : Houses memo homes
   pub once : (n : ℕ) → Distinct (list_at memo.lists n)

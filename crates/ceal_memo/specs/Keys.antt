@@ -5,7 +5,8 @@ use Rattle.ceal_base.specs.declared.forest.UnitId.{UnitId}
 use Rattle.ceal_base.specs.declared.word.Place.{Place}
 use Rattle.ceal_base.specs.declared.word.Word.{Word}
 
--- the place that was read and its closure: the unit that goes on, the variable that takes the value, and the arguments
+-- the place that was read and its closure: the unit that continues, the variable that takes the value, and the
+-- arguments
 pub record ReadKey : Type 0 where
   pub place : Place
   pub unit : UnitId

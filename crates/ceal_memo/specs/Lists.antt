@@ -13,7 +13,7 @@ abbrev pub stamps_at : List (ℕ × List ℕ) → ℕ → List ℕ
 stamps_at [] hash = []
 stamps_at (l ∷ ls) hash = if has_stamps l.1 && hash == l.0 then l.1 else stamps_at ls hash
 
--- with one more stamp, which stands after those before it in the order
+-- with one more stamp, after those that are before it in the order
 abbrev pub with_stamp : List ℕ → ℕ → List ℕ → List ℕ
 with_stamp order s stamps = insert stamps (count_before order s stamps) s
 
@@ -25,7 +25,7 @@ pub record IsFirstOf (order stamps : List ℕ) (is : ℕ → Type 0) (after s : 
   pub nearest : (t : ℕ) → is_in t stamps ≡ true → is t → place after order < place t order
       → place s order ≤ place t order
 
--- none of these stamps of which something is true stands between two stamps
+-- none of these stamps of which something is true is between two stamps
 abbrev pub NoneOf : List ℕ → List ℕ → (ℕ → Type 0) → ℕ → ℕ → Type 0
 NoneOf order stamps is after until = (t : ℕ) → is_in t stamps ≡ true → is t → place after order < place t order
     → place until order ≤ place t order

@@ -26,19 +26,19 @@ pub record IsFirstWith (order : List ℕ) (entries : ℕ → Option EntryKey) (k
   pub behind : place after order < place s order
   pub earliest : (t : ℕ) → entries t ≡ Some key → place after order < place t order → place s order ≤ place t order
 
--- no entry with a key stands between two stamps
+-- no entry with a key is between two stamps
 abbrev pub NoneWith : List ℕ → (ℕ → Option EntryKey) → EntryKey → ℕ → ℕ → Type 0
 NoneWith order entries key after until = (t : ℕ) → entries t ≡ Some key → place after order < place t order
     → place until order ≤ place t order
 
--- ---- a memo keeps stamps alone; that it has certain entries is a relation of both
+-- ---- a memo keeps only stamps; that it has certain entries is a relation of both
 
 -- what a memo is made of
 pub record Contents : Type 0 where
   pub table : ByHash
   pub seed : List ℕ
 
--- whether an entry stands under a hash
+-- whether an entry is under a hash
 abbrev pub is_under : List ℕ → ℕ → Option EntryKey → Bool
 is_under seed hash None = false
 is_under seed hash (Some key) = hash_of seed key == hash
@@ -51,7 +51,7 @@ pub record Holds (memo : Contents) (entries : ℕ → Option EntryKey) : Type 0 
 pub record IsOf (memo : Contents) (key : EntryKey) (hashed : Hashed) : Type 0 where
   pub hash : hashed.hash ≡ hash_of memo.seed key
 
--- a memo follows an order: it has each stamp with an entry, and what is kept stands along it
+-- a memo follows an order: it has each stamp with an entry, and what is kept rises along it
 pub record Follows (order : List ℕ) (memo : Contents) : Type 0 where
   pub table : Table_follows order memo.table
 

@@ -184,7 +184,7 @@ fn chain_all(heads: &mut [u32], groups: &mut [Group])
     }
 }
 
-// Twice as many buckets. It is called seldom, and is a function of its own, so that the common way is short.
+// Twice as many buckets. It is called seldom, and is a separate function, so that the usual path is short.
 #[inline(never)]
 fn widen(heads: &mut Vec<u32>, groups: &mut [Group]) -> Result<(), NoMemory>
     requires few { length groups.old < 4294967296 }

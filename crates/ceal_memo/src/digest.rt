@@ -97,7 +97,7 @@ fn word_number(word: Word) -> u128
     }
 }
 
-// One more number, in two parts, each with a word of the seed of its own.
+// One more number, in two parts, each times another word of the seed.
 fn with_wide(seed: &[u64], digest: Digest, number: u128) -> Digest
     requires { number < 2 ^ 96 }
     ensures { result ≡ with_wide seed.now digest number }
@@ -123,8 +123,8 @@ fn with_number(seed: &[u64], digest: Digest, number: u64) -> Digest
     }
 }
 
-// The sum where no word is left: they begin anew behind what is there. It is a function of its own, so that the common
-// way is short.
+// The sum where no word of the seed is left: its words begin again, after what is there. It is a separate function, so
+// that the usual path is short.
 #[inline(never)]
 fn anew(seed: &[u64], sum: u64, number: u64) -> u64
     ensures { result ≡ (seed_word seed.now 0 * (one_more 0 sum / 2 ^ 32)

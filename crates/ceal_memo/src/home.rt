@@ -58,7 +58,7 @@ impl Homes {
         Ok(())
     }
 
-    // Adds homes after the end. It is called seldom, and is a function of its own, so that the common way is short.
+    // Adds homes after the end. It is called seldom, and is a separate function, so that the usual path is short.
     #[inline(never)]
     fn widen(&mut self, count: usize) -> Result<(), NoMemory>
         requires less { length self.old < count }

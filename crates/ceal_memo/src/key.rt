@@ -4,9 +4,9 @@ use ceal_base::forest::UnitId;
 use ceal_base::word::{Place, Word};
 use std::marker::Model;
 
-/// What a read is found again by: the place that was read, and its closure, which is the unit that goes on, the
-/// variable that takes the value, and the arguments, where they stand. The value that was read is no part of it.
-/// Contracts see a key as its parts.
+/// What a read is found again by: the place that was read, and its closure, which is the unit that continues, the
+/// variable that takes the value, and the arguments, which stay where they are. The value that was read is no part of
+/// it. Contracts see a key as its parts.
 #[derive(Drop)]
 pub struct ReadKey<'a> {
     pub place: Place,

@@ -8,9 +8,9 @@ use crate::sought::Sought;
 use ceal_base::forest::Key;
 use ceal_order::stamp::Stamp;
 
-/// Who tells the keys of entries. A memo keeps none, since they stand in the trace: it asks where two may be the same.
+/// Who tells the keys of entries. A memo keeps none, since they are in the trace: it asks where two may be the same.
 pub trait Keys {
-    /// the entries that it tells of: the key of the one at each stamp
+    /// the entries that it describes: the key of the one at each stamp
     ghost entries: { Self → ℕ → Option EntryKey };
 
     /// Whether the entry at a stamp is a read with this key.

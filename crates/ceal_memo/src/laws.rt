@@ -22,7 +22,7 @@ pub fn follows_still()
     rising_still();
 }
 
-/// A law: of a memo that has certain entries, a stamp has none exactly where it has none of these.
+/// A law: in a memo that has certain entries, a stamp has no entry exactly when it has none of these.
 pub fn has_none()
     ensures law { (memo : Contents) (entries : ℕ → Option EntryKey) (s : ℕ) → Holds memo entries
         → (entries s ≡ None) ↔ HasNone s memo }

@@ -6,8 +6,8 @@
 //!
 //! `key` is what a read is found again by, `keys` tells the keys of entries, `seed` is what hashes begin with, `memo`
 //! the table with its calls; `laws` says along which orders a memo still follows. Inside, `digest` has the hashes of
-//! keys, `table` the entries by their hashes, `sought` is a key that is looked for, `lists` has the stamps of each
-//! hash, in lists that have numbers, `chains` finds them, and `home` is the list of each stamp, by which an entry is
+//! keys, `table` the entries by their hashes, and `sought` is a key that is looked for. `lists` has the stamps of each
+//! hash, in lists that have numbers, and `chains` finds them. `home` is the list of each stamp, by which an entry is
 //! taken out without a key.
 #![tactic(auto)]
 

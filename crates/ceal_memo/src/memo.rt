@@ -41,7 +41,7 @@ impl Model for Memo {
 }
 
 impl Memo {
-    /// A memo without entries. Any seed is right; which keys meet is told by the seed alone.
+    /// A memo without entries. Any seed is right; which keys share a hash depends only on the seed.
     pub fn seeded(alloc: Global, seed: Seed) -> Result<Memo, NoMemory>
         ensures holds { IfOk result (λ memo. Holds memo no_entries) }
         ensures follows { IfOk result (λ memo. (order : List ℕ) → Follows order memo) }

@@ -4,7 +4,7 @@ ghost use Rattle.std.specs.Prelude.{◌≡◌};
 
 use std::hash::{DefaultHasher, Hasher};
 
-// How many parts of a key are multiplied by words of their own.
+// How many parts of a key are multiplied, each by another word.
 const WORDS: usize = 64;
 
 /// Words that hashes are made with. Any are right: no clause depends on them. Which keys share a hash depends on all of

@@ -1,4 +1,4 @@
--- Where the cells of places stand.
+-- Where the cells of places are.
 use Rattle.std.specs.Prelude.{◌≡◌, ◌≤◌, ℕ, suc, zero, List, [], ◌∷◌, length, unwrap_or, cond, ◌==◌, if◌then◌else◌}
 use Rattle.std.specs.Map.{lookup}
 use Rattle.ceal_base.specs.contracts.word.PlacePartialEq.TheImpl.{ghosts}
@@ -26,18 +26,18 @@ far_of index p = unwrap_or (lookup (ghosts.eq p) index.far.entries) no_slot
 abbrev pub slot_of : Index → Place → ℕ
 slot_of index p = if near_of index p == no_slot then far_of index p else near_of index p
 
--- where the cell of a place stands among cells, the first of which stands at i
+-- where the cell of a place is among cells, the first of which is at i
 abbrev pub where_from : ℕ → Place → List (Place × Cell) → ℕ
 where_from i p [] = no_slot
 where_from i p (e ∷ es) = cond (ghosts.eq p e.0) i (where_from (suc i) p es)
 
--- the cell that stands at a slot
+-- the cell at a slot
 abbrev pub cell_in : List (Place × Cell) → ℕ → Cell
 cell_in [] n = untouched
 cell_in (e ∷ es) zero = e.1
 cell_in (e ∷ es) (suc n) = cell_in es n
 
--- the cell that stands at a slot is another one now
+-- the cell at a slot is another one now
 abbrev pub with_cell : ℕ → Cell → List (Place × Cell) → List (Place × Cell)
 with_cell n cell [] = []
 with_cell zero cell (e ∷ es) = (e.0, cell) ∷ es

@@ -28,7 +28,7 @@ times p [] = 0
 times p (q ∷ qs) = cond (ghosts.eq p q) (suc (times p qs)) (times p qs)
 
 -- What the places held at the end when they were marked, by the slots of their cells, and the slots at which something
--- else may stand since.
+-- else may be held now.
 pub record Marked : Type 0 where
   pub ends : List (Place × Word)
   pub slots : List ℕ
@@ -42,7 +42,7 @@ ends_in (Some m) = Some m.ends
 abbrev pub with_slot : ℕ → ℕ → List ℕ → List ℕ
 with_slot n slot slots = cond (nat_lt slot n) (cond (is_in slot slots) slots (slots ++ slot ∷ [])) slots
 
--- something else may stand at a slot from now on
+-- something else may be held at a slot from now on
 abbrev pub noted_in : ℕ → Marked → Marked
 noted_in slot m = record { ends = m.ends; slots = with_slot (length m.ends) slot m.slots }
 

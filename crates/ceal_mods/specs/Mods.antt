@@ -12,9 +12,9 @@ use Rattle.ceal_mods.specs.Cell.{untouched, Rises}
 use Rattle.ceal_mods.specs.Marks.{held_in}
 use Rattle.ceal_mods.specs.declared.cell.Cell.{Cell}
 
--- what a caller sees: the cells of the places that were touched, how often a value was looked up, how often it
--- differed from what had been recorded of it, and what the places that were touched then held at the end when they were
--- marked, if they were
+-- what a caller sees: the cells of the places that were touched, how often a value was looked up, and how often it
+-- differed from what had been recorded of it. If places were marked, `marked` is what each place that had been touched
+-- by then held at the end.
 pub record Contents : Type 0 where
   pub cells : List (Place × Cell)
   pub looked : ℕ

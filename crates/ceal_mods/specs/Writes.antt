@@ -30,13 +30,13 @@ abbrev pub last_of : Word → List Write → Word
 last_of base [] = base
 last_of base (w ∷ ws) = last_of w.value ws
 
--- those that stand before a stamp
+-- those before a stamp
 abbrev pub those_before : List ℕ → ℕ → List Write → List Write
 those_before order s [] = []
 those_before order s (w ∷ ws) =
     if nat_lt (place w.stamp order) (place s order) then w ∷ those_before order s ws else those_before order s ws
 
--- with one more, after those that stand before it
+-- with one more, after those before it
 abbrev pub with_one : List ℕ → ℕ → Word → List Write → List Write
 with_one order s value ws = insert ws (count_before order s (stamps_of ws)) (record { stamp = s; value = value })
 

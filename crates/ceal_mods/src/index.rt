@@ -1,4 +1,4 @@
-// Where the cell of a place stands.
+// Where the cell of a place is.
 
 ghost use Rattle.std.specs.Prelude.{◌≡◌, ◌≢◌, OnOk, OnErr};
 ghost use Rattle.ceal_base.specs.declared.word.Place.{Place as PlaceOf};
@@ -49,8 +49,8 @@ impl Index {
         self.far(place)
     }
 
-    // The slot of a place that is found by hashing. It is a function of its own, so that the others are found without
-    // it at little cost.
+    // The slot of a place that is found by hashing. It is a separate function, so that the others are found without it
+    // at little cost.
     #[inline(never)]
     fn far(&self, place: Place) -> u32
         ensures { result ≡ far_of self.now place }

@@ -5,10 +5,10 @@
 //! speaks of time is handed it, and what is kept follows it.
 //!
 //! `mods` has the calls over the cells of all places, `cell` the lists of one place, and `writes` stamps with values;
-//! `laws` says along which orders they still follow, and which stamps there are after a change. Inside, the cells
-//! stand in one vector, which `entries` changes, and an `index` leads from a place to its cell, by rows of `slots`.
-//! `marks` has what the places held when they were marked and the slots of cells that may hold something else since,
-//! and `ends` the loops over them.
+//! `laws` says along which orders they still follow, and which stamps there are after a change. Inside, the cells are
+//! in one vector, which `entries` changes, and an `index` leads from a place to its cell, by rows of `slots`. `marks`
+//! has what the places held when they were marked and the slots of cells that may hold something else since, and `ends`
+//! the loops over them.
 #![tactic(auto)]
 
 mod cell;

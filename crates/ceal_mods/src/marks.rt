@@ -61,8 +61,8 @@ impl Marks {
         self.slots.push_reserved(slot);
     }
 
-    /// Marks what the places of these cells hold at the end now. It takes the time of what is listed and of the cells
-    /// that came.
+    /// Marks what the places of these cells hold at the end now. It goes through what is listed and the cells that came
+    /// since.
     pub fn renew(&mut self, cells: &[(Place, Cell)]) -> Result<(), NoMemory>
         requires { Watches self.old cells.now }
         ensures ok { OnOk result (self.new ≡ record { ends = ends_of cells.now; slots = [] }) }

@@ -256,8 +256,9 @@ impl Mods {
         }
     }
 
-    /// From now on `changed` compares what places hold at the end with what they hold now. The first time it takes the
-    /// time and the room of all cells, and then the time of those that were changed since.
+    /// From now on `changed` compares what places hold at the end with what they hold now. The first time it goes
+    /// through all cells, and takes room for them; later it goes through those that were made, or may have changed,
+    /// since.
     pub fn mark(&mut self) -> Result<(), NoMemory>
         ensures marked { OnOk result (IsSome self.new.marked) }
         ensures held { OnOk result ((p : PlaceOf)
@@ -283,8 +284,8 @@ impl Mods {
         self.marks.is_some()
     }
 
-    /// The places that hold something else at the end than when `mark` was called last; one that was not touched then
-    /// held 0. It takes the time of the cells that were changed since.
+    /// The places that hold something else at the end than when `mark` was called last; one that had not been touched
+    /// by then held 0. It goes through the cells that were made, or may have changed, since.
     pub fn changed(&self) -> Result<Vec<Place>, NoMemory>
         requires marked { IsSome self.now.marked }
         ensures told { IfOk result (λ places. (p : PlaceOf)

@@ -106,7 +106,7 @@ impl Sheet {
     }
 }
 
-// Sees to it that there are that many rows.
+// Sees to it that there are at least `count` rows.
 #[inline]
 fn make_rows(rows: &mut Vec<Row>, count: usize) -> Result<(), NoMemory>
     ensures same { SameSlots rows.old.items rows.new.items }
@@ -118,7 +118,7 @@ fn make_rows(rows: &mut Vec<Row>, count: usize) -> Result<(), NoMemory>
     lengthen(rows, count)
 }
 
-// Adds empty rows until there are that many, which is seldom needed.
+// Adds empty rows until there are `count`, which is seldom needed.
 #[inline(never)]
 fn lengthen(rows: &mut Vec<Row>, count: usize) -> Result<(), NoMemory>
     ensures same { SameSlots rows.old.items rows.new.items }

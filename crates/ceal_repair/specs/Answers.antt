@@ -1,4 +1,4 @@
--- What a run from nothing and a repair come to.
+-- The results of a run from nothing and of a repair.
 use Rattle.std.specs.Prelude.{◌≡◌, ℕ, ◌≤◌, ◌*◌, ◌++◌, Some, None, List, [], ⊤}
 use Rattle.ceal_base.specs.Block.{Block}
 use Rattle.ceal_base.specs.Trace.{Trace, Nothing, flat, steps_of}

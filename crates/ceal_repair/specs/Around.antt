@@ -16,7 +16,8 @@ pub data Inside (ws : List Wait) (rs : List ℕ) : List Wait → List ℕ → Li
       → Inside ws rs vs qs es
       → Inside ws rs (Fixes ∷ vs) (r ∷ qs) (entries g ++ end_entry e r m ∷ es)
 
--- Where nodes that are left over end: without a limit nothing stands after them, else the end of a read, at the limit.
+-- Where nodes that are left over end: without a limit nothing comes after them; with one, the end of a read at the
+-- limit.
 abbrev pub Bounds : Option Stamp → List Entry → Type 0
 Bounds None es = es ≡ []
 Bounds (Some e) es = (r m : ℕ) × (rest : List Entry) × (es ≡ end_entry e.0 r m ∷ rest)

@@ -24,12 +24,12 @@ abbrev pub nodes_of : List Entry → cover.Nodes
 nodes_of [] = cover.Nil
 nodes_of (e ∷ es) = cover.Node e.stamp (item_in e.node) (nodes_of es)
 
--- an allocation stands where the modifiables of its block hold their defaults
+-- an allocation is at a point where the modifiables of its block hold their defaults
 abbrev pub StartsAt : Code → Store → Node → Type 0
 StartsAt code s (Alloc block key) = (p : Place) → cleared code s block key p ≡ s p
 StartsAt code s _ = ⊤
 
--- Each allocation stands where the modifiables of its block hold their defaults, from this store on.
+-- Each allocation is at a point where the modifiables of its block hold their defaults, from this store on.
 abbrev pub StartsAll : Code → Store → List Entry → Type 0
 StartsAll code s [] = ⊤
 StartsAll code s (e ∷ es) = StartsAt code s e.node × StartsAll code (content_after s e.node) es

@@ -17,7 +17,7 @@ use Rattle.ceal_trace.specs.Items.{forest_of}
 use Rattle.ceal_trace.specs.Nodes.{Entry, node_at}
 use Rattle.ceal_trace.specs.declared.node.Node.TheVariants.{Alloc}
 
--- the block is one of that many inputs, or can be read in the heap
+-- the block is one of `inputs` inputs, or can be read in the heap
 abbrev pub There : ℕ → Contents → BlockId → Type 0
 There inputs heap (Input i) = i < inputs
 There inputs heap (Core b) = IsSome (block_of heap (Core b))

@@ -1,5 +1,5 @@
 -- The contents that nodes leave, and what follows of what the queue of stale reads has to hold (`Chain`): wherever a
--- read has not the content of its moment, a queued read of its place stands there or before it, with no write of the
+-- read does not have the content of its moment, a queued read of its place is there or before it, with no write of the
 -- place between.
 use Rattle.std.specs.Prelude.{◌≡◌, ◌⊎◌, ℕ, Bool, true, false, if◌then◌else◌, List, [], ◌∷◌, ⊤, ◌==◌}
 use Rattle.ceal_base.specs.Operators.{same_place}

@@ -52,8 +52,8 @@ pub data CutTo (s : ℕ) : Grove → Grove → Type 0 where
   there : {g : Grove} → first_stamp g ≡ Some s → CutTo s g g
   more : {g h : Grove} → ¬ (first_stamp g ≡ Some s) → CutTo s (cut g) h → CutTo s g h
 
--- After the last of these nodes, which is at the cursor, stand the nodes of a grove, and then these.
--- Nothing up to the cursor is queued.
+-- The nodes are `front`, whose last one is at the cursor, then those of the grove `left`, and then `tail`. Nothing up
+-- to the cursor is queued.
 pub record Lies (cursor : ℕ) (front : List Entry) (left : Grove) (tail : List Entry) (t : Tables) : Type 0 where
   pub done : List Entry
   pub last : Entry

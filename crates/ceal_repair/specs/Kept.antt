@@ -45,7 +45,7 @@ pub record InStep (t : Tables) : Type 0 where
 abbrev pub ChainedBy : Queue → Tables → Type 0
 ChainedBy q t = Chained q (base_in t.mods) t.trace.nodes
 
--- each read that has not the content of its moment is covered by this queue
+-- each read that does not have the content of its moment is covered by this queue
 abbrev pub CoveredBy : Queue → Tables → Type 0
 CoveredBy q t = Covers q (base_in t.mods) (λ p. false) t.trace.nodes
 
@@ -54,11 +54,11 @@ pub record Kept (t : Tables) : Type 0 where
   pub step : InStep t
   pub chained : ChainedBy (queue_of t.stale.stamps) t
 
--- what is queued stands after a node
+-- what is queued is after a node
 abbrev pub QueuedAfter : ℕ → Tables → Type 0
 QueuedAfter s t = (r : ℕ) → is_in r t.stale.stamps ≡ true → position s t.trace.nodes < position r t.trace.nodes
 
--- what is queued does not stand before a node
+-- what is queued is not before a node
 abbrev pub QueuedFrom : ℕ → Tables → Type 0
 QueuedFrom s t = (r : ℕ) → is_in r t.stale.stamps ≡ true → position s t.trace.nodes ≤ position r t.trace.nodes
 
@@ -69,7 +69,7 @@ pub record Records (p : Place) (v : Word) (node : Option Node) : Type 0 where
   pub args : List Word
   pub is : node ≡ Some (Read p v unit var args)
 
--- a read has not the content of its moment
+-- a read does not have the content of its moment
 pub record IsStale (s : ℕ) (t : Tables) : Type 0 where
   pub place : Place
   pub value : Word

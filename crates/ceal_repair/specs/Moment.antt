@@ -39,10 +39,10 @@ pub record View : Type 0 where
   pub limit : Option Stamp
   pub frames : List Frame
 
--- Where the run of one unit by itself began, and what stays until it ends: its machine; the blocks that were there
--- before any was made, how many numbers had been given out then, the numbers that new blocks were given since, and the
--- blocks that old items name; the nodes before the one after which it runs, that node, and the reads that are open
--- after it; the limit and the nodes from there on.
+-- Where the run of one unit by itself began, and what stays until it ends. That is its machine; the blocks that were
+-- there before any was made, how many numbers had been given out then, the numbers that new blocks were given since,
+-- and the blocks that old items name. It is also the nodes before the one after which it runs, that node, and the reads
+-- that are open after it; and the limit and the nodes from there on.
 pub record Start : Type 0 where
   pub machine : Machine
   pub first : List ℕ
@@ -72,7 +72,7 @@ first_start code inputs f args = record {
   beyond = [];
 }
 
--- the items that stand before those that the machine writes
+-- the items before those that the machine writes
 abbrev pub items_before : Start → List Item
 items_before start = forest_of start.before ++ item_of start.node
 
@@ -133,8 +133,8 @@ pub record CourseNow (code : Code) (inputs : List Block) (start : Start) (v : Vi
       → store p ≡ contents_after (base_in v.tables.mods) front p
   pub given : Given start.first start.numbers (start.chosen ++ made) v.heap
 
--- A unit runs with the nodes left over that stand after the cursor, up to the limit;
--- where there is no limit nothing is left over.
+-- A unit runs with the nodes that are left over after the cursor, up to the limit; where there is no limit nothing is
+-- left over.
 pub record RunningNow (code : Code) (inputs : List Block) (start : Start) (st : Stack) (v : View) : Type 0 where
   pub reads : List ℕ
   pub left : Grove

@@ -20,8 +20,8 @@ pub record NoneStale (start : Start) (r : Repair) : Type 0 where
   pub cells : (running_of r).tables.mods.cells ≡ before.mods.cells
   pub kept : Kept (running_of r).tables
 
--- The first stale read up to the limit was found, and has the content of its moment since then;
--- what is queued stands after it, and all else is as it was before.
+-- The first stale read up to the limit was found, and has the content of its moment since then; what is queued is after
+-- it, and all else is as it was before.
 pub record StaleInside (start : Start) (read : Stamp) (r : Repair) : Type 0 where
   pub before : Tables
   pub until : Stamp

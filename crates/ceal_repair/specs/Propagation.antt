@@ -41,8 +41,8 @@ pub record IsUpToDate (code : Code) (inputs : List Block) (f : ℕ) (args : List
   pub honest : IsHonest code inputs come.so_far.repair.items
   pub idle : run.tables.stale.stamps ≡ []
 
--- More steps were spent in the next turn than the fuel allows: no slice of more reads than there were turns,
--- and none without a number of reads, comes to an end within it.
+-- More steps were spent in the next turn than the fuel allows: no slice of more reads than there were turns, and none
+-- without a number of reads, ends within the fuel.
 pub record IsSpent (code : Code) (inputs : List Block) (fuel : ℕ) (o : Since) : Type 0 where
   pub names : ℕ → ℕ
   pub single : Single names
@@ -50,7 +50,7 @@ pub record IsSpent (code : Code) (inputs : List Block) (fuel : ℕ) (o : Since) 
   pub whole : sliced code names inputs None fuel o.repair ≡ None
   pub part : (k : ℕ) → o.turns < k → sliced code names inputs (Some k) fuel o.repair ≡ None
 
--- that many turns are fewer than there are to be, or no more than that
+-- n turns are fewer than were asked for, or at most as many; where no number was given both are so
 abbrev pub IsLess : ℕ → Option ℕ → Type 0
 IsLess n None = ⊤
 IsLess n (Some k) = n < k
@@ -59,7 +59,7 @@ abbrev pub IsWithin : ℕ → Option ℕ → Type 0
 IsWithin n None = ⊤
 IsWithin n (Some k) = n ≤ k
 
--- as many turns were made as there are to be, and a read is stale still
+-- as many turns were made as were asked for, and a read is still stale
 pub record IsUnderWay (code : Code) (inputs : List Block) (f : ℕ) (args : List Word)
     (o : Since) (before run : Running) : Type 0 where
   pub come : HasCome code inputs f args o before run

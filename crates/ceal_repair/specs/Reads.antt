@@ -20,7 +20,7 @@ closure_in r args = record { place = r.place; unit = r.unit; var = r.var; args =
 abbrev pub key_in : Closure → ReadKey
 key_in closure = record { place = closure.place; unit = closure.unit; var = closure.var; args = closure.args }
 
--- a read that was taken: its unit is re-executed, or what is inside it is to be passed
+-- a read that was taken: its unit is re-executed, or what is inside it has to be passed
 abbrev pub Entered : Bool → Start → Repair → Type 0
 Entered true start r = Runs start r
 Entered false start r = PassesOn start r

@@ -125,7 +125,7 @@ nodes_to (Some e) cursor nodes = between cursor e.0 nodes
 abbrev pub left_nodes : Repair → List Entry
 left_nodes r = nodes_to r.limit r.cursor.0 (running_of r).tables.trace.nodes
 
--- a repair after an act of its unit: it goes on, or it is over
+-- a repair after an act of its unit: it continues, or it is over
 abbrev pub RunsOrEnds : Bool → Start → Repair → Type 0
 RunsOrEnds true start r = Runs start r
 RunsOrEnds false start r = IsOver start r

@@ -1,4 +1,4 @@
--- What slices of a repair that goes on come to.
+-- The results of slices of a repair in progress.
 use Rattle.std.specs.Prelude.{◌≡◌, ◌≤◌, ◌+◌, ◌*◌, ℕ, Option, Some, None, List}
 use Rattle.ceal_base.specs.Block.{Block}
 use Rattle.ceal_base.specs.declared.word.BlockId.TheVariants.{Core}
@@ -18,9 +18,9 @@ use Rattle.ceal_theory.specs.Carried.{numbered_from_zero}
 use Rattle.ceal_theory.specs.Repair.{Single}
 use Rattle.ceal_theory.specs.Slices.{Repair, sliced}
 
--- The nodes, the queue and the heap of a run stand for a repair of the call that goes on, with no more steps spent
--- than the fuel. Revoked blocks can be read: with the live ones they are no more than the fuel and the steps spent
--- together, and at most twice as many numbers as the fuel were given out.
+-- The nodes, the queue and the heap of a run stand for a repair of the call that is in progress, with no more steps
+-- spent than the fuel. Revoked blocks can be read: with the live ones they are no more than the fuel and the steps
+-- spent together, and at most twice as many numbers as the fuel were given out.
 pub record IsPartRun (code : Code) (inputs : List Block) (f : ℕ) (args : List Word) (fuel : ℕ)
     (r : Repair) (run : Running) : Type 0 where
   pub fits : Fits code inputs f args

@@ -64,7 +64,7 @@ turn_start code inputs r first numbers chosen old reads a now = record {
   beyond = end_entry a.end a.read a.end_steps ∷ a.behind;
 }
 
--- The nodes, the queue and the heap of a run stand for a repair that goes on.
+-- The nodes, the queue and the heap of a run stand for a repair in progress.
 pub record StandsFor (code : Code) (inputs : List Block) (f : ℕ) (args : List Word)
     (r : Repair) (run : Running) : Type 0 where
   pub kept : Kept run.tables
@@ -89,11 +89,11 @@ abbrev pub turns_more : ℕ → ℕ → ℕ
 turns_more zero n = n
 turns_more (suc k) n = suc (turns_more k n)
 
--- after that many turns more
+-- after n more turns
 abbrev pub later : ℕ → Since → Since
 later n o = record { repair = o.repair; first = o.first; numbers = o.numbers; turns = turns_more n o.turns }
 
--- the repair of a trace, from its beginning, where so many numbers had been given out
+-- the repair of a trace, from its beginning, when `numbers` numbers had been given out
 abbrev pub since_begun : Code → List Block → Trace → ℕ → Since
 since_begun code inputs l numbers = record {
   repair = beginning code inputs l 0;
@@ -121,8 +121,8 @@ pub record TurnedSoFar (code : Code) (inputs : List Block) (f : ℕ) (args : Lis
   pub given : Given o.first o.numbers chosen run.heap
   pub history : (names : ℕ → ℕ) → Continues chosen names → Turns code names inputs o.turns o.repair repair
 
--- The first stale read of a run that has come so far was found, and has the content of its moment since then;
--- what is queued stands after it, and all else is as it was.
+-- The first stale read of a run that has come so far was found, and has the content of its moment since then; what is
+-- queued is after it, and all else is as it was.
 pub record FoundStale (code : Code) (inputs : List Block) (f : ℕ) (args : List Word)
     (o : Since) (read : ℕ) (run : Running) : Type 0 where
   pub called : IsOrigin code inputs f args o

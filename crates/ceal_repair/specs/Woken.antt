@@ -16,7 +16,7 @@ QueuesReadsOf p old new =
     (s : ℕ) → is_in s old.stale.stamps ≡ false → is_in s new.stale.stamps ≡ true
     → is_in s (cell_of old.mods p).reads ≡ true
 
--- what has come into it stands after a node
+-- what has come into it is after a node
 abbrev pub QueuesAfter : ℕ → Tables → Tables → Type 0
 QueuesAfter node old new =
     (s : ℕ) → is_in s old.stale.stamps ≡ false → is_in s new.stale.stamps ≡ true

@@ -35,7 +35,7 @@ pub enum Progress {
 /// is None; what the new run of a unit takes of the old one stays. The nodes before the first stale read stay as they
 /// are, and where no read is stale it takes no memory. A repair that begins has spent no step; where its steps exceed
 /// the fuel, those of a run from scratch do so too. What the run keeps is changed in place: after Spent, OutOfFuel or
-/// an error it is of no further use.
+/// an error it must not be used any more.
 pub fn advance(
     room: &mut Room,
     code: &Code,

@@ -9,7 +9,7 @@ use crate::repair::Repair;
 use ceal_base::no_memory::NoMemory;
 
 /// Lets the units of a repair act until it is over, or has run more steps than the fuel allows: then it answers false.
-/// No run that fits into memory comes to 2^64 acts; one that did would be answered as out of memory.
+/// No run that fits into memory takes 2^64 acts; one that did would be answered as out of memory.
 pub fn complete(repair: &mut Repair<'_>, fuel: u32) -> Result<bool, NoMemory>
     requires runs { (start : Start) × Runs start repair.old }
     ensures call { OnOk result (SameCall repair.old repair.new) }

@@ -20,7 +20,7 @@ use ceal_order::stamp::Stamp;
 use ceal_trace::node::Seen;
 use ceal_trace::trace::Trace;
 
-/// What is to be done to revoke a node.
+/// What has to be done to revoke a node.
 enum Cut {
     Alloc(BlockId),
     Write(Place),

@@ -11,8 +11,8 @@ ghost use Rattle.ceal_repair.specs.declared.tables.Tables.{Tables};
 ghost use Rattle.ceal_theory.specs.Cover.{Covered, none_waits};
 ghost use Rattle.ceal_trace.specs.Nodes.{Entry, position};
 
-/// Laws: a read up to a node after which all that is queued stands has the content of its moment; so has one before a
-/// node before which nothing is queued, and where nothing is queued each one.
+/// Laws: a read up to a node has the content of its moment if all that is queued is after that node; so has a read
+/// before a node if nothing before that node is queued; and so has every read if nothing is queued.
 pub fn unqueued_reads_are_honest()
     ensures behind { (t : Tables) → Kept t → (s : ℕ) → QueuedAfter s t → (r : ℕ)
         → position r t.trace.nodes ≤ position s t.trace.nodes → IsHonestRecord r t }
@@ -22,13 +22,13 @@ pub fn unqueued_reads_are_honest()
         → IsHonestRecord r t }
 {}
 
-/// A law: wherever a read has not the content of its moment, a queued read of its place stands there or before it, with
-/// no write of the place between.
+/// A law: wherever a read does not have the content of its moment, a queued read of its place is there or before it,
+/// with no write of the place between.
 pub fn stale_reads_are_covered()
     ensures { (t : Tables) → Kept t → CoveredBy (queue_of t.stale.stamps) t }
 {}
 
-/// A law: what is covered is so in the words of the theory of repair, where each allocation stands where the
+/// A law: what is covered is so in the words of the theory of repair, if each allocation is at a point where the
 /// modifiables of its block hold their defaults. The lists of the modifiables know nothing of allocations.
 pub fn covered_as_items()
     ensures law { (code : Code) (q : Queue) (s : Store) (nodes : List Entry)

@@ -4,13 +4,13 @@
 //!
 //! Below it are the tables of a trace in step (`tables`): its nodes, the lists of its modifiables, the queue of its
 //! stale reads, and the memo. Their contracts speak of the list of nodes, of what each place holds before any write,
-//! and of the stamps that are queued. What is true of all tables is `Kept`: each place has exactly the writes and the
-//! reads of the nodes, each key exactly their allocations and reads, and each read that is not queued records what was
-//! recorded last of its place: its base, the last write or the value of the last read. So wherever a read has not the
-//! content of its moment, a queued read of its place stands there or before it, with no write of the place between; and
-//! a queued read that has the content of its moment leaves the queue without another one coming in. So nothing above
-//! these calls sees an order of stamps. Where a call lacks memory, the tables are of no use any more, but for the edit
-//! of a base, which changes nothing then. `laws` has what follows of `Kept`.
+//! and of the stamps that are queued. What is true of all tables is `Kept`. Each place has exactly the writes and the
+//! reads of the nodes, and each key exactly their allocations and reads. Each read that is not queued records what was
+//! recorded last of its place: its base, the last write or the value of the last read. So wherever a read does not have
+//! the content of its moment, a queued read of its place is there or before it, with no write of the place between. A
+//! queued read that has the content of its moment leaves the queue without another one coming in. So nothing above
+//! these calls sees an order of stamps. Where a call runs out of memory, the tables must not be used any more, but for
+//! the edit of a base, which changes nothing then. `laws` has what follows of `Kept`.
 //!
 //! Contracts speak of the list of nodes and of the theory of repair: the nodes of a run from nothing stand for the
 //! first trace of the call, and after a propagation for the repair of the trace before it (`specs/Answers`). Inside, a

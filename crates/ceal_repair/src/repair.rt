@@ -150,8 +150,8 @@ impl<'a> Repair<'a> {
         Ok(())
     }
 
-    /// One step more was re-executed, after the node at the cursor. Where the count has no room in 32 bits, there is no
-    /// memory for that many steps.
+    /// One more step was re-executed, after the node at the cursor. A count that has no room in 32 bits is answered as
+    /// out of memory.
     fn step(&mut self) -> Result<(), NoMemory>
         requires kept { Kept (running_of self.old).tables }
         requires here { has_node self.old.cursor.0 (running_of self.old).tables.trace.nodes ≡ true }
@@ -178,7 +178,7 @@ impl<'a> Repair<'a> {
     }
 
     /// What the running unit does next. It answers false where the unit is over and nothing follows. After running out
-    /// of memory the repair is of no further use.
+    /// of memory the repair must not be used any more.
     pub fn act(&mut self) -> Result<bool, NoMemory>
         requires runs { (start : Start) × Runs start self.old }
         ensures call { OnOk result (SameCall self.old self.new) }

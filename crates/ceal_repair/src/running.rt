@@ -39,7 +39,7 @@ pub struct Running {
     pub spent: u32,
 }
 
-/// What a run from nothing comes to.
+/// The result of a run from nothing.
 #[derive(Drop)]
 pub enum Outcome {
     Done(Running),
@@ -47,8 +47,8 @@ pub enum Outcome {
     OutOfFuel,
 }
 
-/// The words of a block, where the heap takes that many: at most 255. Valid code makes no larger block; one that was
-/// larger would be answered as out of memory.
+/// The words of a block, if they are at most 255: the heap takes no more. Valid code makes no larger block; one that
+/// was larger would be answered as out of memory.
 fn few_words(block: &BlockWords) -> Result<&[Word], NoMemory>
     ensures words { IfOk result (λ words. words.now ≡ block.now.words) }
     ensures few { IfOk result (λ words. length words.now < 256) }

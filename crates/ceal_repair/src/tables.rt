@@ -237,7 +237,7 @@ impl Tables {
         Ok(Begun { read, value })
     }
 
-    /// Puts the end of a read that has none directly after a node that does not stand before the read.
+    /// Puts the end of a read that has none directly after a node that is not before the read.
     pub fn finish_read(&mut self, read: Stamp, after: Stamp) -> Result<Stamp, NoMemory>
         requires kept { Kept self.old }
         requires read { IsTrue (is_read (node_at read.0 self.old.trace.nodes)) }

@@ -92,8 +92,8 @@ act_move code names s fs old (Makes key v u i env below) =
     alloc_move code names s fs key v u i env below old (take_alloc key old)
 act_move code names s fs old (Writes p value after) =
     writing_move (Step ∷ Write p value ∷ []) (puts (works s) p value) (Running after old) fs
-act_move code names s fs old (Reads p u v args below) = read_move code s fs p u v args below old
-    (take_read p u v args old)
+act_move code names s fs old (Reads p u v args below) =
+    read_move code s fs p u v args below old (take_read p u v args old)
 
 -- a move, by the mode
 abbrev pub mode_move : Code → (ℕ → ℕ) → State → Frames → Mode → Move

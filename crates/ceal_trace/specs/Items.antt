@@ -6,7 +6,7 @@ use Rattle.ceal_trace.specs.declared.node.Node.{Node}
 use Rattle.ceal_trace.specs.declared.node.Node.TheVariants.{Root, Alloc, Write, Read, End}
 use Rattle.ceal_trace.specs.Nodes.{Entry, ends}
 
--- that many steps
+-- n steps
 abbrev pub ticks : ℕ → List Item
 ticks zero = []
 ticks (suc n) = item.Step ∷ ticks n

@@ -94,7 +94,7 @@ pub record ValueSet (s : ℕ) (value : Word) (old new : Table) : Type 0 where
   pub long : length new.rows ≡ length old.rows
   pub count : new.count ≡ old.count
 
--- the node at a stamp has that many steps
+-- the node at s has n steps
 pub record StepsSet (s n : ℕ) (old new : Table) : Type 0 where
   pub nodes : (u : ℕ) → node_of new u ≡ node_of old u
   pub held : (u : ℕ) → held_at new u ≡ held_at old u

@@ -31,7 +31,7 @@ stamps_in (e ∷ es) = e.stamp ∷ stamps_in es
 abbrev pub has_node : ℕ → List Entry → Bool
 has_node s es = is_in s (stamps_in es)
 
--- how many nodes stand before the one at a stamp
+-- the number of nodes before the one at a stamp
 abbrev pub position : ℕ → List Entry → ℕ
 position s es = place s (stamps_in es)
 
@@ -133,7 +133,7 @@ steps_set n e = record e { steps = n }
 abbrev pub with_value : ℕ → Word → List Entry → List Entry
 with_value s value es = changed_at s (value_set value) es
 
--- with that many steps on the node at s
+-- with n steps on the node at s
 abbrev pub with_steps : ℕ → ℕ → List Entry → List Entry
 with_steps s n es = changed_at s (steps_set n) es
 
@@ -141,8 +141,8 @@ with_steps s n es = changed_at s (steps_set n) es
 abbrev pub new_entry : ℕ → Node → Entry
 new_entry s node = record { stamp = s; node = node; steps = 0 }
 
--- what is true of every trace: its stamps are those of an order; the first node is the root, and no other; the end of
--- a read is one node, which stands after the read where the read is still there
+-- what is true of every trace: its stamps are those of an order; the first node is the root, and no other; the end of a
+-- read is one node, which is after the read where the read is still there
 pub record IsTrace (t : Timeline) : Type 0 where
   pub order : IsOrder (order_of t)
   pub first_root : (s : ℕ) → head_of (stamps_in t.nodes) ≡ Some s → node_at s t.nodes ≡ Some Root

@@ -60,17 +60,17 @@ abbrev pub or_root : Option Node → Node
 or_root None = node.Root
 or_root (Some n) = n
 
--- under which key a part stands apart
+-- under which key a part is kept apart
 abbrev pub place_of : Option Held → Option ℕ
 place_of (Some (small.Alloc block at)) = Some (number_of at)
 place_of (Some (small.Read value var at)) = Some (number_of at)
 place_of _ = None
 
--- whether a part stands apart
+-- whether a part is kept apart
 abbrev pub needs : Option Held → Bool
 needs o = is_some (place_of o)
 
--- how many parts stand apart because of this one
+-- how many parts are kept apart because of this one
 abbrev pub weight : Option Held → ℕ
 weight o = if needs o then 1 else 0
 
@@ -78,7 +78,7 @@ weight o = if needs o then 1 else 0
 abbrev pub at : Shelf → ℕ → Option Node
 at s key = whole_in s.apart (get s.held key)
 
--- how many nodes stand in a shelf
+-- the number of nodes in a shelf
 abbrev pub count_of : Shelf → ℕ
 count_of s = slab_len s.held
 

@@ -12,8 +12,8 @@ use ceal_order::packed::{Halves, Packed};
 use ceal_order::stamp::Stamp;
 use slab::Slab;
 
-/// A node but for its key or its closure, the second part, which has a key in a slab of its own. All of it is in
-/// numbers of 32 bits, so that the slab's tag takes no more than that.
+/// A node but for its key or its closure, the second part, which has a key in another slab. All of it is in numbers of
+/// 32 bits, so that the slab's tag takes no more than that.
 #[derive(Drop)]
 pub enum Held {
     Root,
@@ -35,8 +35,8 @@ pub enum Held {
     },
 }
 
-/// The second part: the key of an allocation, or the closure of a read but for its variable. The place of a read is in
-/// two numbers of a block of one kind, so that it takes eight bytes.
+/// The second part: the key of an allocation, or the closure of a read but for its variable. A closure is one of two
+/// variants, for a place in an input and for one in a core block, so that its place takes eight bytes.
 #[derive(Drop)]
 pub enum Apart {
     Key(Key),
@@ -127,7 +127,7 @@ pub fn release(apart: &mut Slab<Apart>, held: Held) -> Option<Stamp>
     }
 }
 
-/// A node as it stands. It is always put in line, so that a part of it that nobody asks for is not unpacked.
+/// A node, seen where it is. The function is always inlined, so that a part that nobody asks for is not unpacked.
 #[inline(always)]
 pub fn look<'a>(apart: &'a Slab<Apart>, held: &'a Held) -> Seen<'a>
     requires { IsSome (whole apart.now held.now) }

@@ -5,7 +5,7 @@
 //! Read as items, each node followed by its steps, that list is the flat forest of the run.
 //!
 //! `node` is what a node holds, `trace` the list and its calls, `laws` what that list has to do with the forest.
-//! Inside, `table` finds the node of a stamp by its number, and `slot` is what it keeps of a stamp. The nodes stand in
+//! Inside, `table` finds the node of a stamp by its number, and `slot` is what it keeps of a stamp. The nodes are in
 //! `shelf`, which is two slabs: of small parts, and of second parts (`held`); `new_node` is what is put in.
 #![tactic(auto)]
 

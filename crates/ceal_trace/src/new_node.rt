@@ -14,13 +14,13 @@ use ceal_order::packed::{Halves, Packed};
 use ceal_order::stamp::Stamp;
 use slab::Slab;
 
-/// A node that is put in, as its parts. Each kind has a type of its own, so that its parts go to where they stand, and
-/// no whole node is made on the way.
+/// A node that is put in, as its parts. Each kind has a separate type, so that its parts go to where they stay, and no
+/// whole node is made on the way.
 pub trait NewNode {
     /// the node that these are the parts of
     ghost node: { Self → Node };
 
-    /// Puts apart what does not stand in the small part, and gives the small part.
+    /// Puts apart what is not in the small part, and gives the small part.
     fn split(self, apart: &mut Slab<Apart>) -> Held
         requires room { HasRoomFor apart.old 1 }
         ensures { Split apart.old apart.new (node self) result };

@@ -18,7 +18,7 @@ pub enum Node {
         place: Place,
         value: Word,
     },
-    /// a read with its closure: the unit that goes on, the variable that takes the value, and the arguments
+    /// a read with its closure: the unit that continues, the variable that takes the value, and the arguments
     Read {
         place: Place,
         value: Word,
@@ -32,7 +32,7 @@ pub enum Node {
     },
 }
 
-/// A node where it stands in a trace.
+/// A node of a trace, seen where it is.
 #[derive(Clone, Copy)]
 pub enum Seen<'a> {
     Root,
@@ -56,7 +56,7 @@ pub enum Seen<'a> {
     },
 }
 
-/// A read where it stands in a trace.
+/// A read of a trace, seen where it is.
 #[derive(Clone, Copy)]
 pub struct SeenRead<'a> {
     pub place: Place,

@@ -1,4 +1,4 @@
-// The nodes of a trace under keys of their own.
+// The nodes of a trace, each under a key.
 
 ghost use Rattle.std.specs.Prelude.{◌≡◌, ◌<◌, ◌≤◌, ℕ, Some, None, IsSome, OnOk};
 ghost use Rattle.ceal_trace.specs.Nodes.{seen, ended_by, valued};
@@ -47,7 +47,7 @@ impl Shelf {
         self.held.len()
     }
 
-    /// Makes room for that many nodes in all.
+    /// Makes room for `count` nodes in all.
     pub fn reserve(&mut self, count: usize) -> Result<(), NoMemory>
         ensures same { SameShelf self.old self.new }
         ensures held { OnOk result (count ≤ self.new.held.capacity) }

@@ -66,7 +66,7 @@ pub fn set_end(slots: &mut Vec<Slot>, at: u32, end: u32)
     slot.end = end;
 }
 
-/// Adds slots until there are that many. It is called seldom, and is a function of its own, so that the common way is
+/// Adds slots until there are `count`. It is called seldom, and is a separate function, so that the usual path is
 /// short.
 #[inline(never)]
 pub fn lengthen(slots: &mut Vec<Slot>, count: usize) -> Result<(), NoMemory>

@@ -47,14 +47,14 @@ impl Table {
         }
     }
 
-    // Whether there is room for that many more nodes.
+    // Whether there is room for `more` more nodes.
     fn has_room(&self, more: u32) -> bool
         ensures { IsTrue result → self.now.count + more ≤ length self.now.rows }
     {
         more as usize <= self.slots.len() - self.shelf.len()
     }
 
-    /// Makes room for that many more nodes.
+    /// Makes room for `more` more nodes.
     pub fn reserve(&mut self, more: u32) -> Result<(), NoMemory>
         ensures rows { OnOk result (self.new.count + more ≤ length self.new.rows) }
         ensures kept { Wider self.old self.new }

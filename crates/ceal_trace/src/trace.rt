@@ -91,7 +91,7 @@ impl Trace {
         &self.order
     }
 
-    /// Makes room for that many insertions without taking memory. `NoMemory` also comes when there would be 2^32 - 1
+    /// Makes room for `nodes` insertions, which then take no memory. `NoMemory` also comes when there would be 2^32 - 1
     /// nodes or more, the spare ones counted.
     ///
     /// How many insertions there is room for beyond those is not told, as the order does not tell it: else a trace that
@@ -110,8 +110,7 @@ impl Trace {
         self.widen(nodes)
     }
 
-    // Makes room where there is none. It is called seldom, and is a function of its own, so that the common way is
-    // short.
+    // Makes room where there is none. It is called seldom, and is a separate function, so that the usual path is short.
     #[inline(never)]
     fn widen(&mut self, nodes: u32) -> Result<(), NoMemory>
         ensures nodes { self.new.nodes ≡ self.old.nodes }
@@ -382,7 +381,7 @@ impl Trace {
         gone
     }
 
-    /// Takes a node out that is not the root, and lets it go where it stands.
+    /// Takes out a node that is not the root, and drops it in place.
     pub fn discard(&mut self, stamp: Stamp)
         requires here { IsTrue (has_node stamp.0 self.old.nodes) }
         requires not_root { head_of (stamps_in self.old.nodes) ≢ Some stamp.0 }

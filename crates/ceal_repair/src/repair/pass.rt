@@ -15,8 +15,8 @@ use ceal_order::stamp::Stamp;
 
 impl<'a> Repair<'a> {
     /// Kept nodes inside a taken read are passed, up to the first stale read among them, whose unit runs with what is
-    /// inside it left over. Where none is stale all are passed: the units below run, with what stands after the end of
-    /// the taken read.
+    /// inside it left over. Where none is stale all are passed: the units below run, with what is after the end of the
+    /// taken read.
     pub fn pass(&mut self) -> Result<(), NoMemory>
         requires passes { (start : Start) × PassesOn start self.old }
         ensures call { OnOk result (SameCall self.old self.new) }
@@ -34,7 +34,7 @@ impl<'a> Repair<'a> {
     }
 
     /// No read up to the limit is stale: the kept nodes up to there, which is the end of a taken read, are passed. The
-    /// units below run with what stands after it, up to their own limit; the steps on the end are dropped.
+    /// units below run with what is after it, up to their own limit; the steps on the end are dropped.
     fn pass_all(&mut self)
         requires none { (start : Start) × NoneStale start self.old }
         ensures call { SameCall self.old self.new }

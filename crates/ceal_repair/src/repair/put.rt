@@ -38,7 +38,7 @@ impl<'a> Repair<'a> {
         Ok(())
     }
 
-    /// A write: its node stands after the cursor, and the read that this affects is queued.
+    /// A write: its node is put after the cursor, and the read that this affects is queued.
     pub fn write(&mut self, place: Place, value: Word) -> Result<(), NoMemory>
         requires acts { (start : Start) × Acts start (does.Writes place value) self.old }
         ensures call { OnOk result (SameCall self.old self.new) }
@@ -131,7 +131,7 @@ impl<'a> Repair<'a> {
         Ok(())
     }
 
-    /// The unit of a new read is over: its end stands after the cursor, and the units below run with what is left over.
+    /// The unit of a new read is over: its end is put after the cursor, and the units below run with what is left over.
     pub fn finish(&mut self, below: Floor, read: Stamp) -> Result<(), NoMemory>
         requires ends { (start : Start) × EndsRead start below read self.old }
         ensures call { OnOk result (SameCall self.old self.new) }

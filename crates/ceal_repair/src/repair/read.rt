@@ -101,8 +101,9 @@ impl<'a> Repair<'a> {
         }
     }
 
-    /// A read that is left over is taken: what stands before it is revoked. Where it has not the content of its moment
-    /// its unit runs, with what is inside it left over. Else it answers false: what is inside it is to be passed.
+    /// A read that is left over is taken: what is before it is revoked. Where it does not have the content of its
+    /// moment its unit runs, with what is inside it left over. Otherwise it answers false: what is inside it has to be
+    /// passed.
     fn take_read(&mut self, found: Stamp, reading: Reading<'_>) -> Result<bool, NoMemory>
         requires acts { (start : Start)
             × Acts start (does.Reads (closure_in reading (arguments_of self.old))) self.old }
@@ -140,7 +141,7 @@ impl<'a> Repair<'a> {
         }
     }
 
-    /// The cursor goes on a read that is taken, and the limit on its end. The units below wait, with their limit.
+    /// The cursor is set to a read that is taken, and the limit to its end. The units below wait, with their limit.
     fn go_inside(&mut self, read: Stamp, limit: Stamp, below: Floor) -> Result<(), NoMemory>
         requires read { is_read (node_at read.0 (running_of self.old).tables.trace.nodes) ≡ true }
         ensures rest { OnOk result (self.new ≡ record self.old {
@@ -159,8 +160,8 @@ impl<'a> Repair<'a> {
         Ok(())
     }
 
-    /// The unit of a read that was taken is over: what is left over is revoked. The units below run with what stands
-    /// after its end, up to their own limit; the steps on the end are dropped.
+    /// The unit of a read that was taken is over: what is left over is revoked. The units below run with what is after
+    /// its end, up to their own limit; the steps on the end are dropped.
     pub fn leave(&mut self, below: Floor, until: Stamp) -> Result<(), NoMemory>
         requires ends { (start : Start) × EndsTaken start below until self.old }
         ensures call { OnOk result (SameCall self.old self.new) }

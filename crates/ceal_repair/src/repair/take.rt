@@ -34,8 +34,7 @@ impl<'a> Repair<'a> {
         }
     }
 
-    /// The block of an allocation that is left over is taken: what stands before it is revoked, and its steps are
-    /// dropped.
+    /// The block of an allocation that is left over is taken: what is before it is revoked, and its steps are dropped.
     pub fn take_alloc(&mut self, found: Stamp, key: Key, var: u32) -> Result<(), NoMemory>
         requires acts { (start : Start) × ActsMaking start key var self.old }
         requires found { head_of (stamps_where (allocates key) (left_nodes self.old))

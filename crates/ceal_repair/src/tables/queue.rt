@@ -115,7 +115,7 @@ impl Tables {
         false
     }
 
-    // Whether a read has not the content of its moment.
+    // Whether a read does not have the content of its moment.
     #[inline]
     pub fn differs(&mut self, read: Stamp) -> bool
         requires kept { Kept self.old }
