@@ -17,8 +17,8 @@ use Rattle.ceal_theory.proofs.Repair.FunctionOfRules.{first-found, adjusted-foun
 use Rattle.ceal_theory.proofs.Repair.Honesty.{fix-work}
 use Rattle.ceal_theory.proofs.Store.FittingInputs.{fits-more}
 use Rattle.ceal_theory.proofs.Nodes.TurnCourse.{work-law}
-use Rattle.ceal_theory.proofs.TurnMachine.MachineLaws.{leads-then, leads-turn}
-use Rattle.ceal_theory.proofs.TurnMachine.TurnKeepsEnd.{at, turn-kept, finishes-fix, finishes-anew}
+use Rattle.ceal_theory.proofs.MoveMachine.MachineLaws.{leads-then, leads-move}
+use Rattle.ceal_theory.proofs.MoveMachine.MoveKeepsEnd.{at, move-kept, finishes-fix, finishes-anew}
 use Rattle.ceal_theory.specs.Adjust.{Adjusts, Firsts}
 use Rattle.ceal_adjust.specs.Answers.{Exceeds, Keeps, EndsAt, IsBeyond, Completes, RunsOut, Answered, IsRepair, IsAnswer}
 use Rattle.ceal_adjust.specs.declared.complete.Limit.{Limit}
@@ -36,7 +36,7 @@ turned code now m t e h = subst (λ k. next_move k own m ≡ t) e h
 
 -- after one turn more
 pub leads-more : (code : Code) (start m m' : Machine) (out written : List Item) → BecomesBy code own start m out → next_move code own m ≡ Went written m' → BecomesBy code own start m' (out ++ written)
-leads-more code start m m' out written h e = leads-then code own start m m' out written h (leads-turn code own m m' written e)
+leads-more code start m m' out written h e = leads-then code own start m m' out written h (leads-move code own m m' written e)
 
 -- where it is beyond the limit
 pub is-beyond : (code : Code) (limit : Limit) (start m : Machine) (out : List Item) (steps work : ℕ)
@@ -62,7 +62,7 @@ ends-at code limit start m out steps work s h e k l t n = record {
 pub has-completed : (code : Code) (fuel : ℕ) (start : Machine) (out : List Item) (s : State) (work : ℕ) → EndsAt code (Written fuel) start out s → work ≡ s.work → Completes code fuel start out work
 has-completed code fuel start out s work e k = record {
   after = e.ended.machine.state;
-  finishes = rw (append-nil out) at (e.ended.leads.back e.ended.machine.state [] (rw e.ended.ended at (turn-kept code own e.ended.machine)));
+  finishes = rw (append-nil out) at (e.ended.leads.back e.ended.machine.state [] (rw e.ended.ended at (move-kept code own e.ended.machine)));
   counted = ap (λ t. t.work) e.state ∙ sym k;
   within = e.ended.within;
 }

@@ -1,6 +1,7 @@
 -- what the crate promises
 pub mod formers
 pub mod Digits
+pub mod Faults
 pub mod Hashing
 pub mod Operators
 pub mod Block

@@ -1,3 +1,6 @@
+-- what crates above cite
+pub mod MarkedEnds
+-- what only this crate cites
 pub mod Inputs
 pub mod MoreMemory
 pub mod RunMemory
@@ -15,5 +18,4 @@ pub mod Restored
 pub mod EngineLaws
 pub mod TraceSoFar
 pub mod LooksOfCalls
-pub mod MarkedEnds
 pub mod Samples

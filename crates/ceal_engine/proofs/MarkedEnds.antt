@@ -29,12 +29,14 @@ use Rattle.ceal_code.specs.Program.{Code}
 use Rattle.ceal_code.specs.Replay.{IsHonest, Store, filled, with_contents}
 use Rattle.ceal_code.specs.Value.{is_cell}
 use Rattle.ceal_engine.proofs.Inputs.{all-get, fit-all}
+use Rattle.ceal_engine.proofs.Keeping.{sound-left, state-marked}
 use Rattle.ceal_engine.proofs.Present.{sound-present}
 use Rattle.ceal_engine.proofs.RunMemory.{core-absent, input-absent}
 use Rattle.ceal_engine.proofs.ReadRun.{cell-content, core-is, kind-filled}
 use Rattle.ceal_engine.specs.Engine.{EngineState, IsPresent, block_in, block_of, core, stored_at}
 use Rattle.ceal_engine.specs.Keeping.{EngineInvariant, Keeps, Kept, contents, marked_kept, phase_of, running_in, state_of, store_in}
 use Rattle.ceal_engine.specs.Marks.{IsModifiable, held_at_end, held_at_mark}
+use Rattle.ceal_engine.specs.Runs.{LeavesCells, OfRuns, same_stage}
 use Rattle.ceal_engine.specs.declared.phase.Phase.TheVariants.{Finished as IsFinished}
 use Rattle.ceal_engine.specs.declared.run.Run.{Run}
 use Rattle.ceal_engine.specs.declared.run.Run.TheVariants as its
@@ -82,7 +84,7 @@ some-of-mapped f None h = absurd (false≢true h)
 some-of-mapped f (Some w) h = refl
 
 -- the number at the index of a number
-at-index : (bs : List ℕ) (n : ℕ) → index_of bs n < length bs → slice_index bs (index_of bs n) ≡ n
+pub at-index : (bs : List ℕ) (n : ℕ) → index_of bs n < length bs → slice_index bs (index_of bs n) ≡ n
 at-index [] n h = absurd (grind (arith, h))
 at-index (b ∷ bs) n h = go (b == n) refl (at-index bs n)
   where
@@ -241,6 +243,18 @@ module _ (code : Code) (inputs : List Block) where
         ∙ core-absent code inputs d.function d.args fuel d.trace r d.of d.honest n field
         (none-filled (contents r.tables.mods) (Core n) (heap_words r.heap (Core n)) (sym (core-is code inputs r n) ∙ none))
     marked-core its.Dropped s e h = absurd (grind (arith, e))
+
+-- a finished run of which only what is marked has changed
+pub record IsMarkedRun (code : Code) (fuel : ℕ) (inputs : List Block) (kept : Kept) (e : EngineState) (run : Run) : Type 0 where
+  pub same : state_of code fuel inputs kept.call run ≡ record e { marked = marked_kept (running_in run) }
+  pub sound : EngineInvariant code fuel inputs kept run
+  pub finished : phase_of run ≡ IsFinished
+
+pub marked-run : (code : Code) (fuel : ℕ) (inputs : List Block) (kept : Kept) (old run : Run) (e : EngineState) → OfRuns LeavesCells same_stage old run → EngineInvariant code fuel inputs kept old
+    → state_of code fuel inputs kept.call old ≡ e → e.phase ≡ IsFinished → IsMarkedRun code fuel inputs kept e run
+marked-run code fuel inputs kept old run e left sound view finished =
+    let same = state-marked code fuel inputs kept.call old run left ∙ ap (λ (e : EngineState). record e { marked = marked_kept (running_in run) }) view in
+    record { same = same; sound = sound-left code fuel inputs kept old run left sound; finished = ap (λ (e : EngineState). e.phase) same ∙ finished }
 
 -- a finished run is marked
 pub there-marked : (run : Run) → phase_of run ≡ IsFinished → is_some (marked_kept (running_in run)) ≡ is_some (running_in run) → IsSome (marked_kept (running_in run))

@@ -1,11 +1,12 @@
 -- Which places are told as changed: those that hold something else at the end than when they were marked, each once.
 use Rattle.std.proofs.Common.{◌≡◌, ◌≢◌, ◌<◌, ◌≤◌, ◌+◌, ℕ, suc, zero, pos, inl, inr, ◌⊎◌, true, false, List}
-use Rattle.std.proofs.Common.{[], ◌∷◌, ◌++◌, length, drop, get_or, Option, Some, None, refl, sym, ap, subst, ◌∙◌, arith, rules}
+use Rattle.std.proofs.Common.{[], ◌∷◌, ◌++◌, cond, length, drop, get_or, Option, Some, None, refl, sym, ap, subst, ◌∙◌, arith, rules}
 use Rattle.std.specs.Bool.{Decides}
 use Rattle.std.specs.Prelude.{unwrap_or, Result, Ok, Err, OnOk, IfOk}
 use Rattle.std.specs.Map.{lookup}
 use Rattle.std.proofs.lemmas.Bool.{cases_Bool, cases_lt, false≢true}
 use Rattle.std.proofs.lemmas.Bool.Decides.{eqb_tells}
+use Rattle.std.proofs.lemmas.List.Sums.{sum_by-append}
 use Rattle.ceal_base.specs.contracts.word.PlacePartialEq.TheImpl.{ghosts}
 use Rattle.ceal_base.specs.contracts.word.WordPartialEq.TheImpl.{ghosts as word_ghosts}
 use Rattle.ceal_base.specs.declared.word.Place.{Place}
@@ -23,11 +24,7 @@ word-Decides : (a b : Word) → Decides (word_ghosts.eq a b) (a ≡ b)
 word-Decides a b = search rules
 
 pub times-append : (p : Place) (xs ys : List Place) → times p (xs ++ ys) ≡ times p xs + times p ys
-times-append p [] ys = omega arith
-times-append p (x ∷ xs) ys = elim (cases_Bool (ghosts.eq p x)) [
-  | inl here ↦ rw here (let rest = times-append p xs ys in omega (arith, rest))
-  | inr other ↦ rw other (times-append p xs ys)
-]
+times-append p xs ys = sum_by-append (λ (q : Place). cond (ghosts.eq p q) 1 0) xs ys
 
 -- ---- one place
 

@@ -1,15 +1,17 @@
 -- What is marked again: the flags of the slots, and the ends of the cells.
-use Rattle.std.proofs.Common.{◌≡◌, ◌≢◌, ◌<◌, ◌≤◌, ◌+◌, ℕ, suc, zero, inl, inr, true, false, Bool, List, [], ◌∷◌, ◌++◌, length, drop, get_or, set, replicate, refl, sym, ap, subst, ◌∙◌, arith}
-use Rattle.std.proofs.lemmas.Bool.{cases_Bool, cases_eq, eq-eqb}
+use Rattle.std.proofs.Common.{◌≡◌, ◌≢◌, ◌<◌, ◌≤◌, ◌+◌, ℕ, suc, zero, inl, inr, true, false, Bool, cond, not, List, [], ◌∷◌, ◌++◌, refl, sym, ap, subst, ◌∙◌, arith}
+use Rattle.std.proofs.Common.{length, drop, take, get_or, set, replicate}
+use Rattle.std.proofs.lemmas.Bool.{cases_eq, eq-eqb}
 use Rattle.std.proofs.lemmas.Bool.Decides.{eqb_tells}
 use Rattle.std.proofs.lemmas.List.{length-set, length_push, length-append, length-drop, length-replicate, get_or-set_same, get_or-set_other}
+use Rattle.std.proofs.lemmas.List.Sums.{sum_by-cons, sum_by-set}
 use Rattle.ceal_base.specs.declared.word.Place.{Place}
 use Rattle.ceal_base.specs.declared.word.Word.{Word}
 use Rattle.ceal_order.proofs.Places.{in_tail}
 use Rattle.ceal_order.specs.Stamps.{is_in, AllBelow}
 use Rattle.ceal_mods.specs.Cell.{latest_value}
 use Rattle.ceal_mods.specs.Index.{cell_in}
-use Rattle.ceal_mods.specs.Marks.{SamePlaces, IsListed, end_in, with_end, ends_of, renewed, unlisted, count_unlisted}
+use Rattle.ceal_mods.specs.Marks.{SamePlaces, IsListed, end_in, ends_of, count_unlisted}
 use Rattle.ceal_mods.specs.declared.cell.Cell.{Cell}
 
 -- ---- a slot is listed
@@ -23,11 +25,10 @@ in-last t [] = rw (eq-eqb t t refl) refl
 in-last t (x ∷ xs) = in_tail t x (xs ++ t ∷ []) (in-last t xs)
 
 count-set : (bs : List Bool) (n : ℕ) → n < length bs → get_or bs n false ≡ false → count_unlisted (set bs n true) + 1 ≡ count_unlisted bs
-count-set [] n less off = absurd (omega arith)
-count-set (b ∷ bs) zero less off = rw off (omega arith)
-count-set (b ∷ bs) (suc n) less off =
-    let rest = count-set bs n (omega arith) off in
-    elim (cases_Bool b) [ inl on ↦ rw on rest | inr off' ↦ rw off' (omega (arith, rest)) ]
+count-set bs n less off =
+    let set-one = sum_by-set (λ (b : Bool). cond (not b) 1 0) bs n true false less in
+    let h = rw off at set-one in
+    omega (arith, h)
 
 module _ (ends : List (Place × Word)) (listed : List Bool) (slots : List ℕ) (room at : ℕ) (kept : IsListed ends listed slots room) (within : at < length listed) (off : get_or listed at
     false ≡ false) where
@@ -53,6 +54,11 @@ module _ (ends : List (Place × Word)) (listed : List Bool) (slots : List ℕ) (
 
 -- ---- no slot is listed any more
 
+-- the flags after the loop has gone through these slots
+abbrev pub unlisted : List ℕ → List Bool → List Bool
+unlisted [] listed = listed
+unlisted (s ∷ ss) listed = unlisted ss (set listed s false)
+
 off-set : (bs : List Bool) (n : ℕ) → get_or (set bs n false) n false ≡ false
 off-set [] n = refl
 off-set (b ∷ bs) zero = refl
@@ -65,7 +71,7 @@ all-off (t ∷ ss) bs off = all-off ss (set bs t false) (λ s none. elim (eqb_te
   | inr other ↦ get_or-set_other bs t s false false (λ e. other.1 (sym e)) ∙ off s (let no : is_in s (t ∷ ss) ≡ false = rw other.0 none in no)
 ])
 
-pub length-unlisted : (slots : List ℕ) (bs : List Bool) → length (unlisted slots bs) ≡ length bs
+length-unlisted : (slots : List ℕ) (bs : List Bool) → length (unlisted slots bs) ≡ length bs
 length-unlisted [] bs = refl
 length-unlisted (s ∷ ss) bs = length-unlisted ss (set bs s false) ∙ length-set bs s false
 
@@ -79,39 +85,55 @@ off-more [] k s off = off-replicated k s
 off-more (b ∷ bs) k zero off = off 0
 off-more (b ∷ bs) k (suc s) off = off-more bs k s (λ n. off (suc n))
 
+all-false : (bs : List Bool) → ((n : ℕ) → get_or bs n false ≡ false) → bs ≡ replicate (length bs) false
+all-false [] off = refl
+all-false (b ∷ bs) off =
+    let first : b ≡ false = off 0 in
+    let rest = all-false bs (λ n. off (suc n)) in
+    rw first (ap (λ (l : List Bool). false ∷ l) rest)
+
+pub unlisted-is : (slots : List ℕ) (bs : List Bool) → ((s : ℕ) → get_or bs s false ≡ is_in s slots) → unlisted slots bs ≡ replicate (length bs) false
+unlisted-is slots bs flags = all-false (unlisted slots bs) (all-off slots bs (λ s none. flags s ∙ none)) ∙ ap (λ (n : ℕ). replicate n false) (length-unlisted slots bs)
+
 count-all : (bs : List Bool) → ((n : ℕ) → get_or bs n false ≡ false) → count_unlisted bs ≡ length bs
 count-all [] off = refl
 count-all (b ∷ bs) off =
+    let more = sum_by-cons (λ (b : Bool). cond (not b) 1 0) b bs in
     let first : b ≡ false = off 0 in
     let rest = count-all bs (λ n. off (suc n)) in
-    rw first (ap suc rest)
+    more ∙ rw first (omega (arith, rest))
 
-pub none-listed : (ends : List (Place × Word)) (listed : List Bool) (slots : List ℕ) (capacity k : ℕ) (after : List (Place × Word)) (room : ℕ) → IsListed ends listed slots capacity
-    → length after ≡ length ends + k → length ends + k ≤ room → IsListed after (unlisted slots listed ++ replicate k false) [] room
-none-listed ends listed slots capacity k after room kept more enough =
-    let off = all-off slots listed (λ s none. kept.flags s ∙ none) in
-    let every = λ (s : ℕ). off-more (unlisted slots listed) k s off in
-    let long = length-append (unlisted slots listed) (replicate k false) in
-    let first = length-unlisted slots listed in
+none-listed : (after : List (Place × Word)) (n k room : ℕ) → length after ≡ n + k → n + k ≤ room → IsListed after (replicate n false ++ replicate k false) [] room
+none-listed after n k room long enough =
+    let flags = replicate n false ++ replicate k false in
+    let off = λ (s : ℕ). off-more (replicate n false) k s (off-replicated n) in
+    let whole = length-append (replicate n false) (replicate k false) in
+    let first = length-replicate n false in
     let last = length-replicate k false in
-    let same = kept.long in
     record {
-      long = omega (arith, long, first, last, same, more);
-      flags = every;
-      counted = (let all = count-all (unlisted slots listed ++ replicate k false) every in omega (arith, all));
-      room = omega (arith, long, first, last, same, enough);
+      long = omega (arith, whole, first, last, long);
+      flags = off;
+      counted = (let all = count-all flags off in omega (arith, all));
+      room = omega (arith, whole, first, last, enough);
     }
 
 -- ---- what the cells hold
 
-pub length-with-end : (n : ℕ) (w : Word) (xs : List (Place × Word)) → length (with_end n w xs) ≡ length xs
+-- something else is held at a slot
+abbrev pub with_end : ℕ → Word → List (Place × Word) → List (Place × Word)
+with_end n w [] = []
+with_end zero w (x ∷ xs) = (x.0, w) ∷ xs
+with_end (suc n) w (x ∷ xs) = x ∷ with_end n w xs
+
+-- the ends after the loop has gone through these slots
+abbrev pub renewed : List (Place × Cell) → List ℕ → List (Place × Word) → List (Place × Word)
+renewed cells [] ends = ends
+renewed cells (s ∷ ss) ends = renewed cells ss (with_end s (latest_value (cell_in cells s)) ends)
+
+length-with-end : (n : ℕ) (w : Word) (xs : List (Place × Word)) → length (with_end n w xs) ≡ length xs
 length-with-end n w [] = refl
 length-with-end zero w (x ∷ xs) = refl
 length-with-end (suc n) w (x ∷ xs) = ap suc (length-with-end n w xs)
-
-pub length-renewed : (cells : List (Place × Cell)) (slots : List ℕ) (xs : List (Place × Word)) → length (renewed cells slots xs) ≡ length xs
-length-renewed cells [] xs = refl
-length-renewed cells (s ∷ ss) xs = length-renewed cells ss (with_end s (latest_value (cell_in cells s)) xs) ∙ length-with-end s (latest_value (cell_in cells s)) xs
 
 places-with-end : (n : ℕ) (w : Word) (xs : List (Place × Word)) (es : List (Place × Cell)) → SamePlaces xs es → SamePlaces (with_end n w xs) es
 places-with-end n w [] es same = tt
@@ -132,17 +154,16 @@ end-other (suc n) zero w (x ∷ xs) other = refl
 end-other (suc n) (suc s) w (x ∷ xs) other = end-other n s w xs (λ e. other (ap suc e))
 
 same-ends : (xs : List (Place × Word)) (es : List (Place × Cell)) → SamePlaces xs es → ((s : ℕ) → s < length xs → end_in xs s ≡ latest_value (cell_in es s))
-    → xs ++ ends_of (drop (length xs) es) ≡ ends_of es
+    → xs ≡ ends_of (take (length xs) es)
 same-ends [] es places same = refl
 same-ends (x ∷ xs) [] places same = absurd places
 same-ends (x ∷ xs) (e ∷ es) places same =
-    let first : (x.0, x.1) ≡ (e.0, latest_value e.1) = rw (places.0, same 0 (omega arith)) refl in
     let rest = same-ends xs es places.1 (λ s less. same (suc s) (omega (arith, less))) in
-    ap (λ (y : Place × Word). y ∷ (xs ++ ends_of (drop (length xs) es))) first ∙ ap (λ (l : List (Place × Word)). (e.0, latest_value e.1) ∷ l) rest
+    let first : (x.0, x.1) ≡ (e.0, latest_value e.1) = rw (places.0, same 0 (omega arith)) refl in
+    ap (λ (y : Place × Word). y ∷ xs) first ∙ ap (λ (l : List (Place × Word)). (e.0, latest_value e.1) ∷ l) rest
 
 pub renewed-is : (slots : List ℕ) (xs : List (Place × Word)) (es : List (Place × Cell)) → SamePlaces xs es
-    → ((s : ℕ) → s < length xs → is_in s slots ≡ false → end_in xs s ≡ latest_value (cell_in es s))
-    → renewed es slots xs ++ ends_of (drop (length xs) es) ≡ ends_of es
+    → ((s : ℕ) → s < length xs → is_in s slots ≡ false → end_in xs s ≡ latest_value (cell_in es s)) → renewed es slots xs ≡ ends_of (take (length xs) es)
 renewed-is [] xs es places same = same-ends xs es places (λ s less. same s less refl)
 renewed-is (t ∷ ss) xs es places same =
     let now = latest_value (cell_in es t) in
@@ -151,7 +172,7 @@ renewed-is (t ∷ ss) xs es places same =
       | inl e ↦ subst (λ (n : ℕ). end_in (with_end t now xs) n ≡ latest_value (cell_in es n)) e.1 (end-with t now xs (let l = e.1 in omega (arith, l, less, long)))
       | inr e ↦ end-other t s now xs e.1 ∙ same s (omega (arith, less, long)) (let no : is_in s (t ∷ ss) ≡ false = rw e.0 none in no)
     ]) in
-    rw long at rest
+    rest ∙ ap (λ (n : ℕ). ends_of (take n es)) long
 
 -- ---- a step of each loop
 
@@ -170,19 +191,23 @@ length-ends : (es : List (Place × Cell)) → length (ends_of es) ≡ length es
 length-ends [] = refl
 length-ends (e ∷ es) = ap suc (length-ends es)
 
+-- the ends of the first cells, and of the others
+pub ends-split : (n : ℕ) (es : List (Place × Cell)) → ends_of (take n es) ++ ends_of (drop n es) ≡ ends_of es
+ends-split zero es = refl
+ends-split (suc n) [] = refl
+ends-split (suc n) (e ∷ es) = ap (λ (l : List (Place × Word)). (e.0, latest_value e.1) ∷ l) (ends-split n es)
+
+pub length-first-ends : (n : ℕ) (es : List (Place × Cell)) → n ≤ length es → length (ends_of (take n es)) ≡ n
+length-first-ends zero es le = refl
+length-first-ends (suc n) [] le = absurd (omega arith)
+length-first-ends (suc n) (e ∷ es) le = ap suc (length-first-ends n es (omega arith))
+
 -- all cells are marked again
-module _ (ends : List (Place × Word)) (listed : List Bool) (slots : List ℕ) (capacity : ℕ) (cells : List (Place × Cell)) (n : ℕ) (kept : IsListed ends listed slots capacity) (is : n ≡ length ends)
-    (few : length ends ≤ length cells) where
-  pub renewed-kept : (room : ℕ) → length cells ≤ room → IsListed (renewed cells slots ends ++ ends_of (drop n cells)) (unlisted slots listed ++ replicate (length (drop n cells)) false) [] room
-  renewed-kept room enough =
-      let first = length-renewed cells slots ends in
-      let last = length-ends (drop n cells) in
-      let all = length-append (renewed cells slots ends) (ends_of (drop n cells)) in
-      let left = length-drop n cells in
-      none-listed ends listed slots capacity (length (drop n cells)) (renewed cells slots ends ++ ends_of (drop n cells)) room kept (omega (arith, first, last, all)) (omega (
-        arith,
-        left,
-        is,
-        few,
-        enough,
-      ))
+pub none-listed-of-all : (cells : List (Place × Cell)) (n room : ℕ) → n ≤ length cells → length cells ≤ room
+    → IsListed (ends_of (take n cells) ++ ends_of (drop n cells)) (replicate n false ++ replicate (length (drop n cells)) false) [] room
+none-listed-of-all cells n room few enough =
+    let first = length-first-ends n cells few in
+    let last = length-ends (drop n cells) in
+    let all = length-append (ends_of (take n cells)) (ends_of (drop n cells)) in
+    let left = length-drop n cells in
+    none-listed (ends_of (take n cells) ++ ends_of (drop n cells)) n (length (drop n cells)) room (omega (arith, first, last, all)) (omega (arith, left, few, enough))

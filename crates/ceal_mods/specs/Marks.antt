@@ -1,6 +1,6 @@
 -- What the places held at the end when they were marked, and where that may be otherwise now.
 use Rattle.std.specs.Prelude.{◌≡◌, ◌<◌, ◌≤◌, ◌+◌, ℕ, pos, suc, zero, false, Bool, cond, nat_lt, List, [], ◌∷◌, ◌++◌}
-use Rattle.std.specs.Prelude.{length, get_or, set, unwrap_or, Option, Some, None, IfSome, ⊤}
+use Rattle.std.specs.Prelude.{length, get_or, count_by, not, unwrap_or, Option, Some, None, IfSome, ⊤}
 use Rattle.std.specs.Map.{lookup}
 use Rattle.ceal_base.specs.contracts.word.PlacePartialEq.TheImpl.{ghosts}
 use Rattle.ceal_base.specs.contracts.word.WordPartialEq.TheImpl.{ghosts as word_ghosts}
@@ -24,8 +24,7 @@ held_in ends p = unwrap_or (lookup (ghosts.eq p) ends) (Num (pos 0))
 
 -- how often a place is among these
 abbrev pub times : Place → List Place → ℕ
-times p [] = 0
-times p (q ∷ qs) = cond (ghosts.eq p q) (suc (times p qs)) (times p qs)
+times p places = count_by (ghosts.eq p) places
 
 -- What the places held at the end when they were marked, by the slots of their cells, and the slots at which something
 -- else may be held now.
@@ -56,26 +55,9 @@ end_in [] n = Num (pos 0)
 end_in (x ∷ xs) zero = x.1
 end_in (x ∷ xs) (suc n) = end_in xs n
 
--- something else is held at a slot
-abbrev pub with_end : ℕ → Word → List (Place × Word) → List (Place × Word)
-with_end n w [] = []
-with_end zero w (x ∷ xs) = (x.0, w) ∷ xs
-with_end (suc n) w (x ∷ xs) = x ∷ with_end n w xs
-
--- these slots hold what the cells hold
-abbrev pub renewed : List (Place × Cell) → List ℕ → List (Place × Word) → List (Place × Word)
-renewed cells [] ends = ends
-renewed cells (s ∷ ss) ends = renewed cells ss (with_end s (latest_value (cell_in cells s)) ends)
-
--- these slots are not listed any more
-abbrev pub unlisted : List ℕ → List Bool → List Bool
-unlisted [] listed = listed
-unlisted (s ∷ ss) listed = unlisted ss (set listed s false)
-
 -- how many slots are not listed
 abbrev pub count_unlisted : List Bool → ℕ
-count_unlisted [] = 0
-count_unlisted (b ∷ bs) = cond b (count_unlisted bs) (suc (count_unlisted bs))
+count_unlisted listed = count_by not listed
 
 -- the ends are those of the places of the first cells
 abbrev pub SamePlaces : List (Place × Word) → List (Place × Cell) → Type 0

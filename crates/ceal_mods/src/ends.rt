@@ -1,8 +1,9 @@
 // Loops over what places hold at the end.
 
-ghost use Rattle.std.specs.Prelude.{◌≡◌, ◌+◌, ◌≤◌, ◌++◌, false, drop, length, replicate, OnOk, vec_len, vec_capacity};
-ghost use Rattle.ceal_order.specs.Stamps.{AllBelow};
-ghost use Rattle.ceal_mods.specs.Marks.{ends_of, renewed, unlisted, told, told_new, told_of};
+ghost use Rattle.std.specs.Prelude.{◌≡◌, ◌+◌, ◌≤◌, ◌++◌, ℕ, false, drop, take, length, get_or, replicate, OnOk};
+ghost use Rattle.std.specs.Prelude.{vec_len, vec_capacity};
+ghost use Rattle.ceal_order.specs.Stamps.{is_in, AllBelow};
+ghost use Rattle.ceal_mods.specs.Marks.{Watches, ends_of, told, told_new, told_of};
 
 use crate::cell::Cell;
 use crate::entries::cell_at;
@@ -17,18 +18,18 @@ pub fn cells_from(cells: &[(Place, Cell)], slot: usize) -> &[(Place, Cell)]
     &cells[slot..]
 }
 
-/// These slots hold what the cells hold, and are not listed any more.
+/// What is marked holds what its cells hold, and no slot is listed any more. Only the listed slots are gone through.
 pub fn renew_ends(
     ends: &mut [(Place, Word)],
     listed: &mut [bool],
     slots: &[u32],
     cells: &[(Place, Cell)],
 )
-    requires ends { AllBelow (length ends.old) slots.now }
-    requires listed { AllBelow (length listed.old) slots.now }
-    requires cells { AllBelow (length cells.now) slots.now }
-    ensures ends { ends.new ≡ renewed cells.now slots.now ends.old }
-    ensures listed { listed.new ≡ unlisted slots.now listed.old }
+    requires watched { Watches (record { ends = ends.old; slots = slots.now }) cells.now }
+    requires long { length listed.old ≡ length ends.old }
+    requires flags { (s : ℕ) → get_or listed.old s false ≡ is_in s slots.now }
+    ensures ends { ends.new ≡ ends_of (take (length ends.old) cells.now) }
+    ensures listed { listed.new ≡ replicate (length listed.old) false }
 {
     for slot in slots {
         let at = *slot as usize;

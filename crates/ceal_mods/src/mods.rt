@@ -252,7 +252,7 @@ impl Mods {
     {
         match found(&self.cells, &self.index, place) {
             None => Word::Num(0),
-            Some(cell) => cell.writes.last(cell.base),
+            Some(cell) => cell.end(),
         }
     }
 

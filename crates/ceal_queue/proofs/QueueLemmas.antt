@@ -1,12 +1,13 @@
 -- Stamps that are put into a queue and taken out of it.
-use Rattle.std.proofs.Common.{◌≡◌, ◌≢◌, ◌<◌, ◌≤◌, ◌+◌, ℕ, suc, inl, inr, true, false, List, [], ◌∷◌, length, get_or, Option, Some, None, refl, sym, ap, subst, ◌∙◌, arith}
+use Rattle.std.proofs.Common.{◌≡◌, ◌≢◌, ◌<◌, ◌≤◌, ◌+◌, ℕ, suc, nat_lt, inl, inr, true, false, List, [], ◌∷◌, length, get_or, Option, Some, None, refl, sym, ap, subst, ◌∙◌, arith}
 use Rattle.std.proofs.lemmas.Bool.Decides.{eqb_tells}
-use Rattle.std.proofs.lemmas.Bool.{eq-eqb, le-ltb, cases_Bool}
+use Rattle.std.proofs.lemmas.Bool.{eq-eqb, le-ltb, lt-ltb, cases_Bool, cases_lt}
 use Rattle.std.specs.List.{insert, remove}
 use Rattle.ceal_order.specs.Stamps.{is_in, place, head_of, without}
 use Rattle.ceal_order.specs.declared.stamp.Stamp.{Stamp}
 use Rattle.ceal_order.specs.Rising.{numbers, count_before, IsBeforeAll, IsRising}
 use Rattle.ceal_order.proofs.Members.{in_insert, in_without}
+use Rattle.ceal_order.proofs.Places.{place_tells}
 use Rattle.ceal_order.proofs.Searching.{count_none}
 use Rattle.ceal_queue.specs.Queue.{IsWith, IsWithout, IsBefore, IsEarliest}
 
@@ -107,6 +108,17 @@ module _ (order : List ℕ) where
   none_ahead s first xs rising less =
       let le : place s order ≤ place first order = omega (arith, less) in
       rw (le-ltb (place first order) (place s order) le) (sym (count_none order s first xs le rising.1))
+
+  -- a stamp that is not before the first one, and is another, is after it
+  pub first_counts : (s first : ℕ) (xs : List ℕ) → IsRising order (first ∷ xs) → is_in s order ≡ true → first ≢ s → ¬ (place s order < place first order)
+      → suc (count_before order s xs) ≡ count_before order s (first ∷ xs)
+  first_counts s first xs rising here other late = elim (cases_lt (place first order) (place s order)) [
+    | inl less ↦ let yes : nat_lt (place first order) (place s order) ≡ true = lt-ltb (place first order) (place s order) less in rw yes refl
+    | inr le ↦ elim (cases_lt (place s order) (place first order)) [
+      | inl less ↦ absurd (late less)
+      | inr ge ↦ absurd (other (place_tells first s order rising.0 here (omega (arith, le, ge))))
+    ]
+  ]
 
   -- where the earliest is not before a limit, none is
   pub none_before : (first : ℕ) (limit : Option Stamp) (ss : List ℕ) → IsRising order (first ∷ ss) → (IsBefore order limit first → ⊥)

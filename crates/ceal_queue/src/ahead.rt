@@ -1,6 +1,6 @@
 // Stamps, of which the earliest may be ahead of the others.
 
-ghost use Rattle.std.specs.Prelude.{◌≡◌, ◌<◌, ◌≤◌, ◌+◌, ◌^◌, [], ◌∷◌, false, length, insert, remove, option_map};
+ghost use Rattle.std.specs.Prelude.{◌≡◌, ◌<◌, ◌≤◌, ◌^◌, ℕ, Some, [], false, length, insert, remove, option_map};
 ghost use Rattle.std.specs.Prelude.{IfSome, IfOk, IfErr, OnOk, IsTrue};
 ghost use Rattle.ceal_order.specs.Stamps.{is_in, head_of, place};
 ghost use Rattle.ceal_order.specs.Rising.{numbers, count_before, IsRising};
@@ -101,18 +101,20 @@ impl Ahead {
                 if order.before(stamp, first) {
                     return Err(0);
                 }
-                self.search_all(order, stamp)
+                self.search_late(order, stamp)
             }
         }
     }
 
-    // The same where the stamp may be anywhere. It is called seldom, and is a separate function, so that the usual path
-    // is short.
+    // The same where the stamp is not before the first one. It is called seldom, and is a separate function, so that
+    // the usual path is short.
     #[inline(never)]
-    fn search_all(&self, order: &Order, stamp: Stamp) -> Result<usize, usize>
+    fn search_late(&self, order: &Order, stamp: Stamp) -> Result<usize, usize>
         requires here { IsTrue (is_in stamp.0 order.now.stamps) }
         requires rising { IsRising order.now.stamps (numbers self.now.items) }
         requires few { length self.now.items < 2 ^ 32 }
+        requires late { (first : ℕ) → head_of (numbers self.now.items) ≡ Some first
+            → ¬ (place stamp.0 order.now.stamps < place first order.now.stamps) }
         ensures there { IfOk result (λ at. IsTrue (is_in stamp.0 (numbers self.now.items))) }
         ensures place { IfOk result (λ at. at ≡ place stamp.0 (numbers self.now.items)) }
         ensures inside { IfOk result (λ at. at < length self.now.items) }
@@ -123,7 +125,15 @@ impl Ahead {
     {
         match self.first {
             None => self.rest.search(order, stamp),
-            Some(first) => search_after(&self.rest, order, first, stamp),
+            Some(first) => {
+                if first == stamp {
+                    return Ok(0);
+                }
+                match self.rest.search(order, stamp) {
+                    Ok(at) => Ok(at + 1),
+                    Err(at) => Err(at + 1),
+                }
+            }
         }
     }
 
@@ -171,30 +181,5 @@ impl Ahead {
                 }
             }
         }
-    }
-}
-
-// Where a stamp is among rising ones, the first of which is ahead.
-fn search_after(rest: &Stamps, order: &Order, first: Stamp, stamp: Stamp) -> Result<usize, usize>
-    requires here { IsTrue (is_in stamp.0 order.now.stamps) }
-    requires rising { IsRising order.now.stamps (first.0 ∷ numbers rest.now.items) }
-    requires few { length rest.now.items < 2 ^ 32 }
-    ensures there { IfOk result (λ at. IsTrue (is_in stamp.0 (first.0 ∷ numbers rest.now.items))) }
-    ensures place { IfOk result (λ at. at ≡ place stamp.0 (first.0 ∷ numbers rest.now.items)) }
-    ensures inside { IfOk result (λ at. at < length rest.now.items + 1) }
-    ensures absent { IfErr result (λ at. is_in stamp.0 (first.0 ∷ numbers rest.now.items) ≡ false) }
-    ensures before { IfErr result
-        (λ at. at ≡ count_before order.now.stamps stamp.0 (first.0 ∷ numbers rest.now.items)) }
-    ensures within { IfErr result (λ at. at ≤ length rest.now.items + 1) }
-{
-    if first == stamp {
-        return Ok(0);
-    }
-    if order.before(stamp, first) {
-        return Err(0);
-    }
-    match rest.search(order, stamp) {
-        Ok(at) => Ok(at + 1),
-        Err(at) => Err(at + 1),
     }
 }

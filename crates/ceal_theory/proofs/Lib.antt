@@ -2,7 +2,7 @@
 pub mod Repair
 pub mod Reuse
 pub mod Store
-pub mod TurnMachine
+pub mod MoveMachine
 pub mod Renaming
 pub mod SlicedRepair
 pub mod Nodes

@@ -104,7 +104,7 @@ pub record KnowingLaws (code : Code) : Type 0 where
   pub first_begins : (inputs : List Block) (f : ℕ) (args : List Word) → Fits code inputs f args
       → Knows code (length inputs) [] [] (first_begins code inputs f args)
   -- one move; a block that is made has a number that no block has
-  pub turns : (names : ℕ → ℕ) (n : ℕ) (ds bs : List ℕ) (m m' : Machine) (written : List Item)
+  pub moves : (names : ℕ → ℕ) (n : ℕ) (ds bs : List ℕ) (m m' : Machine) (written : List Item)
       → Knows code n ds bs m → next_move code names m ≡ Went written m'
       → (m'.state.number ≡ m.state.number) ⊎ (m.state.plain (Core (names m.state.number)) ≡ None)
       → GoesKnowing code n ds bs written m'

@@ -150,7 +150,7 @@ IsMove code names m (Went written m') = BecomesBy code names m m' written
 
 -- The machine: one move, moves after one another, the machine of a repair and that of a first trace.
 pub record MachineLaws (code : Code) (names : ℕ → ℕ) : Type 0 where
-  pub turns : (m : Machine) → IsMove code names m (next_move code names m)
+  pub moves : (m : Machine) → IsMove code names m (next_move code names m)
   pub stays : (m : Machine) → BecomesBy code names m m []
   pub leads : (m m' m'' : Machine) (is js : List Item) → BecomesBy code names m m' is → BecomesBy code names m' m'' js
       → BecomesBy code names m m'' (is ++ js)

@@ -6,6 +6,7 @@ use Rattle.std.specs.List.{list_any}
 use Rattle.std.specs.Map.{lookup}
 use Rattle.std.specs.Option.{option_map, option_flatten}
 use Rattle.std.specs.Str.{bytes_eq}
+use Rattle.ceal_base.specs.Faults.{one, faults_of_each}
 use Rattle.ceal_base.specs.WellTyped.{kind_held, plain_kind, address_kind, name_of_field}
 use Rattle.ceal_base.specs.declared.fault.Fault.{Fault}
 use Rattle.ceal_base.specs.declared.fault.FaultCode.{FaultCode}
@@ -40,10 +41,6 @@ use Rattle.ceal_types.specs.Known.{declared_in, TypingContext, member_known, ope
 use Rattle.ceal_types.specs.Known.{type_of_field}
 use Rattle.ceal_types.specs.Tables.{Name, has, element_name}
 
--- this one fault
-abbrev pub one : FaultCode → Span → List Fault
-one code at = record { code = code; span = at } ∷ []
-
 -- this fault, unless something holds
 abbrev pub one_unless : Bool → FaultCode → Span → List Fault
 one_unless holds code at = if holds then [] else one code at
@@ -51,11 +48,6 @@ one_unless holds code at = if holds then [] else one code at
 -- this fault, where something holds
 abbrev pub one_if : Bool → FaultCode → Span → List Fault
 one_if holds code at = if holds then one code at else []
-
--- the faults of each item, one item after another
-unfoldable pub faults_of_each : {A : Type 0} → (A → List Fault) → List A → List Fault
-faults_of_each faults [] = []
-faults_of_each faults (x ∷ xs) = faults x ++ faults_of_each faults xs
 
 -- the same where those of an item depend on the items before it
 unfoldable pub faults_after : {A : Type 0} → (List A → A → List Fault) → List A → List A → List Fault

@@ -1,6 +1,7 @@
 -- There is no fault of usage exactly when the program keeps the rules of usage.
 use Rattle.std.proofs.Common.{◌≡◌, ◌↔◌, ℕ, Bool, true, false, is_some, is_none, Option, Some, None, IsOk, List, [], ◌∷◌, ◌++◌, All, slice_get, if◌then◌else◌, refl}
 use Rattle.std.proofs.lemmas.List.Elements.{All-nil, All-cons, All-head, All-tail}
+use Rattle.ceal_base.specs.Faults.{one, faults_of_each}
 use Rattle.ceal_base.specs.Usage.{WithoutOwn, OperandWithoutOwn, IsCore, IsInitialiser, ValueUsage, CoreUsage, RowCoreUsage, InitUsage, RowInitUsage, FunctionUsage, KeepsUsage}
 use Rattle.ceal_base.specs.declared.fault.Fault.{Fault}
 use Rattle.ceal_base.specs.declared.fault.FaultCode.TheVariants.{U4, U5}
@@ -13,10 +14,10 @@ use Rattle.ceal_base.specs.declared.typed.TypedStmt.{TypedStmt, Declare, Assign,
 use Rattle.ceal_base.specs.declared.typed.TypedStmt.{Row_of-TypedStmt, end_of-TypedStmt, more_of-TypedStmt}
 use Rattle.ceal_base.specs.declared.typed.TypedValue.{TypedValue}
 use Rattle.ceal_base.specs.declared.typed.TypedValue.TheVariants.{Plain, Read, Alloc, ModrefInt, Modref}
-use Rattle.ceal_usage.specs.Faults.{one, form_mentions, operand_mentions, is_core, is_initialiser, value_faults}
+use Rattle.ceal_usage.specs.Faults.{form_mentions, operand_mentions, is_core, is_initialiser, value_faults}
 use Rattle.ceal_usage.specs.Faults.{core_faults, row_core_faults, faults_unless_own, init_faults, row_init_faults}
 use Rattle.ceal_usage.specs.Faults.{function_faults, usage_faults}
-use Rattle.ceal_usage.specs.Verdict.{verdict, faults_of_each}
+use Rattle.ceal_usage.specs.Verdict.{verdict}
 
 abbrev nothing : List Fault
 nothing = []

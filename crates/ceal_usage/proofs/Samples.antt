@@ -1,5 +1,6 @@
 -- The faults of small bodies.
 use Rattle.std.proofs.Common.{◌≡◌, ℕ, false, Some, Err, [], ◌∷◌, refl}
+use Rattle.ceal_base.specs.Faults.{faults_of_each}
 use Rattle.ceal_base.specs.declared.fault.FaultCode.TheVariants.{U1, U2, U3, U6}
 use Rattle.ceal_base.specs.declared.fault.Span.{Span}
 use Rattle.ceal_base.specs.declared.kind.Kind.TheVariants.{Int, Ptr}
@@ -11,7 +12,7 @@ use Rattle.ceal_base.specs.declared.typed.TypedStmt.TheVariants.{SetField, Retur
 use Rattle.ceal_base.specs.declared.typed.TypedStmt.TheBlock.{hidden-the_row-TypedStmt-0, shape-the_row-TypedStmt-0}
 use Rattle.ceal_base.specs.declared.typed.TypedStmt.TheViews.{If, While}
 use Rattle.ceal_usage.specs.Faults.{form_mentions, core_faults, init_faults}
-use Rattle.ceal_usage.specs.Verdict.{verdict, faults_of_each}
+use Rattle.ceal_usage.specs.Verdict.{verdict}
 
 abbrev at : ℕ → Span
 at n = record { from = n; to = n }

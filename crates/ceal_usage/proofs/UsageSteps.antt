@@ -1,5 +1,6 @@
 -- The first fault of each form of expression and statement.
 use Rattle.std.proofs.Common.{◌≡◌, ℕ, ℤ, Bool, true, Ok, Err, List, [], ◌∷◌, ◌++◌, slice_get, if◌then◌else◌, refl, ◌∙◌, ap}
+use Rattle.ceal_base.specs.Faults.{one, faults_of_each}
 use Rattle.ceal_base.specs.declared.fault.FaultCode.TheVariants.{U1, U2, U3, U4}
 use Rattle.ceal_base.specs.declared.fault.Span.{Span}
 use Rattle.ceal_base.specs.declared.kind.Kind.{Kind}
@@ -15,8 +16,8 @@ use Rattle.ceal_base.specs.declared.typed.TypedStmt.TheBlock.{hidden-the_row-Typ
 use Rattle.ceal_base.specs.declared.typed.TypedStmt.TheVariants.{Declare, Assign, SetField, Write, Call, Return, Break, Continue}
 use Rattle.ceal_base.specs.declared.typed.TypedStmt.TheViews.{If, While}
 use Rattle.ceal_base.specs.declared.typed.TypedValue.{TypedValue}
-use Rattle.ceal_usage.specs.Faults.{one, form_mentions, mentions, is_core, value_faults, loop_faults, core_faults, row_core_faults, target_faults, init_faults, row_init_faults}
-use Rattle.ceal_usage.specs.Verdict.{verdict, faults_of_each}
+use Rattle.ceal_usage.specs.Faults.{form_mentions, mentions, is_core, value_faults, loop_faults, core_faults, row_core_faults, target_faults, init_faults, row_init_faults}
+use Rattle.ceal_usage.specs.Verdict.{verdict}
 use Rattle.ceal_usage.proofs.VerdictSteps.{before, verdict-append, each-none}
 
 module _ (at : Span) where

@@ -1,7 +1,8 @@
 -- The verdict of lists of faults that follow one another.
 use Rattle.std.proofs.Common.{◌≡◌, ℕ, suc, ◌+◌, ◌<◌, Result, Ok, Err, List, [], ◌∷◌, ◌++◌, length, drop, drop-cons, drop_of_length-le, get_or, refl, sym, add-one, ◌∙◌, ◌≤◌}
+use Rattle.ceal_base.specs.Faults.{faults_of_each}
 use Rattle.ceal_base.specs.declared.fault.Fault.{Fault}
-use Rattle.ceal_usage.specs.Verdict.{verdict, faults_of_each}
+use Rattle.ceal_usage.specs.Verdict.{verdict}
 
 -- the second where the first is no fault
 abbrev pub before : Result (Unit {0}) Fault → Result (Unit {0}) Fault → Result (Unit {0}) Fault

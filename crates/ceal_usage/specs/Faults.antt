@@ -1,9 +1,9 @@
 -- The faults of usage of a program, in the order of the walk of its bodies: a statement's own fault first, then those
 -- of its expressions, then those of the statements in it.
-use Rattle.std.specs.Prelude.{Bool, true, false, Option, Some, None, is_some, is_none, List, [], ◌∷◌, ◌++◌, slice_get}
+use Rattle.std.specs.Prelude.{Bool, true, false, Option, Some, None, is_some, is_none, List, [], ◌++◌, slice_get}
 use Rattle.std.specs.Prelude.{if◌then◌else◌}
+use Rattle.ceal_base.specs.Faults.{one, faults_of_each}
 use Rattle.ceal_base.specs.declared.fault.Fault.{Fault}
-use Rattle.ceal_base.specs.declared.fault.FaultCode.{FaultCode}
 use Rattle.ceal_base.specs.declared.fault.FaultCode.TheVariants.{U1, U2, U3, U4, U5, U6}
 use Rattle.ceal_base.specs.declared.fault.Span.{Span}
 use Rattle.ceal_base.specs.declared.typed.Typed.{Typed}
@@ -16,11 +16,6 @@ use Rattle.ceal_base.specs.declared.typed.TypedStmt.{Return, Break, Continue}
 use Rattle.ceal_base.specs.declared.typed.TypedStmt.{Row_of-TypedStmt, end_of-TypedStmt, more_of-TypedStmt}
 use Rattle.ceal_base.specs.declared.typed.TypedValue.{TypedValue}
 use Rattle.ceal_base.specs.declared.typed.TypedValue.TheVariants.{Plain, Read, Alloc, ModrefInt, Modref}
-use Rattle.ceal_usage.specs.Verdict.{faults_of_each}
-
--- this one fault
-abbrev pub one : FaultCode → Span → List Fault
-one code at = record { code = code; span = at } ∷ []
 
 -- U3 at each `self` in an expression of this form, from left to right
 unfoldable mutual

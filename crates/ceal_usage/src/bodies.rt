@@ -1,10 +1,11 @@
 // The statements of core functions and of initialisers. The functions recurse as deep as statements are nested.
 
 ghost use Rattle.std.specs.Prelude.{◌≡◌, slice_get};
-ghost use Rattle.ceal_usage.specs.Verdict.{verdict, faults_of_each};
+ghost use Rattle.ceal_base.specs.Faults.{one, faults_of_each};
+ghost use Rattle.ceal_usage.specs.Verdict.{verdict};
 ghost use Rattle.std.specs.Prelude.{[], if◌then◌else◌, true};
 ghost use Rattle.ceal_base.specs.declared.fault.FaultCode.TheVariants.{U4, U5};
-ghost use Rattle.ceal_usage.specs.Faults.{one, is_core, is_initialiser, value_faults, loop_faults, core_faults};
+ghost use Rattle.ceal_usage.specs.Faults.{is_core, is_initialiser, value_faults, loop_faults, core_faults};
 ghost use Rattle.ceal_usage.specs.Faults.{target_faults, init_faults};
 
 use crate::mention::{check_mentions, fault};

@@ -1,8 +1,9 @@
 // The check of a whole program.
 
 ghost use Rattle.std.specs.Prelude.{◌≡◌, ◌↔◌, IsOk};
+ghost use Rattle.ceal_base.specs.Faults.{faults_of_each};
 ghost use Rattle.ceal_base.specs.Usage.{KeepsUsage};
-ghost use Rattle.ceal_usage.specs.Verdict.{verdict, faults_of_each};
+ghost use Rattle.ceal_usage.specs.Verdict.{verdict};
 ghost use Rattle.ceal_usage.specs.Faults.{function_faults, usage_faults};
 
 use crate::bodies::{check_core_body, check_init_body};

@@ -1,7 +1,8 @@
 // Where `self` is mentioned.
 
 ghost use Rattle.std.specs.Prelude.{◌≡◌, Err};
-ghost use Rattle.ceal_usage.specs.Verdict.{verdict, faults_of_each};
+ghost use Rattle.ceal_base.specs.Faults.{faults_of_each};
+ghost use Rattle.ceal_usage.specs.Verdict.{verdict};
 ghost use Rattle.ceal_usage.specs.Faults.{mentions, value_mentions};
 
 use ceal_base::fault::{Fault, FaultCode, Span};

@@ -1,5 +1,6 @@
 -- The programs of the workloads are accepted, by computing, and with them any script.
 use Rattle.std.proofs.Common.{◌≡◌, Result, ℕ, ◌+◌, ◌<◌, ◌^◌, List, ◌++◌, length, refl, subst, sym}
+use Rattle.ceal_base.specs.Faults.{faults_of_each}
 use Rattle.ceal_base.specs.declared.syntax.ExprForm.TheBlock.{hidden-the_row-Expr-0}
 use Rattle.ceal_base.specs.declared.syntax.Stmt.TheBlock.{hidden-the_row-Stmt-0}
 use Rattle.ceal_base.specs.declared.typed.TypedForm.TheBlock.{hidden-the_row-TypedExpr-0}
@@ -30,7 +31,6 @@ use Rattle.ceal_types.specs.Statements.{typed_stmt, typed_value}
 use Rattle.ceal_types.specs.Tables.{find}
 use Rattle.ceal_types.specs.Walk.{in_turn}
 use Rattle.ceal_usage.specs.Faults.{core_faults, form_mentions, init_faults, usage_faults}
-use Rattle.ceal_usage.specs.Verdict.{faults_of_each}
 use Rattle.ceal_cli.proofs.Accepted.Lengths.{list_short, tree_short}
 use Rattle.ceal_cli.proofs.Accepted.Parts.{input, is_clear}
 use Rattle.ceal_cli.proofs.Accepted.Pieces.{all_may_stand, found, scanned}

@@ -46,7 +46,7 @@ use Rattle.ceal_repair.specs.declared.repair.Repair.{Repair as RepairInCode}
 use Rattle.ceal_repair.specs.declared.running.Running.{Running}
 use Rattle.ceal_repair.specs.declared.tables.Tables.{Tables}
 use Rattle.ceal_theory.proofs.Reuse.StepsBetween.{bare-law}
-use Rattle.ceal_theory.proofs.TurnMachine.ChosenNumbers.{chosen-law}
+use Rattle.ceal_theory.proofs.MoveMachine.ChosenNumbers.{chosen-law}
 use Rattle.ceal_theory.proofs.Reuse.TakenAfterRevocation.{bare-stepped}
 use Rattle.ceal_theory.specs.Chosen.{ComesBy}
 use Rattle.ceal_theory.specs.Course.{TurnKnownLaw, running_at, BareMode, BareFrames, BareSame}

@@ -55,9 +55,9 @@ use Rattle.ceal_theory.specs.Course.{frames_at, running_at, BareMode, BareFrames
 use Rattle.ceal_theory.specs.Known.{Sure, Knows, KnownItems, GoesKnowing}
 use Rattle.ceal_theory.specs.Moves.{Machine, Running, Went, next_move, BecomesBy}
 use Rattle.ceal_theory.specs.Repair.{State, works, clears}
-use Rattle.ceal_theory.proofs.TurnMachine.ChosenNumbers.{chosen-law}
+use Rattle.ceal_theory.proofs.MoveMachine.ChosenNumbers.{chosen-law}
 use Rattle.ceal_theory.proofs.Store.KnownBlocks.{knowing-law}
-use Rattle.ceal_theory.proofs.TurnMachine.MachineLaws.{leads-turn, leads-then}
+use Rattle.ceal_theory.proofs.MoveMachine.MachineLaws.{leads-move, leads-then}
 use Rattle.ceal_theory.proofs.Reuse.StepsBetween.{bare-law, frames-self}
 use Rattle.ceal_theory.proofs.Reuse.OldBlocksOnly.{SureAlloc, sure-alloc}
 use Rattle.ceal_theory.proofs.Reuse.TakenItems.{key-same}
@@ -205,7 +205,7 @@ module _ (code : Code) (inputs : List Block) (start : Start) (v : View) (front :
       let old : Machine = m (state_at code inputs v c.store (start.chosen ++ c.made)) in
       let new : Machine = m' (state_at code inputs v' store' (start.chosen ++ c.made)) in
       let g : GoesKnowing code (length inputs) start.old (known_after [] items) w mid =
-      (knowing-law code).turns (λ k. 0) (length inputs) start.old (known_after [] items) old mid w c.knows (t (λ k. 0)) (inl number) in
+      (knowing-law code).moves (λ k. 0) (length inputs) start.old (known_after [] items) old mid w c.knows (t (λ k. 0)) (inl number) in
       let k : KnownItems (length inputs) [] (items ++ w) g.known = known-items-append c.mentions g.items in
       let after : g.known ≡ known_after [] (items ++ w) = known-items-after k in
       record {
@@ -216,7 +216,7 @@ module _ (code : Code) (inputs : List Block) (start : Start) (v : View) (front :
         mentions = subst (λ is. KnownItems (length inputs) [] is (known_after [] is)) (sym e) (subst (λ bs. KnownItems (length inputs) [] (items ++ w) bs) after k);
         comes = (chosen-law code).more start.machine old new (start.chosen ++ c.made) c.out w c.comes
             (λ names. subst (λ o. BecomesBy code names old new o) (append-nil w)
-            (leads-then code names old mid new w [] (leads-turn code names old mid w (t names)) (bare-law code names mid new bare)))
+            (leads-then code names old mid new w [] (leads-move code names old mid w (t names)) (bare-law code names mid new bare)))
             (ap (λ (s : State). s.number) (sym bare.state) ∙ number);
         knows = subst (λ bs. Knows code (length inputs) start.old bs new) (after ∙ ap (known_after []) (sym e)) (knows-bare code (length inputs) start.old g.known mid new bare g.knows);
         same = same;

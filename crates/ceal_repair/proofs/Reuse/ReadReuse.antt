@@ -272,11 +272,11 @@ module _ (code : Code) (inputs : List Block) (start : Start) (st : Stack) (v : V
     frames = AfterMend below the-match.taken.leftover (frames_at now.waits (around (levels (forest_of (entries now.left ++ now.tail)))));
   }
 
-  stale-turn : (w : Word) → now.course.store p ≡ w → same_word w the-match.taken.value ≡ false → (names : ℕ → ℕ)
+  stale-move : (w : Word) → now.course.store p ≡ w → same_word w the-match.taken.value ≡ false → (names : ℕ → ℕ)
       → next_move code names (running_at (state_at code inputs v now.course.store (start.chosen ++ now.course.made)) st now.waits (forest_of (entries now.left ++ now.tail)))
       ≡ Went (item.Step ∷ item.Read p w u x args ∷ []) (mid-running w)
   unfolding next_move mid-running
-  stale-turn w is other names =
+  stale-move w is other names =
       subst (λ z. same_word z the-match.taken.value ≡ false
       → next_move code names (running_at (state_at code inputs v now.course.store (start.chosen ++ now.course.made)) st now.waits (forest_of (entries now.left ++ now.tail)))
       ≡ Went (item.Step ∷ item.Read p z u x args ∷ []) (mid-running z)) is (λ differs. rw (does, takes-left, differs) refl) other
@@ -384,7 +384,7 @@ module _ (code : Code) (inputs : List Block) (start : Start) (st : Stack) (v : V
           (λ s. running_at s (resumed code u x args w) (Takes below ∷ now.waits)
           (forest_of (entries the-match.inside ++ end_entry the-match.end found.0 the-match.end_steps ∷ (entries the-match.behind ++ now.tail))))
           (item.Step ∷ item.Read p w u x args ∷ []) now.course.store (mid-running w)
-          (items-next code inputs start st v now found.0 (Read p w u x args)) (stale-turn w word-now other-word) (running-number w) (bare-running w)
+          (items-next code inputs start st v now found.0 (Read p w u x args)) (stale-move w word-now other-word) (running-number w) (bare-running w)
           (λ q k. same-then t bases-then w 0 q
           (subst (λ is. KnownBlock (length inputs) (known_after [] is) q.block) (forest-put (through now.placed.done (more now.placed.last)) found.0 (Read p w u x args)) k))
           (given-same start.first start.numbers (start.chosen ++ now.course.made) v.heap heap c.blocks now.course.given);

@@ -35,7 +35,7 @@ use Rattle.ceal_theory.specs.Cover.{known_after}
 use Rattle.ceal_theory.specs.Repair.{State}
 use Rattle.ceal_theory.specs.Moves.{Ended, IsMove, next_move}
 use Rattle.ceal_theory.proofs.SlicedRepair.AddedBlocks.{anew-adds}
-use Rattle.ceal_theory.proofs.TurnMachine.MachineLaws.{machine-law}
+use Rattle.ceal_theory.proofs.MoveMachine.MachineLaws.{machine-law}
 use Rattle.ceal_trace.proofs.Entries.{has-read}
 use Rattle.ceal_trace.proofs.Parts.{not_before, position-part}
 use Rattle.ceal_trace.specs.Items.{forest_of, unclosed, Nests}
@@ -109,7 +109,7 @@ module _ (code : Code) (inputs : List Block) (f : ℕ) (args : List Word) (fits 
     few-numbers =
         let g = goes-on [] now.course.made now.course.given.distinct (λ b i. refl) in
         let m = machine-law code g.names in
-        let last = subst (λ t. IsMove code g.names (running_at state st [] []) t) (ends g.names) (m.turns (running_at state st [] [])) in
+        let last = subst (λ t. IsMove code g.names (running_at state st [] []) t) (ends g.names) (m.moves (running_at state st [] [])) in
         let done = (comes.leads g.names g.continues).back state [] last.back in
         let whole = (m.runs (first_begins code inputs f args).state state (started code f args) Nothing (now.course.out ++ [])).0 done in
         let room = (anew-adds code whole.3).work in

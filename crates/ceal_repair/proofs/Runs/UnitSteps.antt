@@ -28,9 +28,9 @@ use Rattle.ceal_repair.specs.Frames.{Frame}
 use Rattle.ceal_repair.specs.Covered.{contents_after}
 use Rattle.ceal_repair.specs.Kept.{Kept, QueuedAfter, Records, base_in}
 use Rattle.ceal_repair.specs.declared.tables.Tables.{Tables}
-use Rattle.ceal_theory.proofs.TurnMachine.ChosenNumbers.{chosen-law}
+use Rattle.ceal_theory.proofs.MoveMachine.ChosenNumbers.{chosen-law}
 use Rattle.ceal_theory.proofs.Store.KnownBlocks.{knowing-law}
-use Rattle.ceal_theory.proofs.TurnMachine.MachineLaws.{leads-turn}
+use Rattle.ceal_theory.proofs.MoveMachine.MachineLaws.{leads-move}
 use Rattle.ceal_theory.specs.Course.{running_at}
 use Rattle.ceal_theory.specs.Cover.{known_after}
 use Rattle.ceal_theory.specs.Known.{Knows, KnownItems, GoesKnowing}
@@ -171,7 +171,7 @@ module _ (code : Code) (inputs : List Block) (start : Start) (v : View) (front :
       let old : Machine = m (state_at code inputs v c.store (start.chosen ++ c.made)) in
       let new : Machine = m' (state_at code inputs v' store' (start.chosen ++ c.made)) in
       let g : GoesKnowing code (length inputs) start.old (known_after [] items) w new =
-      (knowing-law code).turns (λ k. 0) (length inputs) start.old (known_after [] items) old new w c.knows (t (λ k. 0)) (inl number) in
+      (knowing-law code).moves (λ k. 0) (length inputs) start.old (known_after [] items) old new w c.knows (t (λ k. 0)) (inl number) in
       let k : KnownItems (length inputs) [] (items ++ w) g.known = known-items-append c.mentions g.items in
       let after : g.known ≡ known_after [] (items ++ w) = known-items-after k in
       record {
@@ -180,7 +180,7 @@ module _ (code : Code) (inputs : List Block) (start : Start) (v : View) (front :
         out = c.out ++ w;
         written = e ∙ (ap (λ is. is ++ w) c.written ∙ append_assoc (items_before start) c.out w);
         mentions = subst (λ is. KnownItems (length inputs) [] is (known_after [] is)) (sym e) (subst (λ bs. KnownItems (length inputs) [] (items ++ w) bs) after k);
-        comes = (chosen-law code).more start.machine old new (start.chosen ++ c.made) c.out w c.comes (λ names. leads-turn code names old new w (t names)) number;
+        comes = (chosen-law code).more start.machine old new (start.chosen ++ c.made) c.out w c.comes (λ names. leads-move code names old new w (t names)) number;
         knows = subst (λ bs. Knows code (length inputs) start.old bs new) (after ∙ ap (known_after []) (sym e)) g.knows;
         same = same;
         given = given;

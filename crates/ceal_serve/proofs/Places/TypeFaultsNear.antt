@@ -3,6 +3,7 @@ use Rattle.std.proofs.Common.{◌≡◌, ◌==◌, ℕ, Bool, true, false, Optio
 use Rattle.std.specs.Map.{lookup}
 use Rattle.std.specs.Option.{option_map}
 use Rattle.std.specs.Str.{bytes_eq}
+use Rattle.ceal_base.specs.Faults.{one, faults_of_each}
 use Rattle.ceal_base.specs.WellTyped.{plain_kind}
 use Rattle.ceal_base.specs.declared.fault.Fault.{Fault}
 use Rattle.ceal_base.specs.declared.fault.FaultCode.{FaultCode}
@@ -30,7 +31,7 @@ use Rattle.ceal_base.specs.declared.syntax.Value.{Value}
 use Rattle.ceal_base.specs.declared.syntax.Value.TheVariants.{Plain, Read, Alloc, ModrefInt, Modref}
 use Rattle.ceal_base.specs.declared.typed.FieldInfo.{FieldInfo}
 use Rattle.ceal_types.specs.Faults as types
-use Rattle.ceal_types.specs.Faults.{one, one_unless, one_if, faults_of_each, faults_after, type_faults, member_faults, parameter_faults, own_faults, head_faults}
+use Rattle.ceal_types.specs.Faults.{one_unless, one_if, faults_after, type_faults, member_faults, parameter_faults, own_faults, head_faults}
 use Rattle.ceal_types.specs.Faults.{misfit, mismatch, operation_faults, arrow_faults, use_faults, address_faults, element_faults, form_faults, operand_faults, expr_faults}
 use Rattle.ceal_types.specs.Faults.{condition_faults, argument_faults, call_faults, alloc_faults, place_faults, value_faults, with_declared, stmt_faults, row_faults, stmts_faults}
 use Rattle.ceal_types.specs.Faults.{body_faults, tree_faults, parameter_kind, held_kind}

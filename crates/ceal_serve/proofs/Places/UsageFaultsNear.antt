@@ -1,5 +1,6 @@
 -- Where a program is near, so are its faults of usage.
 use Rattle.std.proofs.Common.{ℕ, Bool, true, false, Some, None, List, [], ◌∷◌, ◌++◌}
+use Rattle.ceal_base.specs.Faults.{one, faults_of_each}
 use Rattle.ceal_base.specs.declared.fault.Fault.{Fault}
 use Rattle.ceal_base.specs.declared.fault.FaultCode.{FaultCode}
 use Rattle.ceal_base.specs.declared.fault.FaultCode.TheVariants.{U1, U2, U3, U4, U5, U6}
@@ -13,10 +14,9 @@ use Rattle.ceal_base.specs.declared.typed.TypedStmt.{TypedStmt, Declare, Assign,
 use Rattle.ceal_base.specs.declared.typed.TypedStmt.{Row_of-TypedStmt, end_of-TypedStmt, more_of-TypedStmt}
 use Rattle.ceal_base.specs.declared.typed.TypedValue.{TypedValue}
 use Rattle.ceal_base.specs.declared.typed.TypedValue.TheVariants.{Plain, Read, Alloc, ModrefInt, Modref}
-use Rattle.ceal_usage.specs.Faults.{one, form_mentions, operand_mentions, mentions, value_mentions, value_faults}
+use Rattle.ceal_usage.specs.Faults.{form_mentions, operand_mentions, mentions, value_mentions, value_faults}
 use Rattle.ceal_usage.specs.Faults.{core_faults, row_core_faults, faults_unless_own, init_faults, row_init_faults}
 use Rattle.ceal_usage.specs.Faults.{function_faults, usage_faults}
-use Rattle.ceal_usage.specs.Verdict.{faults_of_each}
 use Rattle.ceal_serve.proofs.Places.Near.{Near, Each, FaultNear, AllNear, none, both, one-near, unless-near}
 use Rattle.ceal_serve.proofs.Places.Near.{TypedFormNear, TypedOperandNear, TypedNear, TypedValueNear, TypedStmtNear, TypedStmtsNear, FunctionNear}
 

@@ -1,6 +1,6 @@
 -- What an engine shows of a finished run: its blocks are those of the run from scratch up to the numbers of core
 -- blocks.
-use Rattle.std.proofs.Common.{◌≡◌, ℕ, zero, suc, ◌+◌, ◌<◌, ◌==◌, Bool, true, false, Option, Some, None, List, [], ◌∷◌}
+use Rattle.std.proofs.Common.{◌≡◌, ℕ, zero, suc, ◌<◌, true, Option, Some, None, List, [], ◌∷◌}
 use Rattle.std.proofs.Common.{map, length, is_some, unwrap_or, refl, sym, ap, ap₂, ◌∙◌, subst, slice_get, slice_index}
 use Rattle.std.proofs.Common.{arith}
 use Rattle.std.specs.Option.{option_map}
@@ -22,6 +22,7 @@ use Rattle.ceal_base.specs.declared.word.Word.{Word}
 use Rattle.ceal_base.specs.declared.word.Word.TheVariants.{Num, Null, Block as BlockWord, At}
 use Rattle.ceal_code.proofs.Replay.MemoryChanges.{get-within}
 use Rattle.ceal_code.proofs.Words.SameIsEqual.{both, none-some, some-same}
+use Rattle.ceal_engine.proofs.MarkedEnds.{at-index}
 use Rattle.ceal_engine.specs.Engine.{EngineState, IsRun, core, stored_at}
 use Rattle.ceal_show.specs.Renaming.{IsRenaming, renamed_word as shown_word, renamed_block as shown_block}
 use Rattle.ceal_show.specs.Shown.{IsWhole, IsThere, words_in, word_at, target}
@@ -39,15 +40,6 @@ one-words bs (w ∷ ws) = ap₂ ◌∷◌ (one-word bs w) (one-words bs ws)
 
 one-block : (bs : List ℕ) (b : Block) → shown_block (renamed_id bs) b ≡ renamed_block bs b
 one-block bs b = ap (λ words. record { shape = b.shape; words = words }) (one-words bs b.words)
-
--- the number at the index of a number
-at-index : (bs : List ℕ) (n : ℕ) → index_of bs n < length bs → slice_index bs (index_of bs n) ≡ n
-at-index [] n h = absurd (grind (arith, h))
-at-index (b ∷ bs) n h = go (b == n) refl (at-index bs n)
-  where
-    go : (t : Bool) → (b == n) ≡ t → (index_of bs n < length bs → slice_index bs (index_of bs n) ≡ n) → slice_index (b ∷ bs) (index_of (b ∷ bs) n) ≡ n
-    go true e again = let i : b ≡ n = grind (arith, e) in rw e i
-    go false e again = let l : index_of bs n + 1 < suc (length bs) = rw e at h in let s : index_of bs n + 1 ≡ suc (index_of bs n) = omega arith in rw e (rw s (again (omega (arith, l))))
 
 some-of : {A B : Type 0} (f : A → B) (o : Option A) (y : B) → option_map f o ≡ Some y → (x : A) × (o ≡ Some x) × (f x ≡ y)
 some-of f None y e = none-some y e

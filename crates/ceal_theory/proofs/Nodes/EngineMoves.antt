@@ -16,7 +16,7 @@ use Rattle.ceal_code.specs.Step.{Stack, Run, Over, Quiet, Makes, Writes, Reads, 
 use Rattle.ceal_code.specs.Value.{Variables, set}
 use Rattle.ceal_theory.proofs.Reuse.StepsBetween.{bare-law, frames-self, mode-self}
 use Rattle.ceal_theory.proofs.Reuse.FlatTake.{followed-nothing, first-flat, around-flat}
-use Rattle.ceal_theory.proofs.TurnMachine.MachineLaws.{leads-stays, leads-then, leads-turn}
+use Rattle.ceal_theory.proofs.MoveMachine.MachineLaws.{leads-stays, leads-then, leads-move}
 use Rattle.ceal_theory.proofs.Reuse.TakenAfterRevocation.{bare-stepped}
 use Rattle.ceal_theory.specs.Course.{Wait, Fixes, Takes, Begins, frames_at, fixing_at, running_at, Nested, BareMode, BareFrames, BareSame, MovesLaw}
 use Rattle.ceal_theory.specs.Groves.{Knot, Grove, Bare, Made, Put, Got, stepped, trace_in, knot, knots, bare, ticks, items_in, Closes}
@@ -79,15 +79,15 @@ module _ (code : Code) (names : ℕ → ℕ) where
   bare-self m = record { state = refl; mode = mode-self code names m.mode; frames = frames-self code names m.frames }
 
   -- one move, and then steps that are dropped
-  turn-then : (m m1 m2 : Machine) (w : List Item) → next_move code names m ≡ Went w m1 → BareSame m1 m2 → BecomesBy code names m m2 w
-  turn-then m m1 m2 w e d = subst (λ o. BecomesBy code names m m2 o) (append-nil w) (leads-then code names m m1 m2 w [] (leads-turn code names m m1 w e) (bare-law code names m1 m2 d))
+  move-then : (m m1 m2 : Machine) (w : List Item) → next_move code names m ≡ Went w m1 → BareSame m1 m2 → BecomesBy code names m m2 w
+  move-then m m1 m2 w e d = subst (λ o. BecomesBy code names m m2 o) (append-nil w) (leads-then code names m m1 m2 w [] (leads-move code names m m1 w e) (bare-law code names m1 m2 d))
 
-  one-turn : (m m1 : Machine) (w : List Item) → next_move code names m ≡ Went w m1 → BecomesBy code names m m1 w
-  one-turn m m1 w e = leads-turn code names m m1 w e
+  one-move : (m m1 : Machine) (w : List Item) → next_move code names m ≡ Went w m1 → BecomesBy code names m m1 w
+  one-move m m1 w e = leads-move code names m m1 w e
 
   -- one move, and what follows
   and-on : (m m1 m2 : Machine) (i : Item) (is : List Item) → next_move code names m ≡ Went (i ∷ []) m1 → BecomesBy code names m1 m2 is → BecomesBy code names m m2 (i ∷ is)
-  and-on m m1 m2 i is e l = leads-then code names m m1 m2 (i ∷ []) is (leads-turn code names m m1 (i ∷ []) e) l
+  and-on m m1 m2 i is e l = leads-then code names m m1 m2 (i ∷ []) is (leads-move code names m m1 (i ∷ []) e) l
 
   pub passes : {ws vs : List Wait} {is : List Item} → Nested ws is vs → (s : State) → AgreesAll code s.store is → (rest : List Item)
       → BecomesBy code names (fixing_at s ws (is ++ rest)) (fixing_at (with_store s (store_after code s.store is)) vs rest) is
@@ -117,7 +117,7 @@ module _ (code : Code) (names : ℕ → ℕ) where
       (items_in back))
   unfolding next_move
   repairs s ws p value u v args stamp n back e =
-      turn-then (fixing_at s ws (items_in (knot stamp (Read p value u v args) n ∷ back))) (running_at s (resumed code u v args (s.store p)) (Fixes ∷ ws) (ticks n ++ items_in back))
+      move-then (fixing_at s ws (items_in (knot stamp (Read p value u v args) n ∷ back))) (running_at s (resumed code u v args (s.store p)) (Fixes ∷ ws) (ticks n ++ items_in back))
       (running_at s (resumed code u v args (s.store p)) (Fixes ∷ ws) (items_in back))
       (Read p (s.store p) u v args ∷ []) (rw e refl)
       (drop-ticks s (resumed code u v args (s.store p)) (Fixes ∷ ws) n (items_in back))
@@ -128,7 +128,7 @@ module _ (code : Code) (names : ℕ → ℕ) where
   unfolding next_move
   repaired s st ws g e m rest h =
       rw (around-knots g (knot e End m ∷ rest))
-      (one-turn (record {
+      (one-move (record {
         state = s;
         mode = Running st
             (first (levels (items_in (knots g ++ knot e End m ∷ rest))));
@@ -143,7 +143,7 @@ module _ (code : Code) (names : ℕ → ℕ) where
   unfolding next_move
   retaken s st below ws g e m rest h =
       rw (around-knots g (knot e End m ∷ rest))
-      (turn-then (record {
+      (move-then (record {
         state = s;
         mode = Running st
             (first (levels (items_in (knots g ++ knot e End m ∷ rest))));
@@ -157,7 +157,7 @@ module _ (code : Code) (names : ℕ → ℕ) where
       → Comes (fixing_at s (Takes below ∷ ws) (items_in (knot e End m ∷ rest))) (End ∷ []) (running_at s below ws (items_in rest))
   unfolding next_move
   passed s below ws e m rest =
-      turn-then (fixing_at s (Takes below ∷ ws) (items_in (knot e End m ∷ rest)))
+      move-then (fixing_at s (Takes below ∷ ws) (items_in (knot e End m ∷ rest)))
       (running_at s below ws (ticks m ++ items_in rest)) (running_at s below ws (items_in rest)) (End ∷ []) refl
       (drop-ticks s below ws m (items_in rest))
 
@@ -165,7 +165,7 @@ module _ (code : Code) (names : ℕ → ℕ) where
   pub finished : (s : State) (st below : Stack) (ws : List Wait) (is : List Item) → next code s.plain st ≡ Over
       → Comes (running_at s st (Begins below ∷ ws) is) (End ∷ []) (running_at s below ws is)
   unfolding next_move
-  finished s st below ws is h = one-turn (running_at s st (Begins below ∷ ws) is) (running_at s below ws is) (End ∷ []) (rw h refl)
+  finished s st below ws is h = one-move (running_at s st (Begins below ∷ ws) is) (running_at s below ws is) (End ∷ []) (rw h refl)
 
   -- an allocation is taken, and all before it is revoked: it is the one that the definition takes
   pub alloc-taken : (s : State) (st : Stack) (ws : List Wait) (g : Grove) (tail : List Knot) (key : Key) (v u i : ℕ) (env : Variables) (below : Stack) (t : TakenAlloc) (rest : Grove)
@@ -177,7 +177,7 @@ module _ (code : Code) (names : ℕ → ℕ) where
   alloc-taken s st ws g tail key v u i env below t rest c h k b =
       let after : Stack = Run u i (set env v (pointer key t.block)) below in
       let s1 : State = clears code (works s) t.block key in
-      turn-then (running_at s st ws (items_in (knots g ++ tail))) (record { state = s1; mode = Running after t.leftover; frames = frames_at ws (around (levels (items_in (knots g ++ tail)))) })
+      move-then (running_at s st ws (items_in (knots g ++ tail))) (record { state = s1; mode = Running after t.leftover; frames = frames_at ws (around (levels (items_in (knots g ++ tail)))) })
       (running_at s1 after ws (items_in (knots rest ++ tail))) (Step ∷ Alloc t.block key ∷ []) (rw (h, first-knots g c, k) refl)
       (record {
         state = refl;
@@ -194,7 +194,7 @@ module _ (code : Code) (names : ℕ → ℕ) where
   alloc-made s st ws g tail key v u i env below b e c h k =
       let after : Stack = Run u i (set env v (pointer key (Core b))) below in
       let s1 : State = grows code (λ k. b) (works s) key in
-      turn-then (running_at s st ws (items_in (knots g ++ tail)))
+      move-then (running_at s st ws (items_in (knots g ++ tail)))
       (running_at s1 after ws (items_in (knots g ++ tail))) (running_at s1 after ws (items_in (knots g ++ tail)))
       (Step ∷ Alloc (Core b) key ∷ [])
       (rw (h, first-knots g c, k, e) refl) (bare-self (running_at s1 after ws (items_in (knots g ++ tail))))
@@ -203,13 +203,13 @@ module _ (code : Code) (names : ℕ → ℕ) where
   pub write-put : (s : State) (st after : Stack) (ws : List Wait) (is : List Item) (p : Place) (value : Word) → next code s.plain st ≡ Writes p value after
       → Comes (running_at s st ws is) (Step ∷ Write p value ∷ []) (running_at (puts (works s) p value) after ws is)
   unfolding next_move
-  write-put s st after ws is p value h = one-turn (running_at s st ws is) (running_at (puts (works s) p value) after ws is) (Step ∷ Write p value ∷ []) (rw h refl)
+  write-put s st after ws is p value h = one-move (running_at s st ws is) (running_at (puts (works s) p value) after ws is) (Step ∷ Write p value ∷ []) (rw h refl)
 
   -- a step
   pub step-done : (s : State) (st after : Stack) (ws : List Wait) (is : List Item) → next code s.plain st ≡ Quiet after
       → Comes (running_at s st ws is) (Step ∷ []) (running_at (works s) after ws is)
   unfolding next_move
-  step-done s st after ws is h = one-turn (running_at s st ws is) (running_at (works s) after ws is) (Step ∷ []) (rw h refl)
+  step-done s st after ws is h = one-move (running_at s st ws is) (running_at (works s) after ws is) (Step ∷ []) (rw h refl)
 
   -- a new read, which shares what is left over
   pub read-begun : (s : State) (st below : Stack) (ws : List Wait) (g : Grove) (tail : List Knot) (p : Place) (u : UnitId) (v : ℕ) (args : List Word) → Closes tail
@@ -218,7 +218,7 @@ module _ (code : Code) (names : ℕ → ℕ) where
       (running_at (works s) (resumed code u v args (s.store p)) (Begins below ∷ ws) (items_in (knots g ++ tail)))
   unfolding next_move
   read-begun s st below ws g tail p u v args c h k =
-      one-turn (running_at s st ws (items_in (knots g ++ tail)))
+      one-move (running_at s st ws (items_in (knots g ++ tail)))
       (running_at (works s) (resumed code u v args (s.store p)) (Begins below ∷ ws) (items_in (knots g ++ tail)))
       (Step ∷ Read p (s.store p) u v args ∷ [])
       (rw (h, first-knots g c, k) refl)
@@ -248,7 +248,7 @@ module _ (code : Code) (names : ℕ → ℕ) where
         → Comes (running_at s st ws (items_in (knots g ++ tail))) (Step ∷ Read p (s.store p) u v args ∷ []) (fixing_at (works s) (Takes below ∷ ws) (ticks n ++ items_in taken_nodes))
     unfolding next_move
     read-taken same =
-        turn-then (running_at s st ws (items_in (knots g ++ tail)))
+        move-then (running_at s st ws (items_in (knots g ++ tail)))
         (record {
           state = works s;
           mode = Fixing t.inside;
@@ -268,7 +268,7 @@ module _ (code : Code) (names : ℕ → ℕ) where
         (running_at (works s) (resumed code u v args (s.store p)) (Takes below ∷ ws) (items_in taken_nodes))
     unfolding next_move
     read-retaken other =
-        turn-then (running_at s st ws (items_in (knots g ++ tail)))
+        move-then (running_at s st ws (items_in (knots g ++ tail)))
         (record {
           state = works s;
           mode = Running (resumed code u v args (s.store p)) t.inside;

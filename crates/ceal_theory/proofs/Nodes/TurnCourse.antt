@@ -10,11 +10,11 @@ use Rattle.ceal_code.specs.Known.{KnownStack}
 use Rattle.ceal_code.specs.Program.{Code}
 use Rattle.ceal_code.specs.Replay.{Store, KnownWord}
 use Rattle.ceal_theory.proofs.Reuse.FlatTake.{first-flat, followed-nothing}
-use Rattle.ceal_theory.proofs.TurnMachine.MachineLaws.{takes-turn}
+use Rattle.ceal_theory.proofs.MoveMachine.MachineLaws.{takes-move}
 use Rattle.ceal_theory.proofs.SlicedRepair.OneTurn.{Located, Ahead, locate, SameFirst, one-first, at-flat, at-honest, at-store}
 use Rattle.ceal_theory.proofs.SlicedRepair.KnownAtStaleRead.{sound-ready}
 use Rattle.ceal_theory.proofs.SlicedRepair.SliceLaws.{turn-law}
-use Rattle.ceal_theory.proofs.TurnMachine.TurnKeepsEnd.{finishes-rises}
+use Rattle.ceal_theory.proofs.MoveMachine.MoveKeepsEnd.{finishes-rises}
 use Rattle.ceal_theory.proofs.Store.Mentions.{uses-sure}
 use Rattle.ceal_theory.proofs.Store.Walk.{agrees-front, flat-honest}
 use Rattle.ceal_theory.specs.Course.{WorkLaw, TurnCourse, TurnCourseLaw, TurnKnownLaw}
@@ -43,7 +43,7 @@ work-law code names start m out l t items f = of (l.ahead t items f)
 
 -- a machine whose move is its last finishes with what it has
 ended-finishes : (code : Code) (names : ℕ → ℕ) (m : Machine) → next_move code names m ≡ Ended → Finishes code names m m.state []
-ended-finishes code names m e = of (subst (IsMove code names m) e (takes-turn code names m))
+ended-finishes code names m e = of (subst (IsMove code names m) e (takes-move code names m))
   where
     of : Ends code names m → Finishes code names m m.state []
     of h = h.back

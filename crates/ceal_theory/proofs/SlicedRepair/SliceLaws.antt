@@ -17,7 +17,7 @@ use Rattle.ceal_code.specs.Replay.{KnownWord, stored, IsHonest}
 use Rattle.ceal_theory.proofs.Store.Walk.{agrees-honest, flat-honest, walk-fix}
 use Rattle.ceal_theory.specs.Repair.{State, resumed}
 use Rattle.ceal_theory.specs.Moves.{Finishes}
-use Rattle.ceal_theory.proofs.TurnMachine.TurnKeepsEnd.{RanFlat, finishes-anew}
+use Rattle.ceal_theory.proofs.MoveMachine.MoveKeepsEnd.{RanFlat, finishes-anew}
 use Rattle.ceal_theory.proofs.Repair.DistinctBlocks.{named-same, named-one, named-later}
 use Rattle.ceal_theory.proofs.SlicedRepair.CoreBases.{to-bases, from-bases}
 use Rattle.ceal_theory.proofs.SlicedRepair.UnlimitedSlice.{adjusts-slices, slices-adjusts, begun-adjusted}

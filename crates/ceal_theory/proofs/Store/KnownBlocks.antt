@@ -21,7 +21,7 @@ use Rattle.ceal_code.specs.Program.{Code}
 use Rattle.ceal_code.specs.Replay.{In, here, KnownBlock, KnownWord, KnownWords, KnownKey, learnt, plain_of, input_plain}
 use Rattle.ceal_code.specs.Step.{Stack, Empty, Run, Act, Over, Quiet, Makes, Writes, Reads, started, next}
 use Rattle.ceal_code.specs.Value.{Plain, Variables, set}
-use Rattle.ceal_theory.proofs.TurnMachine.FlatMachine.{read-turn}
+use Rattle.ceal_theory.proofs.MoveMachine.FlatMachine.{read-move}
 use Rattle.ceal_theory.proofs.Repair.RepairInvariant.{Extends}
 use Rattle.ceal_theory.proofs.Store.WordsGrow.{learnt-here}
 use Rattle.ceal_theory.proofs.Store.FittingInputs.{inputs-hold, bases-known, started-known}
@@ -322,10 +322,10 @@ module _ (code : Code) (n : ℕ) (ds : List ℕ) where
   state-of : (bs : List ℕ) (m : Machine) → Knows code n ds bs m → StateKnows bs m.state
   state-of bs m k = record { plain = k.plain; old = k.old; store = k.store }
 
-  pub turn-knows : (names : ℕ → ℕ) (bs : List ℕ) (m m' : Machine) (written : List Item) → Knows code n ds bs m → next_move code names m ≡ Went written m'
+  pub move-knows : (names : ℕ → ℕ) (bs : List ℕ) (m m' : Machine) (written : List Item) → Knows code n ds bs m → next_move code names m ≡ Went written m'
       → (m'.state.number ≡ m.state.number) ⊎ (m.state.plain (Core (names m.state.number)) ≡ None) → GoesKnowing code n ds bs written m'
   unfolding next_move NewNumber
-  turn-knows names bs m m' written k e j =
+  move-knows names bs m m' written k e j =
       let j' : NewNumber names m.state (next_move code names m) = rw e j in
       rw e at (moving-knows names bs m.state m.frames m.mode (state-of bs m k) k.mode k.frames j')
 
@@ -341,7 +341,7 @@ module _ (code : Code) (n : ℕ) (ds : List ℕ) where
   one-more : (bs : List ℕ) (m m' m'' : Machine) (i : Item) (is : List Item) → Knows code n ds bs m → ((names : ℕ → ℕ) → next_move code names m ≡ Went (i ∷ []) m') → m'.state.number ≡ m.state.number
       → ((cs : List ℕ) → Knows code n ds cs m' → GoesKnowing code n ds cs is m'') → GoesKnowing code n ds bs (i ∷ is) m''
   one-more bs m m' m'' i is k e j f =
-      let a = turn-knows (λ z. z) bs m m' (i ∷ []) k (e (λ z. z)) (inl j) in
+      let a = move-knows (λ z. z) bs m m' (i ∷ []) k (e (λ z. z)) (inl j) in
       let b = f a.known a.knows in
       record { known = b.known; items = known-then a.items b.items; knows = b.knows }
 
@@ -362,7 +362,7 @@ module _ (code : Code) (n : ℕ) (ds : List ℕ) where
       (λ cs q. stays-knows cs (puts s p v) fs fs' front back q h.1 e)
   stays-knows bs s fs fs' (Read p v u x args ∷ front) back k h e =
       one-more bs (flat_machine s GoesThrough fs (Read p v u x args ∷ front ++ back)) (flat_machine s GoesThrough (Fixes ∷ fs) (front ++ back)) _ (Read p v u x args) front k
-      (λ names. read-turn code names s fs p v u x args (front ++ back) h.0) refl (λ cs q. stays-knows cs s (Fixes ∷ fs) fs' front back q h.1 e)
+      (λ names. read-move code names s fs p v u x args (front ++ back) h.0) refl (λ cs q. stays-knows cs s (Fixes ∷ fs) fs' front back q h.1 e)
   stays-knows bs s (Fixes ∷ fs) fs' (End ∷ front) back k h e =
       one-more bs (flat_machine s GoesThrough (Fixes ∷ fs) (End ∷ front ++ back))
       (flat_machine s GoesThrough fs (front ++ back)) _ End front k (λ names. refl) refl
@@ -411,7 +411,7 @@ pub knowing-law : KnownLaw
 knowing-law code = record {
   begins = begins code;
   first_begins = first-begins code;
-  turns = λ names n ds bs m m' written k e j. turn-knows code n ds names bs m m' written k e j;
+  moves = λ names n ds bs m m' written k e j. move-knows code n ds names bs m m' written k e j;
   stays = λ n ds. stays-knows code n ds;
   next_read = λ n ds. next-read code n ds;
 }

@@ -20,7 +20,7 @@ use Rattle.ceal_code.specs.Step.{started}
 use Rattle.ceal_code.specs.Value.{Plain, field_kind}
 use Rattle.ceal_theory.proofs.Repair.DistinctBlocks.{uses, times-append}
 use Rattle.ceal_theory.proofs.SlicedRepair.DoneReplays.{begun}
-use Rattle.ceal_theory.proofs.TurnMachine.FlatMachine.{begins, passes-flat, passes-front}
+use Rattle.ceal_theory.proofs.MoveMachine.FlatMachine.{begins, passes-flat, passes-front}
 use Rattle.ceal_theory.proofs.Store.KnownBlocks.{knowing-law}
 use Rattle.ceal_theory.proofs.Store.KnownContent.{known-content-law}
 use Rattle.ceal_theory.proofs.SlicedRepair.Soundness.{at-core, start-known, starting-known}

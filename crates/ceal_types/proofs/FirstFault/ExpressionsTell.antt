@@ -5,6 +5,7 @@ use Rattle.std.specs.Prelude.{is_some}
 use Rattle.std.specs.Map.{lookup}
 use Rattle.std.specs.Option.{option_map, option_and_then, option_flatten}
 use Rattle.std.specs.Str.{bytes_eq}
+use Rattle.ceal_base.specs.Faults.{one, faults_of_each}
 use Rattle.ceal_base.specs.declared.fault.Fault.{Fault}
 use Rattle.ceal_base.specs.declared.fault.FaultCode.{FaultCode}
 use Rattle.ceal_base.specs.declared.fault.FaultCode.TheVariants.{N1, T1, T3}
@@ -22,9 +23,9 @@ use Rattle.ceal_types.specs.Expressions.{Scope, typed_form, typed_operand, typed
 use Rattle.ceal_types.specs.Expressions.{condition, variable_at, own_at, int_asked, unary_at, unary_of, binary_at}
 use Rattle.ceal_types.specs.Expressions.{binary_of, comparison, int_operation, no_pick, field_of, field_at, address_of}
 use Rattle.ceal_types.specs.Expressions.{address_at, pick_of, pick_at, no_address, member}
-use Rattle.ceal_types.specs.Faults.{one, one_unless, misfit, mismatch, operation_faults, arrow_faults, use_faults}
+use Rattle.ceal_types.specs.Faults.{one_unless, misfit, mismatch, operation_faults, arrow_faults, use_faults}
 use Rattle.ceal_types.specs.Faults.{address_faults, element_faults, form_faults, operand_faults, expr_faults}
-use Rattle.ceal_types.specs.Faults.{condition_faults, faults_of_each}
+use Rattle.ceal_types.specs.Faults.{condition_faults}
 use Rattle.ceal_types.specs.Kinds.{suits, comparable}
 use Rattle.ceal_types.specs.Known.{Known, TypingContext, pointer_type, member_known, operation_type, value_type, place_type, operand_span, form_type, operand_type, type_of}
 use Rattle.ceal_types.specs.Tables.{Name, has}

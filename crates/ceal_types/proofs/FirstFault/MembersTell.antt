@@ -3,6 +3,7 @@ use Rattle.std.proofs.Common.{◌≡◌, ℕ, ◌==◌, Option, Some, None, Resu
 use Rattle.std.specs.Prelude.{IfSome, is_some}
 use Rattle.std.specs.Option.{option_map, option_and_then}
 use Rattle.std.proofs.lemmas.Option.{slice_get-map}
+use Rattle.ceal_base.specs.Faults.{one}
 use Rattle.ceal_base.specs.WellTyped.{address_kind, name_of_field}
 use Rattle.ceal_base.specs.declared.fault.Fault.{Fault}
 use Rattle.ceal_base.specs.declared.fault.FaultCode.TheVariants.{T1, T3, T5}
@@ -21,7 +22,7 @@ use Rattle.ceal_types.specs.Checked.{field_info}
 use Rattle.ceal_types.specs.Expressions.{Fields, expression, found_or, field_or_row, field_named, field_of_struct}
 use Rattle.ceal_types.specs.Expressions.{member_of, member, value_of_field, field_of, place_of_field, address_of}
 use Rattle.ceal_types.specs.Expressions.{element_of, element_of_row, pick_of_kind, pick_of}
-use Rattle.ceal_types.specs.Faults.{one, one_unless, one_if, misfit, arrow_faults, use_faults, address_faults, element_faults}
+use Rattle.ceal_types.specs.Faults.{one_unless, one_if, misfit, arrow_faults, use_faults, address_faults, element_faults}
 use Rattle.ceal_types.specs.Kinds.{suits}
 use Rattle.ceal_types.specs.Known.{Known, Declared, member_named, member_known, value_type, place_type}
 use Rattle.ceal_types.specs.Resolves.{member_number}

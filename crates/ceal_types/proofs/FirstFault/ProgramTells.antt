@@ -1,6 +1,7 @@
 -- The first fault of a tree.
 use Rattle.std.proofs.Common.{◌≡◌, ◌↔◌, Some, Ok, Err, List, [], ◌∷◌, ◌++◌, slice_get, refl, sym, subst, ap, ◌∙◌}
 use Rattle.std.specs.Prelude.{IsOk}
+use Rattle.ceal_base.specs.Faults.{faults_of_each}
 use Rattle.ceal_base.specs.declared.fault.Fault.{Fault}
 use Rattle.ceal_base.specs.declared.fault.FaultCode.TheVariants.{N2}
 use Rattle.ceal_base.specs.declared.syntax.Entry.{Entry}
@@ -9,7 +10,7 @@ use Rattle.ceal_base.specs.declared.syntax.FunctionDecl.{FunctionDecl}
 use Rattle.ceal_base.specs.declared.syntax.Tree.{Tree}
 use Rattle.ceal_base.specs.declared.typed.TypedFunction.{TypedFunction}
 use Rattle.ceal_types.specs.Checked.{function_of, function_body, typed_function, with_body, program_of, bodies, checked}
-use Rattle.ceal_types.specs.Faults.{one_if, own_faults, parameter_faults, head_faults, faults_after, faults_of_each, stmts_faults, body_context, body_faults, tree_faults}
+use Rattle.ceal_types.specs.Faults.{one_if, own_faults, parameter_faults, head_faults, faults_after, stmts_faults, body_context, body_faults, tree_faults}
 use Rattle.ceal_types.specs.Heads.{head_of, with_entry, struct_names, no_entries, heads}
 use Rattle.ceal_types.specs.Known.{structs_in, functions_in, Declared, declared_in, TypingContext}
 use Rattle.ceal_types.specs.Statements.{inner_block, typed_stmts}

@@ -8,6 +8,7 @@ use Rattle.std.specs.Str.{bytes_eq}
 use Rattle.std.proofs.lemmas.Bool.{true≢false}
 use Rattle.std.proofs.lemmas.Cmp.{nat_list_eq_equiv}
 use Rattle.std.proofs.Math.Dec.{eqb-suc-suc}
+use Rattle.ceal_base.specs.Faults.{one, faults_of_each}
 use Rattle.ceal_base.specs.Kinds.{same_kind}
 use Rattle.ceal_base.specs.WellTyped.{kind_held, plain_kind}
 use Rattle.ceal_base.specs.declared.fault.Fault.{Fault}
@@ -33,10 +34,10 @@ use Rattle.ceal_base.specs.declared.typed.TypedStmt.{TypedStmt}
 use Rattle.ceal_base.specs.declared.typed.TypedStmt.{SetField as SetTyped, Write as WriteTyped}
 use Rattle.ceal_base.specs.declared.typed.TypedValue.TheVariants.{Plain as PlainTyped, Read as ReadTyped, Alloc as AllocTyped, ModrefInt as ModrefIntTyped, Modref as ModrefTyped}
 use Rattle.ceal_types.specs.Expressions.{Scope, typed_expr, typed_exprs, condition, member}
-use Rattle.ceal_types.specs.Faults.{one, one_unless, one_if, struct_faults, type_faults, misfit, arrow_faults}
+use Rattle.ceal_types.specs.Faults.{one_unless, one_if, struct_faults, type_faults, misfit, arrow_faults}
 use Rattle.ceal_types.specs.Faults.{use_faults, expr_faults, condition_faults, argument_faults, call_faults}
 use Rattle.ceal_types.specs.Faults.{alloc_faults, place_faults, held_kind, value_faults, with_declared, stmt_faults}
-use Rattle.ceal_types.specs.Faults.{row_faults, stmts_faults, faults_of_each, parameter_in_scope}
+use Rattle.ceal_types.specs.Faults.{row_faults, stmts_faults, parameter_in_scope}
 use Rattle.ceal_types.specs.Heads.{number_or_fault, struct_number, kind_of}
 use Rattle.ceal_types.specs.Known.{Known, TypingContext, variable_type, pointer_type, member_known, type_of, type_of_field}
 use Rattle.ceal_types.specs.Statements.{Step, Block, still, empty_block, block_end, inner_block, with_step, declaration}

@@ -2,10 +2,11 @@
 use Rattle.std.proofs.Common.{◌≡◌, ◌↔◌, ◌||◌, Bool, true, false, Some, Result, Ok, Err, List, [], ◌∷◌, ◌++◌, slice_get, refl, sym, subst, ap, ◌∙◌, append_assoc, append-nil, if◌then◌else◌}
 use Rattle.std.specs.Prelude.{IfOk, IsOk}
 use Rattle.std.proofs.lemmas.Bool.{false≢true}
+use Rattle.ceal_base.specs.Faults.{one}
 use Rattle.ceal_base.specs.declared.fault.Fault.{Fault}
 use Rattle.ceal_base.specs.declared.fault.FaultCode.{FaultCode}
 use Rattle.ceal_base.specs.declared.fault.Span.{Span}
-use Rattle.ceal_types.specs.Faults.{one, one_unless, one_if, faults_after}
+use Rattle.ceal_types.specs.Faults.{one_unless, one_if, faults_after}
 use Rattle.ceal_types.specs.Walk.{fault, after, result_map, both, in_turn}
 
 -- where the walk gives something, there is no fault and this holds of it; else it gives the first fault

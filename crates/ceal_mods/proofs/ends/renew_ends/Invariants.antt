@@ -1,5 +1,5 @@
 use Rattle.std.proofs.Common.{◌≡◌, drop}
-use Rattle.ceal_mods.specs.Marks.{renewed, unlisted}
+use Rattle.ceal_mods.proofs.RenewedMarks.{renewed, unlisted}
 use Rattle.ceal_mods.proofs.ends.renew_ends.Given as goal
 
 abbrev pub invariant-loop-slot : goal.invariant-loop-slot

@@ -1,4 +1,4 @@
-use Rattle.ceal_theory.proofs.TurnMachine.MachineLaws.{flat-levels-law}
+use Rattle.ceal_theory.proofs.MoveMachine.MachineLaws.{flat-levels-law}
 use Rattle.ceal_theory.proofs.machine.flat_levels_law.Goals as goal
 
 pub returns : goal.returns

@@ -1,4 +1,4 @@
-use Rattle.ceal_theory.proofs.TurnMachine.MachineLaws.{machine-law}
+use Rattle.ceal_theory.proofs.MoveMachine.MachineLaws.{machine-law}
 use Rattle.ceal_theory.proofs.machine.machine_law.Goals as goal
 
 pub returns : goal.returns

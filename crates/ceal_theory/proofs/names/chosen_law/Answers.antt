@@ -1,4 +1,4 @@
-use Rattle.ceal_theory.proofs.TurnMachine.ChosenNumbers.{chosen-law}
+use Rattle.ceal_theory.proofs.MoveMachine.ChosenNumbers.{chosen-law}
 use Rattle.ceal_theory.proofs.names.chosen_law.Goals as goal
 
 pub returns : goal.returns

@@ -1,4 +1,4 @@
-use Rattle.ceal_theory.proofs.TurnMachine.Segments.{renamed-items-law}
+use Rattle.ceal_theory.proofs.MoveMachine.Segments.{renamed-items-law}
 use Rattle.ceal_theory.proofs.names.renamed_items_law.Goals as goal
 
 pub returns : goal.returns

@@ -1,6 +1,7 @@
 use Rattle.std.proofs.Common.{◌≡◌, drop}
+use Rattle.ceal_base.specs.Faults.{faults_of_each}
 use Rattle.ceal_usage.specs.Faults.{function_faults}
-use Rattle.ceal_usage.specs.Verdict.{verdict, faults_of_each}
+use Rattle.ceal_usage.specs.Verdict.{verdict}
 use Rattle.ceal_usage.proofs.check.check_functions.Given as goal
 
 abbrev pub invariant-loop-function : goal.invariant-loop-function

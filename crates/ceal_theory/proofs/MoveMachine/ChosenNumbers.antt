@@ -18,10 +18,10 @@ use Rattle.ceal_theory.proofs.Repair.FromScratch.{scratch-first}
 use Rattle.ceal_theory.proofs.Repair.FunctionOfRules.{adjusted-sound, adjusted-found, first-sound, first-found}
 use Rattle.ceal_theory.proofs.Repair.Honesty.{fix-honest, anew-honest}
 use Rattle.ceal_theory.proofs.Store.FittingInputs.{fits-more}
-use Rattle.ceal_theory.proofs.TurnMachine.MachineLaws.{leads-stays, leads-then, takes-turn}
+use Rattle.ceal_theory.proofs.MoveMachine.MachineLaws.{leads-stays, leads-then, takes-move}
 use Rattle.ceal_theory.proofs.Renaming.GivenNumbers.{handed-law, named-back, named-there, first-back, first-there}
 use Rattle.ceal_theory.proofs.Repair.RepairReplays.{words-after}
-use Rattle.ceal_theory.proofs.TurnMachine.TurnKeepsEnd.{finishes-fix, finishes-anew, finishes-rises}
+use Rattle.ceal_theory.proofs.MoveMachine.MoveKeepsEnd.{finishes-fix, finishes-anew, finishes-rises}
 use Rattle.ceal_theory.specs.Adjust.{AdjustsAs, FirstsAs}
 use Rattle.ceal_theory.specs.Chosen.{Continues, ComesBy, Free, EndedRepair, EndedFirst, repair_begins, first_begins, ChosenLaw}
 use Rattle.ceal_theory.specs.Laws.{Edited}
@@ -74,7 +74,7 @@ module _ (code : Code) where
       longer (d ∷ bs) = omega (arith, longer bs)
 
   ended-at : (names : ℕ → ℕ) (m : Machine) → next_move code names m ≡ Ended → Finishes code names m m.state []
-  ended-at names m e = let t : Ends code names m = rw e at (takes-turn code names m) in t.back
+  ended-at names m e = let t : Ends code names m = rw e at (takes-move code names m) in t.back
 
   module _ (old new : List Block) (f : ℕ) (args : List Word) (l : Trace) (number : ℕ) (e : Edited code old new f args l number) (chosen : List ℕ) (free : Free chosen l) where
     bound : ℕ

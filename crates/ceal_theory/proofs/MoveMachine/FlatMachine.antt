@@ -15,7 +15,7 @@ use Rattle.ceal_code.specs.Program.{Code}
 use Rattle.ceal_code.specs.Step.{Stack, Run, Over, Quiet, Makes, Writes, Reads, next}
 use Rattle.ceal_code.specs.Value.{Variables, set}
 use Rattle.ceal_theory.proofs.Reuse.FlatTake.{first-of-flat, loose-one, take-found, found-beyond, take-found-read, found-beyond-read, skipped-levels}
-use Rattle.ceal_theory.proofs.TurnMachine.MachineLaws.{leads-stays, leads-then, leads-turn, machine-law}
+use Rattle.ceal_theory.proofs.MoveMachine.MachineLaws.{leads-stays, leads-then, leads-move, machine-law}
 use Rattle.ceal_theory.specs.FlatMachine.{GoesThrough, Runs, FlatFrame, Fixes, Mends, GoesOn, frames_of, flat_machine, passes, then_passes, passes_all, FlatMachineLaw}
 use Rattle.ceal_theory.specs.Levels.{levels, loose, beyond, skipped, FoundAlloc, find_alloc, FoundRead, find_read}
 use Rattle.ceal_theory.specs.Repair.{State, clears, puts, works, grows, resumed}
@@ -34,12 +34,12 @@ module _ (code : Code) (names : ℕ → ℕ) where
   begins s l = ap (λ t. record { state = s; mode = Fixing t; frames = Bottom }) (first-of-flat l)
 
   one-item : (m m' m'' : Machine) (i : Item) (is : List Item) → next_move code names m ≡ Went (i ∷ []) m' → BecomesBy code names m' m'' is → BecomesBy code names m m'' (i ∷ is)
-  one-item m m' m'' i is e h = leads-then code names m m' m'' (i ∷ []) is (leads-turn code names m m' (i ∷ []) e) h
+  one-item m m' m'' i is e h = leads-then code names m m' m'' (i ∷ []) is (leads-move code names m m' (i ∷ []) e) h
 
-  pub read-turn : (s : State) (fs : List FlatFrame) (p : Place) (v : Word) (u : UnitId) (x : ℕ) (args : List Word) (is : List Item) → s.store p ≡ v
+  pub read-move : (s : State) (fs : List FlatFrame) (p : Place) (v : Word) (u : UnitId) (x : ℕ) (args : List Word) (is : List Item) → s.store p ≡ v
       → next_move code names (flat_machine s GoesThrough fs (Read p v u x args ∷ is)) ≡ Went (Read p v u x args ∷ []) (flat_machine s GoesThrough (Fixes ∷ fs) is)
   unfolding next_move
-  read-turn s fs p v u x args is e = rw (e, word-refl v) refl
+  read-move s fs p v u x args is e = rw (e, word-refl v) refl
 
   pub stays : (s : State) (fs fs' : List FlatFrame) (front back : List Item) → AgreesAll code s.store front → passes_all front fs ≡ Some fs'
       → BecomesBy code names (flat_machine s GoesThrough fs (front ++ back)) (flat_machine (with_store s (store_after code s.store front)) GoesThrough fs' back) front
@@ -58,116 +58,116 @@ module _ (code : Code) (names : ℕ → ℕ) where
       (stays (puts s p v) fs fs' front back h.1 e)
   stays s fs fs' (Read p v u x args ∷ front) back h e =
       one-item (flat_machine s GoesThrough fs (Read p v u x args ∷ front ++ back)) (flat_machine s GoesThrough (Fixes ∷ fs) (front ++ back)) _ (Read p v u x args) front
-      (read-turn s fs p v u x args (front ++ back) h.0) (stays s (Fixes ∷ fs) fs' front back h.1 e)
+      (read-move s fs p v u x args (front ++ back) h.0) (stays s (Fixes ∷ fs) fs' front back h.1 e)
   stays s (Fixes ∷ fs) fs' (End ∷ front) back h e =
       one-item (flat_machine s GoesThrough (Fixes ∷ fs) (End ∷ front ++ back)) (flat_machine s GoesThrough fs (front ++ back)) _ End front refl (stays s fs fs' front back h.1 e)
   stays s (Mends below n ∷ fs) fs' (End ∷ front) back h e = none-some fs' e
   stays s (GoesOn below ∷ fs) fs' (End ∷ front) back h e = none-some fs' e
   stays s [] fs' (End ∷ front) back h e = none-some fs' e
 
-  stale-turn : (s : State) (fs : List FlatFrame) (p : Place) (value : Word) (u : UnitId) (v : ℕ) (args : List Word) (is : List Item) → ¬ (s.store p ≡ value)
+  stale-move : (s : State) (fs : List FlatFrame) (p : Place) (value : Word) (u : UnitId) (v : ℕ) (args : List Word) (is : List Item) → ¬ (s.store p ≡ value)
       → next_move code names (flat_machine s GoesThrough fs (Read p value u v args ∷ is)) ≡ Went
       (Read p (s.store p) u v args ∷ []) (flat_machine s (Runs (resumed code u v args (s.store p)) 1)
       (Fixes ∷ fs) is)
   unfolding next_move
-  stale-turn s fs p value u v args is h = rw (differ (s.store p) value h, loose-one (levels is)) refl
+  stale-move s fs p value u v args is h = rw (differ (s.store p) value h, loose-one (levels is)) refl
 
-  mended-turn : (s : State) (fs : List FlatFrame) (below : Stack) (n : ℕ) (is : List Item)
+  mended-move : (s : State) (fs : List FlatFrame) (below : Stack) (n : ℕ) (is : List Item)
       → next_move code names (flat_machine s GoesThrough (Mends below n ∷ fs) (End ∷ is)) ≡ Went (End ∷ []) (flat_machine s (Runs below n) fs is)
   unfolding next_move
-  mended-turn s fs below n is = refl
+  mended-move s fs below n is = refl
 
   last : (s : State) → next_move code names (flat_machine s GoesThrough [] []) ≡ Ended
   unfolding next_move
   last s = refl
 
-  fixes-turn : (s : State) (fs : List FlatFrame) (st : Stack) (n : ℕ) (is : List Item) → next code s.plain st ≡ Over
+  fixes-move : (s : State) (fs : List FlatFrame) (st : Stack) (n : ℕ) (is : List Item) → next code s.plain st ≡ Over
       → next_move code names (flat_machine s (Runs st n) (Fixes ∷ fs) is) ≡ Went (End ∷ []) (flat_machine s GoesThrough fs (skipped n is))
   unfolding next_move
-  fixes-turn s fs st n is e = rw (e, skipped-levels n is) refl
+  fixes-move s fs st n is e = rw (e, skipped-levels n is) refl
 
-  mends-turn : (s : State) (fs : List FlatFrame) (st below : Stack) (n m : ℕ) (is : List Item) → next code s.plain st ≡ Over
+  mends-move : (s : State) (fs : List FlatFrame) (st below : Stack) (n m : ℕ) (is : List Item) → next code s.plain st ≡ Over
       → next_move code names (flat_machine s (Runs st n) (Mends below m ∷ fs) is) ≡ Went (End ∷ []) (flat_machine s (Runs below m) fs (skipped n is))
   unfolding next_move
-  mends-turn s fs st below n m is e = rw (e, skipped-levels n is) refl
+  mends-move s fs st below n m is e = rw (e, skipped-levels n is) refl
 
-  goes-on-turn : (s : State) (fs : List FlatFrame) (st below : Stack) (n : ℕ) (is : List Item) → next code s.plain st ≡ Over
+  goes-on-move : (s : State) (fs : List FlatFrame) (st below : Stack) (n : ℕ) (is : List Item) → next code s.plain st ≡ Over
       → next_move code names (flat_machine s (Runs st n) (GoesOn below ∷ fs) is) ≡ Went (End ∷ []) (flat_machine s (Runs below n) fs is)
   unfolding next_move
-  goes-on-turn s fs st below n is e = rw e refl
+  goes-on-move s fs st below n is e = rw e refl
 
   over-last : (s : State) (st : Stack) (n : ℕ) (is : List Item) → next code s.plain st ≡ Over → next_move code names (flat_machine s (Runs st n) [] is) ≡ Ended
   unfolding next_move
   over-last s st n is e = rw e refl
 
-  quiet-turn : (s : State) (fs : List FlatFrame) (st after : Stack) (n : ℕ) (is : List Item) → next code s.plain st ≡ Quiet after
+  quiet-move : (s : State) (fs : List FlatFrame) (st after : Stack) (n : ℕ) (is : List Item) → next code s.plain st ≡ Quiet after
       → next_move code names (flat_machine s (Runs st n) fs is) ≡ Went (Step ∷ []) (flat_machine (works s) (Runs after n) fs is)
   unfolding next_move
-  quiet-turn s fs st after n is e = rw e refl
+  quiet-move s fs st after n is e = rw e refl
 
-  writes-turn : (s : State) (fs : List FlatFrame) (st after : Stack) (p : Place) (value : Word) (n : ℕ) (is : List Item) → next code s.plain st ≡ Writes p value after
+  writes-move : (s : State) (fs : List FlatFrame) (st after : Stack) (p : Place) (value : Word) (n : ℕ) (is : List Item) → next code s.plain st ≡ Writes p value after
       → next_move code names (flat_machine s (Runs st n) fs is) ≡ Went (Step ∷ Write p value ∷ []) (flat_machine (puts (works s) p value) (Runs after n) fs is)
   unfolding next_move
-  writes-turn s fs st after p value n is e = rw e refl
+  writes-move s fs st after p value n is e = rw e refl
 
-  makes-turn : (s : State) (fs : List FlatFrame) (st below : Stack) (key : Key) (v u i : ℕ) (env : Variables) (n : ℕ) (is : List Item) → next code s.plain st ≡ Makes key v u i env below
+  makes-move : (s : State) (fs : List FlatFrame) (st below : Stack) (key : Key) (v u i : ℕ) (env : Variables) (n : ℕ) (is : List Item) → next code s.plain st ≡ Makes key v u i env below
       → find_alloc key n is ≡ None → (b : ℕ) → names s.number ≡ b
       → next_move code names (flat_machine s (Runs st n) fs is) ≡ Went (Step ∷ Alloc (Core b) key ∷ [])
       (flat_machine (grows code (λ k. b) (works s) key)
       (Runs (Run u i (set env v (pointer key (Core b))) below) n) fs is)
   unfolding next_move
-  makes-turn s fs st below key v u i env n is e w b h = rw (e, take-found key is n, w, h) refl
+  makes-move s fs st below key v u i env n is e w b h = rw (e, take-found key is n, w, h) refl
 
-  takes-alloc-turn : (s : State) (fs : List FlatFrame) (st below : Stack) (key : Key) (v u i : ℕ) (env : Variables) (n : ℕ) (is : List Item) → next code s.plain st ≡ Makes key v u i env below
+  takes-alloc-move : (s : State) (fs : List FlatFrame) (st below : Stack) (key : Key) (v u i : ℕ) (env : Variables) (n : ℕ) (is : List Item) → next code s.plain st ≡ Makes key v u i env below
       → (f : FoundAlloc) → find_alloc key n is ≡ Some f
       → next_move code names (flat_machine s (Runs st n) fs is) ≡ Went (Step ∷ Alloc f.block key ∷ [])
       (flat_machine (clears code (works s) f.block key)
       (Runs (Run u i (set env v (pointer key f.block)) below) f.levels) fs f.rest)
   unfolding next_move
-  takes-alloc-turn s fs st below key v u i env n is e f w = rw (e, take-found key is n, w, found-beyond key is n f w) refl
+  takes-alloc-move s fs st below key v u i env n is e f w = rw (e, take-found key is n, w, found-beyond key is n f w) refl
 
-  reads-turn : (s : State) (fs : List FlatFrame) (st below : Stack) (p : Place) (u : UnitId) (v : ℕ) (args : List Word) (n : ℕ) (is : List Item) → next code s.plain st ≡ Reads p u v args below
+  reads-move : (s : State) (fs : List FlatFrame) (st below : Stack) (p : Place) (u : UnitId) (v : ℕ) (args : List Word) (n : ℕ) (is : List Item) → next code s.plain st ≡ Reads p u v args below
       → find_read p u v args n is ≡ None
       → next_move code names (flat_machine s (Runs st n) fs is)
       ≡ Went (Step ∷ Read p (s.store p) u v args ∷ []) (flat_machine (works s) (Runs (resumed code u v args (s.store p)) n) (GoesOn below ∷ fs) is)
   unfolding next_move
-  reads-turn s fs st below p u v args n is e w = rw (e, take-found-read p u v args is n, w) refl
+  reads-move s fs st below p u v args n is e w = rw (e, take-found-read p u v args is n, w) refl
 
-  takes-read-turn : (s : State) (fs : List FlatFrame) (st below : Stack) (p : Place) (u : UnitId) (v : ℕ) (args : List Word) (n : ℕ) (is : List Item) → next code s.plain st ≡ Reads p u v args below
+  takes-read-move : (s : State) (fs : List FlatFrame) (st below : Stack) (p : Place) (u : UnitId) (v : ℕ) (args : List Word) (n : ℕ) (is : List Item) → next code s.plain st ≡ Reads p u v args below
       → (f : FoundRead) → find_read p u v args n is ≡ Some f → same_word (s.store p) f.value ≡ true
       → next_move code names (flat_machine s (Runs st n) fs is) ≡ Went (Step ∷ Read p (s.store p) u v args ∷ []) (flat_machine (works s) GoesThrough (Mends below f.levels ∷ fs) f.rest)
   unfolding next_move
-  takes-read-turn s fs st below p u v args n is e f w k = rw (e, take-found-read p u v args is n, w, k, found-beyond-read p u v args is n f w) refl
+  takes-read-move s fs st below p u v args n is e f w k = rw (e, take-found-read p u v args is n, w, k, found-beyond-read p u v args is n f w) refl
 
-  takes-stale-turn : (s : State) (fs : List FlatFrame) (st below : Stack) (p : Place) (u : UnitId) (v : ℕ) (args : List Word) (n : ℕ) (is : List Item) → next code s.plain st ≡ Reads p u v args below
+  takes-stale-move : (s : State) (fs : List FlatFrame) (st below : Stack) (p : Place) (u : UnitId) (v : ℕ) (args : List Word) (n : ℕ) (is : List Item) → next code s.plain st ≡ Reads p u v args below
       → (f : FoundRead) → find_read p u v args n is ≡ Some f → same_word (s.store p) f.value ≡ false
       → next_move code names (flat_machine s (Runs st n) fs is) ≡ Went (Step ∷ Read p (s.store p) u v args ∷ [])
       (flat_machine (works s) (Runs (resumed code u v args (s.store p)) 1) (Mends below f.levels ∷ fs) f.rest)
   unfolding next_move
-  takes-stale-turn s fs st below p u v args n is e f w k = rw (e, take-found-read p u v args is n, w, k, found-beyond-read p u v args is n f w, loose-one (levels f.rest)) refl
+  takes-stale-move s fs st below p u v args n is e f w k = rw (e, take-found-read p u v args is n, w, k, found-beyond-read p u v args is n f w, loose-one (levels f.rest)) refl
 
   -- a machine whose move is known
   by : (m m' : Machine) (written : List Item) → next_move code names m ≡ Went written m' → BecomesBy code names m m' written
-  by = leads-turn code names
+  by = leads-move code names
 
 pub flat-law : FlatMachineLaw
 flat-law code names = record {
   begins = begins code names;
   stays = stays code names;
-  stale = λ s fs p value u v args is h. by code names _ _ _ (stale-turn code names s fs p value u v args is h);
-  mended = λ s fs below n is. by code names _ _ _ (mended-turn code names s fs below n is);
+  stale = λ s fs p value u v args is h. by code names _ _ _ (stale-move code names s fs p value u v args is h);
+  mended = λ s fs below n is. by code names _ _ _ (mended-move code names s fs below n is);
   last = last code names;
-  over_fixes = λ s fs st n is e. by code names _ _ _ (fixes-turn code names s fs st n is e);
-  over_mends = λ s fs st below n m is e. by code names _ _ _ (mends-turn code names s fs st below n m is e);
-  over_goes_on = λ s fs st below n is e. by code names _ _ _ (goes-on-turn code names s fs st below n is e);
+  over_fixes = λ s fs st n is e. by code names _ _ _ (fixes-move code names s fs st n is e);
+  over_mends = λ s fs st below n m is e. by code names _ _ _ (mends-move code names s fs st below n m is e);
+  over_goes_on = λ s fs st below n is e. by code names _ _ _ (goes-on-move code names s fs st below n is e);
   over_last = over-last code names;
-  quiet = λ s fs st after n is e. by code names _ _ _ (quiet-turn code names s fs st after n is e);
-  writes = λ s fs st after p value n is e. by code names _ _ _ (writes-turn code names s fs st after p value n is e);
-  makes = λ s fs st below key v u i env n is e w b h. by code names _ _ _ (makes-turn code names s fs st below key v u i env n is e w b h);
-  takes_alloc = λ s fs st below key v u i env n is e f w. by code names _ _ _ (takes-alloc-turn code names s fs st below key v u i env n is e f w);
-  reads = λ s fs st below p u v args n is e w. by code names _ _ _ (reads-turn code names s fs st below p u v args n is e w);
-  takes_read = λ s fs st below p u v args n is e f w k. by code names _ _ _ (takes-read-turn code names s fs st below p u v args n is e f w (ap (λ x. same_word x f.value) k ∙ word-refl f.value));
-  takes_stale = λ s fs st below p u v args n is e f w k. by code names _ _ _ (takes-stale-turn code names s fs st below p u v args n is e f w (differ (s.store p) f.value k));
+  quiet = λ s fs st after n is e. by code names _ _ _ (quiet-move code names s fs st after n is e);
+  writes = λ s fs st after p value n is e. by code names _ _ _ (writes-move code names s fs st after p value n is e);
+  makes = λ s fs st below key v u i env n is e w b h. by code names _ _ _ (makes-move code names s fs st below key v u i env n is e w b h);
+  takes_alloc = λ s fs st below key v u i env n is e f w. by code names _ _ _ (takes-alloc-move code names s fs st below key v u i env n is e f w);
+  reads = λ s fs st below p u v args n is e w. by code names _ _ _ (reads-move code names s fs st below p u v args n is e w);
+  takes_read = λ s fs st below p u v args n is e f w k. by code names _ _ _ (takes-read-move code names s fs st below p u v args n is e f w (ap (λ x. same_word x f.value) k ∙ word-refl f.value));
+  takes_stale = λ s fs st below p u v args n is e f w k. by code names _ _ _ (takes-stale-move code names s fs st below p u v args n is e f w (differ (s.store p) f.value k));
   bare = λ s fs st n is. (machine-law code names).bare s st (loose (suc n) (levels is)) (frames_of fs (beyond (suc n) (levels is)));
 }
 

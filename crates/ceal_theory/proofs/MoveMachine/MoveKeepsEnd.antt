@@ -95,27 +95,27 @@ fix-read code names s p value u v args inside rest fs s' out i = go i.state i.it
     go t items left later m (Resumes.after_fix {rest' = rest'} {out = out'} f r) e =
         rw (e, ← append-end items out' (flat rest')) (Finishes.fixes (Fix.read m f) r)
 
-fix-turn : (code : Code) (names : ℕ → ℕ) (s : State) (fs : Frames) (todo : Trace) → Kept code names (at s (Fixing todo) fs) (fix_move code s fs todo)
-fix-turn code names s fs Nothing = fix-closed code names s fs
-fix-turn code names s fs (Stepped rest) = λ s' out.
+fix-move : (code : Code) (names : ℕ → ℕ) (s : State) (fs : Frames) (todo : Trace) → Kept code names (at s (Fixing todo) fs) (fix_move code s fs todo)
+fix-move code names s fs Nothing = fix-closed code names s fs
+fix-move code names s fs (Stepped rest) = λ s' out.
     on-fixing code names s s' rest fs out (λ o. Finishes code names (at s (Fixing (Stepped rest)) fs) s' (Step ∷ o)) (λ t new later f r. Finishes.fixes (Fix.step f) r)
-fix-turn code names s fs (Allocated b key rest) = λ s' out.
+fix-move code names s fs (Allocated b key rest) = λ s' out.
     on-fixing code names (clears code s b key) s' rest fs out
     (λ o. Finishes code names (at s (Fixing (Allocated b key rest)) fs) s' (Alloc b key ∷ o))
     (λ t new later f r. Finishes.fixes (Fix.alloc f) r)
-fix-turn code names s fs (Wrote p value rest) = λ s' out.
+fix-move code names s fs (Wrote p value rest) = λ s' out.
     on-fixing code names (puts s p value) s' rest fs out (λ o. Finishes code names (at s (Fixing (Wrote p value rest)) fs) s' (Write p value ∷ o)) (λ t new later f r. Finishes.fixes (Fix.write f) r)
-fix-turn code names s fs (WasRead p value u v args inside rest) = λ s' out h.
+fix-move code names s fs (WasRead p value u v args inside rest) = λ s' out h.
     fix-read code names s p value u v args inside rest fs s' out (opened-inside code names s p u v args value inside (AfterFix rest fs) s' out (same_word (s.store p) value) refl h)
 
-make-turn : (code : Code) (names : ℕ → ℕ) (s : State) (st : Stack) (fs : Frames) (key : Key) (v u i : ℕ) (env : Variables) (below : Stack) (old : Trace) (o : Option TakenAlloc)
+make-move : (code : Code) (names : ℕ → ℕ) (s : State) (st : Stack) (fs : Frames) (key : Key) (v u i : ℕ) (env : Variables) (below : Stack) (old : Trace) (o : Option TakenAlloc)
     → next code s.plain st ≡ Makes key v u i env below → take_alloc key old ≡ o → Kept code names (at s (Running st old) fs) (alloc_move code names s fs key v u i env below old o)
-make-turn code names s st fs key v u i env below old (Some x) e w = λ s' out.
+make-move code names s st fs key v u i env below old (Some x) e w = λ s' out.
     on-running code names (clears code (works s) x.block key) s'
     (Run u i (set env v (pointer key x.block)) below) x.leftover fs out
     (λ o. Finishes code names (at s (Running st old) fs) s' (Step ∷ Alloc x.block key ∷ o))
     (λ t new left later a r. Finishes.runs (Reruns.takes_alloc e w a) r)
-make-turn code names s st fs key v u i env below old None e w = λ s' out.
+make-move code names s st fs key v u i env below old None e w = λ s' out.
     on-running code names (grows code names (works s) key) s'
     (Run u i (set env v (pointer key (Core (names s.number)))) below) old fs out
     (λ o. Finishes code names (at s (Running st old) fs) s' (Step ∷ Alloc (Core (names s.number)) key ∷ o))
@@ -142,36 +142,36 @@ ran-read : (code : Code) (names : ℕ → ℕ) (s : State) (st below : Stack) (f
 ran-read code names s st below fs p u v args old s' t items left later e w m (Resumes.after_run {new = new} {out = out'} a r) =
     rw (← append-end items out' (flat new)) (Finishes.runs (Reruns.reads e w m a) r)
 
-read-turn : (code : Code) (names : ℕ → ℕ) (s : State) (st : Stack) (fs : Frames) (p : Place) (u : UnitId) (v : ℕ) (args : List Word) (below : Stack) (old : Trace) (o : Option TakenRead)
+read-move : (code : Code) (names : ℕ → ℕ) (s : State) (st : Stack) (fs : Frames) (p : Place) (u : UnitId) (v : ℕ) (args : List Word) (below : Stack) (old : Trace) (o : Option TakenRead)
     → next code s.plain st ≡ Reads p u v args below → take_read p u v args old ≡ o → Kept code names (at s (Running st old) fs) (read_move code s fs p u v args below old o)
-read-turn code names s st fs p u v args below old (Some x) e w = λ s' out h.
+read-move code names s st fs p u v args below old (Some x) e w = λ s' out h.
     took-read code names s st below fs p u v args old x s' out e w
     (opened-inside code names (works s) p u v args x.value x.inside (AfterMend below x.leftover fs) s' out
     (same_word (s.store p) x.value) refl h)
-read-turn code names s st fs p u v args below old None e w = λ s' out.
+read-move code names s st fs p u v args below old None e w = λ s' out.
     on-running code names (works s) s' (resumed code u v args (s.store p)) old (AfterRun below fs) out (λ o. Finishes code names (at s (Running st old) fs) s' (Step ∷ Read p (s.store p) u v args ∷ o))
     (λ t new left later a r. ran-read code names s st below fs p u v args old s' t new left later e w a r)
 
-act-turn : (code : Code) (names : ℕ → ℕ) (s : State) (st : Stack) (fs : Frames) (old : Trace) (a : Act)
+act-move : (code : Code) (names : ℕ → ℕ) (s : State) (st : Stack) (fs : Frames) (old : Trace) (a : Act)
     → next code s.plain st ≡ a → Kept code names (at s (Running st old) fs) (act_move code names s fs old a)
-act-turn code names s st fs old Over e = run-closed code names s st old fs e
-act-turn code names s st fs old (Quiet after) e = λ s' out.
+act-move code names s st fs old Over e = run-closed code names s st old fs e
+act-move code names s st fs old (Quiet after) e = λ s' out.
     on-running code names (works s) s' after old fs out (λ o. Finishes code names (at s (Running st old) fs) s' (Step ∷ o)) (λ t new left later a r. Finishes.runs (Reruns.quiet e a) r)
-act-turn code names s st fs old (Makes key v u i env below) e = make-turn code names s st fs key v u i env below old (take_alloc key old) e refl
-act-turn code names s st fs old (Writes p value after) e = λ s' out.
+act-move code names s st fs old (Makes key v u i env below) e = make-move code names s st fs key v u i env below old (take_alloc key old) e refl
+act-move code names s st fs old (Writes p value after) e = λ s' out.
     on-running code names (puts (works s) p value) s' after old fs out
     (λ o. Finishes code names (at s (Running st old) fs) s' (Step ∷ Write p value ∷ o))
     (λ t new left later a r. Finishes.runs (Reruns.writes e a) r)
-act-turn code names s st fs old (Reads p u v args below) e = read-turn code names s st fs p u v args below old (take_read p u v args old) e refl
+act-move code names s st fs old (Reads p u v args below) e = read-move code names s st fs p u v args below old (take_read p u v args old) e refl
 
-mode-turn : (code : Code) (names : ℕ → ℕ) (s : State) (fs : Frames) (m : Mode) → Kept code names (at s m fs) (mode_move code names s fs m)
-mode-turn code names s fs (Fixing todo) = fix-turn code names s fs todo
-mode-turn code names s fs (Running st old) = act-turn code names s st fs old (next code s.plain st) refl
+mode-move : (code : Code) (names : ℕ → ℕ) (s : State) (fs : Frames) (m : Mode) → Kept code names (at s m fs) (mode_move code names s fs m)
+mode-move code names s fs (Fixing todo) = fix-move code names s fs todo
+mode-move code names s fs (Running st old) = act-move code names s st fs old (next code s.plain st) refl
 
 -- a move keeps what the machine finishes with
-pub turn-kept : (code : Code) (names : ℕ → ℕ) (m : Machine) → Kept code names m (next_move code names m)
+pub move-kept : (code : Code) (names : ℕ → ℕ) (m : Machine) → Kept code names m (next_move code names m)
 unfolding next_move
-turn-kept code names m = mode-turn code names m.state m.frames m.mode
+move-kept code names m = mode-move code names m.state m.frames m.mode
 
 abbrev pub Ahead : Code → (ℕ → ℕ) → State → List Item → Move → Type 0
 Ahead code names s' out Ended = out ≡ []
@@ -198,13 +198,13 @@ mend-ahead code names s t s' p u v args value inside new fs later (Mend.kept e f
 mend-ahead code names s t s' p u v args value inside new fs later (Mend.stale {left = left} e a) r = rw (not-same (s.store p) value e) (Finishes.runs a (r left))
 
 -- what a machine finishes with begins with what its move writes, and the machine after the move finishes with the rest
-pub turn-ahead : (code : Code) (names : ℕ → ℕ) {m : Machine} {s' : State} {out : List Item} → Finishes code names m s' out → Ahead code names s' out (next_move code names m)
+pub move-ahead : (code : Code) (names : ℕ → ℕ) {m : Machine} {s' : State} {out : List Item} → Finishes code names m s' out → Ahead code names s' out (next_move code names m)
 unfolding next_move
-turn-ahead code names (Finishes.fixes Fix.end r) = closed-ahead code names r
-turn-ahead code names (Finishes.fixes {out = out} (Fix.step {rest' = new} f) r) = record { rest = flat new ++ out; same = refl; finishes = Finishes.fixes f r }
-turn-ahead code names (Finishes.fixes {out = out} (Fix.alloc {rest' = new} f) r) = record { rest = flat new ++ out; same = refl; finishes = Finishes.fixes f r }
-turn-ahead code names (Finishes.fixes {out = out} (Fix.write {rest' = new} f) r) = record { rest = flat new ++ out; same = refl; finishes = Finishes.fixes f r }
-turn-ahead code names {s' = s'} (Finishes.fixes {fs = fs} {out = out}
+move-ahead code names (Finishes.fixes Fix.end r) = closed-ahead code names r
+move-ahead code names (Finishes.fixes {out = out} (Fix.step {rest' = new} f) r) = record { rest = flat new ++ out; same = refl; finishes = Finishes.fixes f r }
+move-ahead code names (Finishes.fixes {out = out} (Fix.alloc {rest' = new} f) r) = record { rest = flat new ++ out; same = refl; finishes = Finishes.fixes f r }
+move-ahead code names (Finishes.fixes {out = out} (Fix.write {rest' = new} f) r) = record { rest = flat new ++ out; same = refl; finishes = Finishes.fixes f r }
+move-ahead code names {s' = s'} (Finishes.fixes {fs = fs} {out = out}
     (Fix.read {s = s} {t = t} {p = p} {value = value} {u = u} {v = v} {args = args} {inside = inside} {inside' =
     new} {rest = rest} {rest' = rest'} m f) r) =
     record {
@@ -212,12 +212,12 @@ turn-ahead code names {s' = s'} (Finishes.fixes {fs = fs} {out = out}
       same = ap (λ o. Read p (s.store p) u v args ∷ o) (append-end new out (flat rest'));
       finishes = mend-ahead code names s t s' p u v args value inside new (AfterFix rest fs) (End ∷ (flat rest' ++ out)) m (λ left. Resumes.after_fix f r);
     }
-turn-ahead code names (Finishes.runs (Reruns.over e) r) = rw e (closed-ahead code names r)
-turn-ahead code names (Finishes.runs {out = out} (Reruns.quiet {new = new} e a) r) = rw e (record { rest = flat new ++ out; same = refl; finishes = Finishes.runs a r })
-turn-ahead code names (Finishes.runs {out = out} (Reruns.takes_alloc {new = new} e w a) r) = rw (e, w) (record { rest = flat new ++ out; same = refl; finishes = Finishes.runs a r })
-turn-ahead code names (Finishes.runs {out = out} (Reruns.makes {new = new} e w a) r) = rw (e, w) (record { rest = flat new ++ out; same = refl; finishes = Finishes.runs a r })
-turn-ahead code names (Finishes.runs {out = out} (Reruns.writes {new = new} e a) r) = rw e (record { rest = flat new ++ out; same = refl; finishes = Finishes.runs a r })
-turn-ahead code names {s' = s'} (Finishes.runs {fs = fs} {out = out}
+move-ahead code names (Finishes.runs (Reruns.over e) r) = rw e (closed-ahead code names r)
+move-ahead code names (Finishes.runs {out = out} (Reruns.quiet {new = new} e a) r) = rw e (record { rest = flat new ++ out; same = refl; finishes = Finishes.runs a r })
+move-ahead code names (Finishes.runs {out = out} (Reruns.takes_alloc {new = new} e w a) r) = rw (e, w) (record { rest = flat new ++ out; same = refl; finishes = Finishes.runs a r })
+move-ahead code names (Finishes.runs {out = out} (Reruns.makes {new = new} e w a) r) = rw (e, w) (record { rest = flat new ++ out; same = refl; finishes = Finishes.runs a r })
+move-ahead code names (Finishes.runs {out = out} (Reruns.writes {new = new} e a) r) = rw e (record { rest = flat new ++ out; same = refl; finishes = Finishes.runs a r })
+move-ahead code names {s' = s'} (Finishes.runs {fs = fs} {out = out}
     (Reruns.takes_read {s = s} {t = t} {below = below} {p = p} {u = u} {v = v} {args = args} {inside' = i} {new =
     new} {r = x} e w m a) r) =
     rw (e, w) (record {
@@ -225,7 +225,7 @@ turn-ahead code names {s' = s'} (Finishes.runs {fs = fs} {out = out}
       same = ap (λ o. Step ∷ Read p (s.store p) u v args ∷ o) (append-end i out (flat new));
       finishes = mend-ahead code names (works s) t s' p u v args x.value x.inside i (AfterMend below x.leftover fs) (End ∷ (flat new ++ out)) m (λ left. Resumes.after_mend a r);
     })
-turn-ahead code names {s' = s'} (Finishes.runs {fs = fs} {out = out} (Reruns.reads {s = s} {p = p} {u = u} {v = v} {args = args} {inside' = i} {new = new} e w m a) r) =
+move-ahead code names {s' = s'} (Finishes.runs {fs = fs} {out = out} (Reruns.reads {s = s} {p = p} {u = u} {v = v} {args = args} {inside' = i} {new = new} e w m a) r) =
     rw (e, w) (record {
       rest = flat i ++ (End ∷ (flat new ++ out));
       same = ap (λ o. Step ∷ Read p (s.store p) u v args ∷ o) (append-end i out (flat new));

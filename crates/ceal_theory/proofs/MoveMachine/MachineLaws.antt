@@ -6,7 +6,7 @@ use Rattle.ceal_code.specs.Program.{Code}
 use Rattle.ceal_code.specs.Step.{Stack}
 use Rattle.ceal_theory.proofs.Reuse.StepsBetween.{bare-law, frames-self, mode-self}
 use Rattle.ceal_theory.proofs.Reuse.FlatTake.{take-found, found-beyond, take-found-read, found-beyond-read, skipped-levels, first-flat, around-flat, first-of-flat, around-of-flat}
-use Rattle.ceal_theory.proofs.TurnMachine.TurnKeepsEnd.{at, Kept, Ahead, turn-kept, turn-ahead, finishes-fix, finishes-anew}
+use Rattle.ceal_theory.proofs.MoveMachine.MoveKeepsEnd.{at, Kept, Ahead, move-kept, move-ahead, finishes-fix, finishes-anew}
 use Rattle.ceal_theory.specs.Course.{BareMode, BareFrames}
 use Rattle.ceal_theory.specs.Levels.{FlatTakeLaw, FlatLevelsLaw}
 use Rattle.ceal_theory.specs.Repair.{State, Fix, Reruns}
@@ -27,15 +27,15 @@ module _ (code : Code) (names : ℕ → ℕ) where
           let a = k.ahead s' g.rest g.finishes in
           record { rest = a.rest; same = g.same ∙ (ap (λ r. is ++ r) a.same ∙ sym (append_assoc is js a.rest)); finishes = a.finishes }
 
-  by-turn : (m : Machine) (t : Move) → Kept code names m t → ((s' : State) (items : List Item) → Finishes code names m s' items → Ahead code names s' items t) → IsMove code names m t
-  by-turn m Ended h k = record { back = h; ahead = k }
-  by-turn m (Went written m') h k = record { back = h; ahead = k }
+  by-move : (m : Machine) (t : Move) → Kept code names m t → ((s' : State) (items : List Item) → Finishes code names m s' items → Ahead code names s' items t) → IsMove code names m t
+  by-move m Ended h k = record { back = h; ahead = k }
+  by-move m (Went written m') h k = record { back = h; ahead = k }
 
-  pub takes-turn : (m : Machine) → IsMove code names m (next_move code names m)
-  takes-turn m = by-turn m (next_move code names m) (turn-kept code names m) (λ s' items f. turn-ahead code names f)
+  pub takes-move : (m : Machine) → IsMove code names m (next_move code names m)
+  takes-move m = by-move m (next_move code names m) (move-kept code names m) (λ s' items f. move-ahead code names f)
 
-  pub leads-turn : (m m' : Machine) (written : List Item) → next_move code names m ≡ Went written m' → BecomesBy code names m m' written
-  leads-turn m m' written e = rw e at (takes-turn m)
+  pub leads-move : (m m' : Machine) (written : List Item) → next_move code names m ≡ Went written m' → BecomesBy code names m m' written
+  leads-move m m' written e = rw e at (takes-move m)
 
   fixes : (s s' : State) (l : Trace) (items : List Item) → Finishes code names (at s (Fixing l) Bottom) s' items ↔ ((m : Trace) × (items ≡ flat m) × Fix code names s l s' m)
   fixes s s' l items = (
@@ -52,7 +52,7 @@ module _ (code : Code) (names : ℕ → ℕ) where
 
 pub machine-law : MachineLaw
 machine-law code names = record {
-  turns = takes-turn code names;
+  moves = takes-move code names;
   stays = leads-stays code names;
   leads = leads-then code names;
   fixes = fixes code names;

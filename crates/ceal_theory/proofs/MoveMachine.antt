@@ -1,7 +1,7 @@
 -- The machine of repair, over trees and over flat items.
 -- what crates above cite
 pub mod MachineLaws
-pub mod TurnKeepsEnd
+pub mod MoveKeepsEnd
 pub mod ChosenNumbers
 -- what only this crate cites
 pub mod FlatMachine
