@@ -6,6 +6,7 @@ use Rattle.std.specs.Prelude.{IfSome, IsSome, is_some, OnOk, OnErr, Result, Ok, 
 use Rattle.std.proofs.lemmas.Bool.{cases_Bool, false≢true}
 use Rattle.std.specs.List.{list_all}
 use Rattle.std.proofs.lemmas.List.{at_drop_more, at_drop_all}
+use Rattle.std.proofs.lemmas.List.Sums.{sum_by-cons}
 use Rattle.ceal_base.specs.Access.{word_in}
 use Rattle.ceal_base.specs.Block.{Block, Blocks, alone}
 use Rattle.ceal_base.specs.Fitting.{block_fits, fields_fit, fits_field, inputs_fit, kind_in}
@@ -268,16 +269,24 @@ abbrev pub modifiables : EngineState → List Place → List Place
 modifiables e [] = []
 modifiables e (p ∷ ps) = cond (is_cell (kind_in e.code.structs (block_in e p.block) p.field)) (p ∷ modifiables e ps) (modifiables e ps)
 
+times-more : (p q : Place) (qs : List Place) → times p (q ∷ qs) ≡ cond (ghosts.eq p q) 1 0 + times p qs
+times-more p q qs = sum_by-cons (λ (r : Place). cond (ghosts.eq p r) 1 0) q qs
+
 pub times-modifiable : (e : EngineState) (p : Place) (ps : List Place) → is_cell (kind_in e.code.structs (block_in e p.block) p.field) ≡ true → times p (modifiables e ps) ≡ times p ps
 times-modifiable e p [] h = refl
-times-modifiable e p (q ∷ qs) h = elim (cases_Bool (ghosts.eq p q)) [
-  | inl same ↦
-      let there : is_cell (kind_in e.code.structs (block_in e q.block) q.field) ≡ true =
-      subst (λ (r : Place). is_cell (kind_in e.code.structs (block_in e r.block) r.field) ≡ true) ((place-decides p q).0 same) h in
-      rw (there, same) (ap suc (times-modifiable e p qs h))
-  | inr other ↦ elim (cases_Bool (is_cell (kind_in e.code.structs (block_in e q.block) q.field))) [
-    | inl one ↦ rw (one, other) (times-modifiable e p qs h)
-    | inr not_one ↦ rw (not_one, other) (times-modifiable e p qs h)
+times-modifiable e p (q ∷ qs) h = elim (cases_Bool (is_cell (kind_in e.code.structs (block_in e q.block) q.field))) [
+  | inl one ↦
+      let first : modifiables e (q ∷ qs) ≡ q ∷ modifiables e qs = rw one refl in
+      ap (times p) first
+      ∙ (times-more p q (modifiables e qs) ∙ (ap (λ (n : ℕ). cond (ghosts.eq p q) 1 0 + n) (times-modifiable e p qs h) ∙ sym (times-more p q qs)))
+  | inr not_one ↦ elim (cases_Bool (ghosts.eq p q)) [
+    | inl same ↦ absurd (false≢true (sym not_one ∙ subst (λ (r : Place). is_cell (kind_in e.code.structs (block_in e r.block) r.field) ≡ true) ((place-decides p q).0 same) h))
+    | inr other ↦
+        let first : modifiables e (q ∷ qs) ≡ modifiables e qs = rw not_one refl in
+        let none : cond {A = ℕ} (ghosts.eq p q) 1 0 ≡ 0 = rw other refl in
+        let more = times-more p q qs in
+        let rest = times-modifiable e p qs h in
+        ap (times p) first ∙ omega (arith, none, more, rest)
   ]
 ]
 
@@ -286,9 +295,16 @@ times-other e p [] h = refl
 times-other e p (q ∷ qs) h = elim (cases_Bool (is_cell (kind_in e.code.structs (block_in e q.block) q.field))) [
   | inl one ↦ elim (cases_Bool (ghosts.eq p q)) [
     | inl same ↦ absurd (false≢true (sym h ∙ subst (λ (r : Place). is_cell (kind_in e.code.structs (block_in e r.block) r.field) ≡ true) (sym ((place-decides p q).0 same)) one))
-    | inr other ↦ rw (one, other) (times-other e p qs h)
+    | inr other ↦
+        let first : modifiables e (q ∷ qs) ≡ q ∷ modifiables e qs = rw one refl in
+        let none : cond {A = ℕ} (ghosts.eq p q) 1 0 ≡ 0 = rw other refl in
+        let more = times-more p q (modifiables e qs) in
+        let rest = times-other e p qs h in
+        ap (times p) first ∙ omega (arith, none, more, rest)
   ]
-  | inr not_one ↦ rw not_one (times-other e p qs h)
+  | inr not_one ↦
+      let first : modifiables e (q ∷ qs) ≡ modifiables e qs = rw not_one refl in
+      ap (times p) first ∙ times-other e p qs h
 ]
 
 -- the place that comes next is told, where it is a modifiable

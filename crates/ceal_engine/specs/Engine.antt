@@ -1,7 +1,7 @@
 -- What an engine has, and when it is the run from scratch on the present inputs.
 use Rattle.std.specs.Option.{option_map}
 use Rattle.std.specs.Prelude.{◌≡◌, ℕ, ◌<◌, ◌≤◌, ◌*◌, ◌&&◌, Bool, true, false, Option, Some, None, IfSome, IsSome}
-use Rattle.std.specs.Prelude.{is_some, Result, Ok, Err, List, [], length, slice_get, ⊤}
+use Rattle.std.specs.Prelude.{is_some, Result, Ok, Err, List, length, slice_get, ⊤}
 use Rattle.ceal_base.specs.Block.{Block, Blocks, written_at, alone}
 use Rattle.ceal_base.specs.Finished.{Finished}
 use Rattle.ceal_base.specs.Fitting.{kind_at, fits_field, memory_fits, inputs_fit}
