@@ -9,7 +9,7 @@ written with the spread of the tries; one that is smaller than its spread is wri
 """
 import datetime, os, pathlib, statistics, sys, tempfile, time
 
-from measuring import Failed, Program
+from measuring import Failed, Program, identity
 from tables import table
 from workloads import PROGRAMS, RUN, TOP, input_of, large_sources
 
@@ -86,7 +86,8 @@ def main(words):
     text = table(['What', 'Processor time'], [list(it) for it in rows_of(program)])
     text += '\nThe time of one step of a first run, at two sizes (the middle ones of 45 and of 9 tries):\n\n'
     text += table(['Program', 'Steps', 'a step', 'Steps', 'a step', 'grows'], [list(it) for it in growth_of(program)])
-    head = f'Measured on {datetime.date.today().isoformat()}, on an idle machine with {os.cpu_count()} processors. A time is the middle one of {TRIES}, with half of their spread.\n\n'
+    head = f'Measured on {datetime.date.today().isoformat()}, on an idle machine with {os.cpu_count()} processors, with the program whose SHA-256 begins with {identity(program)}. '
+    head += f'A time is the middle one of {TRIES}, with half of their spread.\n\n'
     OUT.write_text(head + text, encoding='utf-8')
     print(text, end='')
 
