@@ -1,5 +1,5 @@
 # Every command of the repository under one roof: `make help` lists them. Each is a line of some script, which can be called by itself.
-.PHONY: help try test build install lint pages index tags check edits plants gate cost bench random
+.PHONY: help try draft test build install man lint pages index tags check edits plants gate cost bench random
 
 CRATE ?= ceal_base
 FILE ?= examples/inc.ceal
@@ -15,11 +15,18 @@ try: ## runs FILE=examples/inc.ceal and prints its replies (no proof is needed)
 test: ## runs every test that needs no proof
 	./run --test
 
-build: ## proves and builds the program (some 90 minutes of processor time)
+draft: ## compiles the program and the server once, with no proof, and keeps them in draft/
+	./run --draft
+
+build: ## proves and builds the program and the server (some 90 minutes of processor time)
 	./run --build
 
-install: ## copies the proved program to FOLDER=~/.local/bin, with the record of its proof
+install: ## copies the proved program and server to FOLDER=~/.local/bin, with the record of their proof
 	./run --install $(FOLDER)
+
+man: ## writes out/ceal.1, the manual page of the program, from the tables of docs/SCRIPT.md
+	mkdir -p out
+	python3 -B -m tools.manual > out/ceal.1
 
 lint: ## the lint, and whether pages, examples and rows agree (seconds)
 	.ci/house

@@ -15,7 +15,7 @@ from collections.abc import Callable
 
 TOP = pathlib.Path(__file__).resolve().parent.parent
 sys.path.insert(0, str(TOP / 'client'))
-from ceal import Ceal  # noqa: E402
+from ceal import Ceal as Ceal, Value  # noqa: E402
 
 
 class Differs(Exception):
@@ -38,7 +38,7 @@ class Job:
         self.times: list[float] = []
         self.run_time = 0.0
 
-    def run(self, function: str, *values: object) -> None:
+    def run(self, function: str, *values: Value) -> None:
         begun = time.perf_counter()
         self.session.run(function, *values)
         self.run_time = time.perf_counter() - begun
@@ -59,7 +59,7 @@ class Job:
         print(f'  answers        {self.answers:,}, each that of Python')
 
 
-def words_of(text: str, edits: int, more: Callable[[argparse.ArgumentParser], None] = lambda _: None) -> argparse.Namespace:
+def words_of(text: str, edits: int, more: Callable[[argparse.ArgumentParser], object] = lambda _: None) -> argparse.Namespace:
     """The words of a job's command line."""
     parser = argparse.ArgumentParser(description=text)
     parser.add_argument('--edits', type=int, default=edits, help=f'how many edits are made ({edits})')

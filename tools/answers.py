@@ -1,17 +1,16 @@
 """How the answers of the program are got: from the proved program where it is there, else from the same sources by `rt try`."""
 import os, pathlib, re, signal, subprocess, sys, time
 
-TOP = pathlib.Path(__file__).resolve().parent.parent
-CRATE = TOP / 'crates/ceal'
-PROGRAM, BUILT, SEEN, TRIED = (CRATE / 'out' / it for it in ('ceal', 'ceal.built', 'ceal.seen', 'ceal.tried'))
+from tools.programs import PROVED, TOP, remember, why_unproved
+
+TRIED = TOP / 'crates/ceal/out/ceal.tried'
 # What the build takes: the sum of the first proofs of its crates, which were measured one by one (docs/GATE.md).
-BUILD_COST = 'some 90 minutes of processor time, and up to 4 GB of memory'
+BUILD_COST = 'some 90 minutes of processor time, and up to 5 GB of memory'
 TRY_COST = 'one to three minutes'
-# A file that was changed less than this many seconds ago may be changed once more at what seems to be the same time.
-TICK = 2
+WRITE_FAULT = 6  # (the status of a program whose output could not be written)
 LINE = re.compile(rb'^run=ended status=(\d+) ', re.M)
 CASE = re.compile(rb'^case=(\S+) run=ended status=(\d+) ', re.M)
-running = []
+running, found = [], {}  # (the processes that were started; the program of each name that answers this call)
 
 
 class Fault(Exception):
@@ -101,114 +100,6 @@ def wait(process, doing):
 # -- which program answers
 
 
-def dependencies():
-    """Each crate of crates.txt with those that it uses."""
-    lines = (line.split('#')[0] for line in (TOP / 'crates.txt').read_text().splitlines())
-    return {head.split()[0]: rest.split() for head, colon, rest in (line.partition(':') for line in lines) if colon}
-
-
-def crates(top='ceal'):
-    """The crates that one is made of, each after those that it uses."""
-    below, order = dependencies(), []
-
-    def visit(name):
-        if name in below and name not in order:
-            for it in below[name]:
-                visit(it)
-            order.append(name)
-
-    visit(top)
-    return order
-
-
-def sources():
-    """The sources of the program, those of its proofs included, as paths from the top."""
-    yield 'crates.txt'
-    for crate in crates():
-        for part in ('src', 'specs', 'proofs'):
-            for folder, folders, names in os.walk(TOP / 'crates' / crate / part):
-                folders.sort()
-                yield from (os.path.relpath(f'{folder}/{it}', TOP) for it in sorted(names) if it.endswith(('.rt', '.antt')))
-
-
-def sum_of(path):
-    import hashlib  # (imported where it is needed, as what few calls need, so that a call of ./run begins soon)
-
-    with open(path, 'rb') as file:
-        return hashlib.sha256(file.read()).hexdigest()
-
-
-def sums():
-    """A line for each source, with a sum of what is in it."""
-    return ''.join(f'{sum_of(TOP / it)} {it}\n' for it in sources())
-
-
-def sums_with_program():
-    """The sums of the sources and of the program: those of a good build are kept in the file BUILT."""
-    return sums() + f'{sum_of(PROGRAM)} program\n'
-
-
-def stats():
-    """A line for each source, the program and its sums: the size, the times and the number of the file. While none of these is another, as
-    `git` and `make` take it too, neither is what is in the files."""
-
-    def line(path, it):
-        return f'{path} {it.st_size} {it.st_mtime_ns} {it.st_ctime_ns} {it.st_ino}'
-
-    def below(folder):
-        with os.scandir(folder) as entries:
-            for it in sorted(entries, key=lambda it: it.name):
-                if it.is_dir(follow_symlinks=False):
-                    yield from below(it.path)
-                elif it.name.endswith(('.rt', '.antt')):
-                    yield line(it.path, it.stat())
-
-    lines = [line(it, os.stat(it)) for it in (TOP / 'crates.txt', PROGRAM, BUILT)]
-    for crate in crates():
-        for folder in (f'{TOP}/crates/{crate}/{part}' for part in ('src', 'specs', 'proofs')):
-            lines += below(folder) if os.path.isdir(folder) else ()
-    return '\n'.join(lines)
-
-
-def is_current():
-    """Whether the program was built from just these sources: by their sums, or where those have been looked at, by the stats of the files."""
-    seen, now = stats(), time.time()
-    try:
-        if SEEN.read_text() == seen:
-            return True
-    except OSError:
-        pass
-    if sums_with_program() != BUILT.read_text():
-        return False
-    newest = max(int(it.split(' ')[-2]) for it in seen.splitlines())
-    if now - newest / 1e9 > TICK:
-        remember(SEEN, seen)
-    return True
-
-
-def put(path, text):
-    """Writes a file as a whole."""
-    made = path.with_name(f'{path.name}.{os.getpid()}')
-    made.write_text(text)
-    os.replace(made, path)
-
-
-def remember(path, text):
-    """Writes a file that only saves time, where that may be done at all."""
-    try:
-        path.parent.mkdir(exist_ok=True)
-        put(path, text)
-    except OSError:
-        pass
-
-
-def why_unproved():
-    """Why the proved program can't answer; None where it can."""
-    if not (os.access(PROGRAM, os.X_OK) and BUILT.is_file()):
-        return 'the proved program is not built'
-    return None if is_current() else 'sources have changed since the proved program was built'
-
-
 def need_toolchain():
     from shutil import which
 
@@ -229,20 +120,33 @@ def ended(process):
     return process.returncode if process.returncode >= 0 else 128 - process.returncode
 
 
-def by_program(words, given, is_kept):
-    """Answers by the proved program: at once, and to the standard output where the answer is not kept."""
+def by_program(program, words, given, is_kept):
+    """Answers by a program: at once, and to the standard output where the answer is not kept."""
     with given.stream() as stream:
-        how = {'stdout': subprocess.PIPE, 'stderr': subprocess.PIPE} if is_kept else {}
-        process = subprocess.Popen([PROGRAM, *words], stdin=stream, **how)
+        how = {'stdout': subprocess.PIPE} if is_kept else {}
+        process = subprocess.Popen([program, *words], stdin=stream, stderr=subprocess.PIPE, **how)
         running.append(process)
         output, told = process.communicate()
+    if not is_kept:
+        if ended(process) == WRITE_FAULT and is_unread():
+            raise BrokenPipeError
+        hand_over(2, told)
     return Answer(ended(process), output or b'', told or b'')
+
+
+def is_unread():
+    """Whether the standard output is a pipe whose other end is closed, as after `| head`."""
+    import select
+
+    output = select.poll()
+    output.register(1, 0)
+    return any(event & select.POLLERR for _, event in output.poll(0))
 
 
 def tried(words, folder, **how):
     """Runs `rt try` with the given words; returns what the program, and what `rt` wrote on standard error."""
     with open(f'{folder}/out', 'w+b') as out, open(f'{folder}/err', 'w+b') as err:
-        how, begun = {'stdin': subprocess.DEVNULL, 'stdout': out, 'stderr': err, 'cwd': CRATE, **how}, time.monotonic()
+        how, begun = {'stdin': subprocess.DEVNULL, 'stdout': out, 'stderr': err, 'cwd': TOP / 'crates/ceal', **how}, time.monotonic()
         wait(start(['rt', 'try', '--steps', '1', '--seconds', '600', *words], **how), 'compiling, with no proof')
         remember(TRIED, shown_time(time.monotonic() - begun))
         out.seek(0)
@@ -293,14 +197,26 @@ def taken_apart(names, output, errors):
     return [Answer(statuses[it], outputs.get(it, b'')) for it in names]
 
 
+def chosen(name='ceal'):
+    """The program that answers: the proved one, or else a draft, which is made where it is not there; None where neither can be had."""
+    if name in found:
+        return found[name]
+    why = why_unproved(name)
+    if why is None:
+        found[name] = PROVED[name].path
+    else:
+        from tools import drafts
+
+        found[name] = drafts.ready(name, why)
+    return found[name]
+
+
 def answers(calls, is_kept=True):
     """Answers calls, each the words and the input. What is not kept has gone to the standard output."""
-    why = why_unproved()
-    if why is None:
-        return [by_program(words, given, is_kept) for words, given in calls]
-    need_toolchain()
+    program = chosen()
+    if program:
+        return [by_program(program, words, given, is_kept) for words, given in calls]
     last = f', {TRIED.read_text()} the last time' if TRIED.is_file() else ''
-    print(f'run: this run is not proved ({why}); ./run --build proves and builds the program in {BUILD_COST}', file=sys.stderr)
     print(f'run: now all is compiled, as in each such call, in {TRY_COST}{last}; ./run FILE FILE .. compiles once for several', file=sys.stderr, flush=True)
     got = by_try(calls)
     if not is_kept:
@@ -309,9 +225,13 @@ def answers(calls, is_kept=True):
     return got
 
 
+def hand_over(stream, data):
+    while data:
+        data = data[os.write(stream, data) :]
+
+
 def write_out(answer):
     """Hands on an answer that was kept."""
     sys.stdout.flush()
-    for stream, data in ((1, answer.output), (2, answer.told)):
-        while data:
-            data = data[os.write(stream, data) :]
+    hand_over(1, answer.output)
+    hand_over(2, answer.told)

@@ -1,21 +1,22 @@
-"""Builds the proved program, and puts it where it will be used.
+"""Builds the proved programs, `ceal` and `ceal_serve`, and puts them where they will be used.
 
-A build leaves a record: the toolchain, the date, a sum over the sums of the sources and the program, and for each crate the line that `rt`
-ended its proof with, or that `rt` kept its proof from before. A record is no proof, and nobody signs it: it says what was seen here. Who did
-not see it builds the program again.
+A build leaves a record: the toolchain, the date, for each program a sum over the sums of its sources and the program, and for each crate the
+line that `rt` ended its proof with, or that `rt` kept its proof from before. A record is no proof, and nobody signs it: it says what was seen
+here. Who did not see it builds the programs again.
 """
 import datetime, hashlib, os, pathlib, re, shutil, subprocess, sys, time
 
-from tools import answers
-from tools.answers import BUILT, CRATE, PROGRAM, TOP, Fault
+from tools import answers, libceal, programs
+from tools.answers import Fault
+from tools.programs import NAMES, PROVED, TOP
 
-STARTED, LOG, RECORD = CRATE / 'out/ceal.started', CRATE / 'out/build.log', CRATE / 'out/ceal.record'
+STARTED, LOG, RECORD = (TOP / 'crates/ceal/out' / it for it in ('ceal.started', 'build.log', 'ceal.record'))
 BY_BUILD, BY_GATE = './run --build', '.ci/run'
 # What `rt all check` says of a crate: its head and the last line of its proof, which is not there where the proof was kept; at the end, that all is well.
 VERDICT, GOOD = re.compile(r'^== (\w+)$|^(logic=.*)$', re.M), re.compile(r'^(\w+): ok$', re.M)
-PROVED, KEPT = 'logic=proved ', 'ok, by the proof that rt kept'
-# No process of a proof was seen to take more gigabytes (docs/GATE.md).
-MEMORY = 4
+BY_PROOF, KEPT = 'logic=proved ', 'ok, by the proof that rt kept'
+# No process of a proof was seen to take much more gigabytes (docs/GATE.md).
+MEMORY = 5
 
 
 def at_once():
@@ -72,39 +73,55 @@ def refuse(what):
 
 def prove(begun):
     """Proves each crate, as many at once as there are processors and each after those that it uses."""
-    jobs = at_once()
-    print(f'{jobs} crates are proved at once', flush=True)
+    jobs, crates = at_once(), len(programs.dependencies())
+    print(f'1. {crates} crates are proved, {jobs} at once: {answers.BUILD_COST}, less for what was proved before', flush=True)
     with open(LOG, 'wb') as log:
         process = answers.start(['rt', 'all', 'check', '--jobs', str(jobs)], cwd=TOP / 'crates', stdin=subprocess.DEVNULL, stdout=log, stderr=subprocess.STDOUT)
-        watch(process, len(answers.dependencies()), begun)
+        watch(process, crates, begun)
     if process.returncode:
         refuse('a crate was refused or not proved')
 
 
-def link():
-    """Builds the program, which then has to accept an empty source text."""
+def link(name):
+    """Builds a program, which then has to answer an empty source text."""
+    words, given, wanted = programs.SMALLEST[name]
     with open(LOG, 'wb') as log:
-        process = answers.start(['rt', 'run', '--', 'check'], cwd=CRATE, stdin=subprocess.PIPE, stdout=subprocess.PIPE, stderr=log)
-        accepted = process.communicate(b'%%\n')[0]
-    if accepted != b'accepted\n':
-        refuse('the program was refused or not built')
+        how = {'cwd': TOP / 'crates' / name, 'stdin': subprocess.PIPE, 'stdout': subprocess.PIPE, 'stderr': log}
+        answer = answers.start(['rt', 'run', *(['--', *words] if words else [])], **how).communicate(given)[0]
+    if answer != wanted:
+        refuse(f'the program {name} was refused or not built')
+
+
+def newest(program):
+    """When the youngest of a program's sources was changed."""
+    return max(os.stat(TOP / it).st_mtime_ns for it in program.sources())
 
 
 def build():
     answers.need_toolchain()
     STARTED.parent.mkdir(exist_ok=True)
     STARTED.write_bytes(b'')
-    # From here on nothing is taken for the proved program until all is done.
-    if BUILT.exists():
-        BUILT.unlink()
-    begun, before = time.time(), answers.sums()
+    # From here on nothing is taken for a proved program until all is done.
+    made = [*PROVED.values(), *libceal.here()]
+    for it in made:
+        if it.built.exists():
+            it.built.unlink()
+    begun, before = time.time(), [it.sums() for it in made]
     prove(begun)
     verdicts = verdicts_of(LOG.read_text(errors='replace'))
-    link()
-    if before != answers.sums() or any(os.stat(TOP / it).st_mtime_ns > STARTED.stat().st_mtime_ns for it in answers.sources()):
-        raise Fault(70, 'a source was changed during the build, so its program is not used: build again')
+    for at, name in enumerate(NAMES, 2):
+        print(f'{at}. {name} is built, in a minute or two; {answers.shown_time(time.time() - begun)} so far', flush=True)
+        link(name)
+    for _ in libceal.here():
+        print(f'{len(made) + 1}. the library for C is made, in a minute or two; {answers.shown_time(time.time() - begun)} so far', flush=True)
+        if not libceal.build(LOG):
+            refuse('the library for C was refused or not made')
+    if before != [it.sums() for it in made] or any(newest(it) > STARTED.stat().st_mtime_ns for it in made):
+        raise Fault(70, 'a source was changed during the build, so its programs are not used: build again')
     keep(BY_BUILD, verdicts)
-    print(f'done in {answers.shown_time(time.time() - begun)}; the proved program is crates/ceal/out/ceal')
+    libceal.keep()
+    paths = ' and '.join(os.path.relpath(PROVED[it].path, TOP) for it in NAMES)
+    print(f'done in {answers.shown_time(time.time() - begun)}; the proved programs are {paths}')
     return 0
 
 
@@ -119,56 +136,64 @@ def verdicts_of(log):
 
 
 def keep(by, verdicts):
-    """From now on the program that is there is the proved one, as long as no source changes; a record says how it came to be."""
-    sums = answers.sums_with_program()
-    head = [version(), f'toolchain {kit()}', f'proved by {by} on {datetime.date.today()}', f'sums {sum_of_text(sums)}']
-    answers.put(RECORD, '\n'.join([*head, *verdicts, '']))
-    answers.put(BUILT, sums)
+    """From now on the programs that are there are the proved ones, as long as no source changes; a record says how they came to be."""
+    sums = {it: PROVED[it].sums_with_program() for it in NAMES}
+    head = [version(), f'toolchain {kit()}', f'proved by {by} on {datetime.date.today()}', *(sum_line(it, sums[it]) for it in NAMES)]
+    programs.put(RECORD, '\n'.join([*head, *verdicts, '']))
+    for it in NAMES:
+        PROVED[it].built.parent.mkdir(exist_ok=True)
+        programs.put(PROVED[it].built, sums[it])
 
 
-def sum_of_text(text):
-    return hashlib.sha256(text.encode()).hexdigest()
+def sum_line(name, sums):
+    return f'sums {hashlib.sha256(sums.encode()).hexdigest()} {name}'
 
 
 def record():
-    """The record of the program that is there, where it says that all of it was proved."""
+    """The record of the programs that are there, where it says that all of them was proved."""
     if not RECORD.is_file():
-        raise Fault(70, f'nothing here says that this program was proved: {BY_BUILD} proves and builds it, and leaves a record')
+        raise Fault(70, f'nothing here says that these programs were proved: {BY_BUILD} proves and builds them, and leaves a record')
     text = RECORD.read_text()
     lines = text.splitlines()
-    if f'sums {sum_of_text(BUILT.read_text())}' not in lines:
-        raise Fault(70, f'the record of a proof is that of another program: {BY_BUILD} proves and builds this one')
+    if any(sum_line(it, PROVED[it].built.read_text()) not in lines for it in NAMES):
+        raise Fault(70, f'the record of a proof is that of another program: {BY_BUILD} proves and builds these')
     is_by_gate = any(it.startswith(f'proved by {BY_GATE} ') for it in lines)
-    unproved = [it for it in answers.crates() if not any(line.startswith((f'{it}: {PROVED}', f'{it}: {KEPT}')) for line in lines)]
+    needed = dict.fromkeys(it for name in NAMES for it in programs.crates(name))
+    unproved = [it for it in needed if not any(line.startswith((f'{it}: {BY_PROOF}', f'{it}: {KEPT}')) for line in lines)]
     if not is_by_gate and unproved:
-        raise Fault(70, f'the record has no proof of {", ".join(unproved)}: {BY_BUILD} proves and builds the program')
+        raise Fault(70, f'the record has no proof of {", ".join(unproved)}: {BY_BUILD} proves and builds the programs')
     return text
 
 
 def take_built(verdict):
-    """For the gate: the program that `rt ci` has proved and built is the proved one, where no source is newer."""
-    if not os.access(PROGRAM, os.X_OK):
-        raise Fault(70, 'there is no program that rt ci has built')
-    if any(os.stat(TOP / it).st_mtime_ns > PROGRAM.stat().st_mtime_ns for it in answers.sources()):
-        raise Fault(70, 'a source is newer than the program')
+    """For the gate: the programs that `rt ci` has proved and built are the proved ones, where no source is newer."""
+    for it in PROVED.values():
+        if not os.access(it.path, os.X_OK):
+            raise Fault(70, f'there is no program {it.name} that rt ci has built')
+        if newest(it) > it.path.stat().st_mtime_ns:
+            raise Fault(70, f'a source is newer than the program {it.name}')
     keep(BY_GATE, [f'rt ci: {verdict}'])
+    libceal.take_built()
     return 0
 
 
 def install(folder):
-    """Puts the proved program into a folder, beside the record of what is known of it."""
-    why = answers.why_unproved()
-    if why:
-        raise Fault(70, f'{why}: {BY_BUILD} proves and builds it')
+    """Puts the proved programs into a folder, beside the record of what is known of them."""
+    for name in NAMES:
+        why = programs.why_unproved(name)
+        if why:
+            raise Fault(70, f'{why}: {BY_BUILD} proves and builds it')
     told = record()
     if not os.path.isdir(folder):
         raise Fault(66, f'there is no folder {folder}')
-    target = pathlib.Path(folder, 'ceal')
-    shutil.copy2(PROGRAM, f'{target}.new')
-    os.replace(f'{target}.new', target)
-    told = f'{answers.sum_of(target)}  ceal\n{told}'
+    targets = [pathlib.Path(folder, it) for it in NAMES]
+    for name, target in zip(NAMES, targets):
+        shutil.copy2(PROVED[name].path, f'{target}.new')
+        os.replace(f'{target}.new', target)
+    targets += libceal.install(folder)
+    told = ''.join(f'{programs.sum_of(it)}  {it.name}\n' for it in targets) + told
     pathlib.Path(folder, 'ceal.txt').write_text(told)
-    print('\n'.join([str(target), *told.splitlines()[:4]]))
+    print('\n'.join([*map(str, targets), *told.splitlines()[: len(targets) + 5]]))
     return 0
 
 

@@ -2,7 +2,7 @@
 import pathlib, re
 
 from tools import hints, refusals, scripts
-from tools.answers import TOP
+from tools.programs import TOP
 from tools.calls import call, tell
 from tools.inputs import Input
 

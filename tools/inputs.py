@@ -2,7 +2,8 @@
 import os
 
 from tools import scripts
-from tools.answers import TOP, Fault
+from tools.answers import Fault
+from tools.programs import TOP
 
 # An input has at most this many bytes; one byte more is enough to be refused (docs/SCRIPT.md).
 LONGEST_INPUT = 4_194_304
@@ -10,15 +11,20 @@ LONGEST_INPUT = 4_194_304
 
 class Input:
     """What the program is given: a name for people, and bytes, or a file that it reads itself. Where it was put together of files, its pieces
-    tell for each the number of its first line here, its name, and the number of that line there."""
+    tell for each the number of its first line here, its name, and the number of that line there. `added` is how many bytes at its end no
+    file has."""
 
-    def __init__(self, name, text=None, path=None, pieces=()):
-        self.name, self.path, self.held, self.pieces = name, path, text, pieces
+    def __init__(self, name, text=None, path=None, pieces=(), added=0):
+        self.name, self.path, self.held, self.pieces, self.added = name, path, text, pieces, added
 
     def text(self):
         if self.held is None:
             self.held = read_all(open(self.path, 'rb', 0)) if self.path else b''
         return self.held
+
+    def of_files(self):
+        """What is in the files."""
+        return self.text()[: len(self.text()) - self.added]
 
     def stream(self):
         """A stream of it from its first byte on."""
@@ -109,6 +115,13 @@ def resumed(source, *saved_and_script):
     return put_together((text, source.name, 1), (save, *at), (script.text(), script.name, 1))
 
 
+def marked(source):
+    """A source text that is looked at by itself, with the line %% that ends it."""
+    text = source.text()
+    mark = b'%%\n' if not text or text.endswith(b'\n') else b'\n%%\n'
+    return Input(source.name, text + mark, added=len(mark))
+
+
 def look_at_order(first, second):
     """Refuses two files in the wrong order, as their first words tell; no source text that begins so is accepted."""
     what = scripts.no_source(first.text())
@@ -117,7 +130,7 @@ def look_at_order(first, second):
 
 
 def inputs(mode, names):
-    """The inputs that the files make: a source text without a line %% goes with the file that follows it."""
+    """The inputs that the files make: a source text without a line %% goes with the file that follows it, or is looked at by itself."""
     given = [opened(name) for name in names]
     if mode == 'verify' and len(given) == 2:
         return [joined(*given)]
@@ -128,5 +141,7 @@ def inputs(mode, names):
         it = given.pop(0)
         if given and not scripts.parts(it.text())[1] and not scripts.parts(given[0].text())[1]:
             it = joined(it, given.pop(0))
+        elif mode in ('check', 'list') and not scripts.parts(it.text())[1]:
+            it = marked(it)
         made.append(it)
     return made

@@ -1,14 +1,15 @@
-"""Tries the Python client, and the three jobs of examples/ beside their computations in Python: `python3 -m tools.job_tests`.
+"""Tries the Python client, and the three jobs of examples/ beside their computations in Python: `python3 -m tools.job_tests SERVER`.
 
-It needs a built `ceal_serve`. The jobs run side by side, each over some hundred random edits.
+SERVER is a built `ceal_serve`. The jobs run side by side, each over some hundred random edits.
 """
-import subprocess, sys
+import os, subprocess, sys
 
-from tools.answers import TOP
+from tools.programs import TOP
 
-SERVER = TOP / 'crates/ceal_serve/out/ceal_serve'
 TRIED = {
-    'the client': ['-m', 'unittest', '-q', 'client.test_ceal'],
+    'the client': ['-m', 'unittest', '-q', 'client.test_ceal', 'client.test_journal'],
+    'interrupts of the client': ['-m', 'unittest', '-q', 'client.test_interrupts'],
+    'types of the client': ['-m', 'tools.type_tests'],
     'a build tool, in an order': ['examples/build/build.py', '--edits', '200'],
     'a build tool, with marks': ['examples/build/build.py', '--marks', '--edits', '200'],
     'a program analyser': ['examples/flow/flow.py', '--edits', '300'],
@@ -16,8 +17,9 @@ TRIED = {
 }
 
 
-def main():
-    how = {'cwd': TOP, 'stdin': subprocess.DEVNULL, 'stdout': subprocess.PIPE, 'stderr': subprocess.STDOUT, 'text': True}
+def main(server):
+    how = {'env': {**os.environ, 'CEAL_SERVE': os.path.abspath(server)}}
+    how |= {'cwd': TOP, 'stdin': subprocess.DEVNULL, 'stdout': subprocess.PIPE, 'stderr': subprocess.STDOUT, 'text': True}
     running = {name: subprocess.Popen([sys.executable, '-B', *words], **how) for name, words in TRIED.items()}
     failed = 0
     for name, process in running.items():
@@ -30,4 +32,4 @@ def main():
 
 
 if __name__ == '__main__':
-    sys.exit(main())
+    sys.exit(main(sys.argv[1]))

@@ -5,8 +5,8 @@ sources that is thrown away: each is a module of it, with the modules that it ha
 """
 import pathlib, re, shutil, sys, tempfile
 
-from tools import answers
-from tools.answers import TOP
+from tools import answers, programs
+from tools.programs import TOP
 
 JOINED = 'ceal_joined_tests'
 PARTS = ('ceal_engine_tests', 'ceal_tests', 'ceal_runtime_tests')
@@ -29,7 +29,7 @@ def join(tree):
         for file in folder.glob('*.rt'):
             if file.name != 'lib.rt':
                 (source / name / file.name).write_text(file.read_text().replace('crate::', f'crate::{name}::'))
-    below = answers.dependencies()
+    below = programs.dependencies()
     used = sorted({it for part in PARTS for it in below[part]})
     with open(tree / 'crates.txt', 'a') as lines:
         lines.write(f'{JOINED}: {" ".join(used)}\n')

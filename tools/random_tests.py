@@ -7,7 +7,7 @@ printed with its script. No proof says anything of this tool; it looks at the bu
 """
 import random, re, subprocess, sys
 
-from tools.answers import TOP
+from tools.programs import TOP
 from tools.scripts import parts
 
 STRUCT = re.compile(r'struct (\w+) \{(.*?)\};', re.S)

@@ -7,7 +7,7 @@ are files.
 import os, pathlib, re, subprocess, sys, tempfile
 
 from tools import answers
-from tools.answers import TOP
+from tools.programs import TOP
 
 ROWS = TOP / 'crates/ceal_rows/data/rows.txt'
 STATUSES = {'Done': 0, 'Refused': 1, 'Usage': 2, 'TooLong': 3}
@@ -92,7 +92,7 @@ def tried(all_rows):
             path.with_name(f'{row.name}.args').write_bytes(b''.join(it + b'\n' for it in row.words))
             path.with_name(f'{row.name}.stdout').write_bytes(b''.join(row.output))
         words = ['rt', 'try', '--steps', '1', '--seconds', '600', '--cases', folder]
-        process = answers.start(words, cwd=answers.CRATE, stdin=subprocess.DEVNULL, stdout=subprocess.DEVNULL, stderr=subprocess.PIPE)
+        process = answers.start(words, cwd=TOP / 'crates/ceal', stdin=subprocess.DEVNULL, stdout=subprocess.DEVNULL, stderr=subprocess.PIPE)
         said = process.communicate()[1].decode(errors='replace')
     told = dict(re.findall(r'^case=(\S+) (.*)$', said, re.M))
     if not told:

@@ -1,6 +1,7 @@
 """The parts of an input, the lines of a script beside their replies, and the place of a fault."""
 import re
 
+BYTE_ORDER_MARK = b'\xef\xbb\xbf'
 WIDEST = 100  # (columns of a line that is shown of a file)
 MARK = re.compile(rb'^%%\r?(?:\n|\Z)', re.M)
 FAULT = re.compile(rb'fault (\w+) at (\d+):(\d+): (.*)\n')
@@ -110,12 +111,12 @@ def excerpt(given, output):
     found = FAULT.fullmatch(output)
     if not found:
         return []
-    number, column, text = int(found[2]), int(found[3]), given.text()
+    number, column, text = int(found[2]), int(found[3]), given.of_files()
     lines = text.split(b'\n')
     line = lines[number - 1] if number <= len(lines) else b''
     name, own = given.place(number)
     place = [f'{name}:{own}:{column}: {found[4].decode()}']
-    return place + shown(line, column) + [f'  {it}' for it in hints(found[1].decode(), number, column, text)]
+    return place + shown(line, column) + [f'  {it}' for it in hints(found[1].decode(), number, column, text, given.added == 0)]
 
 
 def shown(line, column):
@@ -131,17 +132,19 @@ def shown(line, column):
     return [f'  {head}{text[first:last]}{tail}', f'  {before}^']
 
 
-def hints(code, line, column, text):
+def hints(code, line, column, text, needs_mark=True):
     """What is told of a fault besides: what may be missing, what was expected, and how to say what was probably meant."""
     from tools import hints
 
     source, mark, _ = parts(text)
     told, before = [], text.split(b'\n')[line - 1 : line]
     what = no_source(source)
-    if what:
+    if text.startswith(BYTE_ORDER_MARK):
+        told.append('the file begins with a byte order mark, which no source text has: save it as UTF-8 without one')
+    elif what:
         told.append(f'this begins as {what}; a source text comes first, and then a line %%')
-    elif not mark and before and before[0].strip() == b'%%':
+    elif before and before[0].strip() == b'%%' != before[0].rstrip(b'\r'):
         told.append('the line that ends a source text is %% with no blanks around it')
-    elif not mark and code == 'S5':
+    elif not mark and code == 'S5' and needs_mark:
         told.append('there is no line %% in it: one has to follow the source text, also where no script does')
     return told or hints.hints(code, line, column, source)

@@ -1,9 +1,9 @@
-"""Tries what `./run` does: `python3 -m tools.self_tests proved|unproved`. Without the proved program only what needs few answers is tried."""
+"""Tries what `./run` does: `python3 -m tools.self_tests proved|draft|tried`. Where `rt try` answers, only what needs few answers is tried."""
 import os, pathlib, re, signal, subprocess, sys, tempfile, time
 from concurrent.futures import ThreadPoolExecutor
 
-from tools import build_tests, calls, hint_tests, processes, rows, scripts
-from tools.answers import TOP
+from tools import build_tests, calls, editor_tests, hint_tests, processes, rows, scripts
+from tools.programs import TOP
 from tools.calls import RUN, SOON, call, tell
 from tools.inputs import LONGEST_INPUT
 from tools.telling import unresumable
@@ -18,6 +18,7 @@ def refused_at_once(folder):
         ('no words', [], 64, 'usage: ./run'),
         ('an unknown mode', ['chek', example], 64, 'there is no mode chek'),
         ('an unknown option', ['--dto', example], 64, 'there is no option --dto (did you mean --dot?)'),
+        ('an option like no other', ['--json', example], 64, 'there is no option --json; ./run --help tells them'),
         ('an unknown option after the file', [example, '--fule', '5'], 64, 'there is no option --fule (did you mean --fuel?)'),
         ('a mode without a file', ['check'], 64, 'a file is missing'),
         ('a mode that is the name of a file', ['run'], 64, './run ./run runs the file run'),
@@ -25,6 +26,7 @@ def refused_at_once(folder):
         ('a fuel after the file', [example, '--fuel', '0'], 64, '--fuel goes with'),
         ('a fuel that is there twice', ['--fuel', '5', example, '--fuel=6'], 64, '--fuel is there twice'),
         ('two options that draw', ['--dot', '--trace', example], 64, '--dot and --trace do not go together'),
+        ('two options that explain', ['--time', example, '--work'], 64, '--time and --work do not go together'),
         ('two options of which one measures', ['--time', example, '--strict'], 64, '--time and --strict do not go together'),
         ('--strict with check', ['check', '--strict', example], 64, 'ends with 1 by itself'),
         ('an option that is a file', ['--', '--strict'], 66, 'no readable file --strict'),
@@ -88,8 +90,8 @@ def interrupted(sign, words, given, wanted, run=RUN, **how):
     tell(f'{signal.Signals(sign).name} to ./run {" ".join(words)}', faults)
 
 
-def signals(is_proved):
-    if is_proved:
+def signals(is_kept):
+    if is_kept:
         for sign in (signal.SIGINT, signal.SIGTERM, signal.SIGHUP):
             source, feed = os.pipe()
             interrupted(sign, ['-'], source, lambda _, process: catches(process.pid, signal.SIGTERM))
@@ -114,6 +116,8 @@ def files(folder):
     for name, text in (
         ('place.ceal', 'ceal f(mod int *m) {\n\twrite(m\t1);\n}\n%%\n'),
         ('no_mark.ceal', 'ceal f(mod int *m) { }\n'),
+        ('no_end.ceal', 'ceal f(mod int *m) {'),
+        ('byte_order.ceal', '\ufeffceal f(mod int *m) { }\n%%\n'),
         ('blank_mark.ceal', 'ceal f(mod int *m) { }\n%% \nmod a int 1\n'),
         ('source.ceal', 'ceal inc(mod int *a, mod int *b) {\n  int x = read(a);\n  write(b, x + 1);\n}\n'),
         ('script', 'mod a int 1\nmod b int 0\nrun inc a b\nget b\n'),
@@ -146,6 +150,11 @@ def faults(made):
     call('the place of a fault', [made['place.ceal']], 1, b'fault S3 at 2:10: unexpected token\n', place)
     call('the place of a fault of check', ['check', made['place.ceal']], 1, b'fault S3 at 2:10: unexpected token\n', place)
     call('a missing mark', [made['no_mark.ceal']], 1, b'fault S5 at 2:1: unexpected end\n', 'there is no line %%')
+    for mode, reply in (('check', b'accepted\n'), ('list', b'fn f u0\nu0()\n  done\n')):
+        call(f'{mode} of a source text by itself', [mode, made['no_mark.ceal']], 0, reply, '')
+    told = f'run: {made["no_end.ceal"]}:2:1: unexpected end\nrun:   expected a statement or `}}`\nrun:   a `}}` is missing'
+    call('check of a source text by itself that is not ended', ['check', made['no_end.ceal']], 1, b'fault S5 at 2:1: unexpected end\n', told)
+    call('a byte order mark', [made['byte_order.ceal']], 1, b'fault S1 at 1:1: bad character\n', 'begins with a byte order mark')
     call('a mark with blanks', [made['blank_mark.ceal']], 1, b'fault S3 at 2:1: unexpected token\n', 'no blanks around it')
 
 
@@ -211,6 +220,27 @@ def options(made):
     took = r'(under )?[\d.,]+ (s|ms|µs)'
     is_right = re.fullmatch(rf' +10  run inc a b +{took}   work 2\n +15  propagate +{took}   work 1; from scratch {took}, .*\n', timed)
     tell('the lines of --time', [] if is_right else [f'wrote {timed!r}'])
+
+
+def worked(made):
+    """The tables of --work: their rows have all steps of each update, and the first one is what the tutorial says of it."""
+    heading = '     steps  stale reads  reused  where\n'
+    table = f'{heading}        10            1       1  map, line 11: struct cell *c = read(from);\n{"":33}list was c1, and is c0\n'
+    told = call('--work', ['--work', 'examples/map.ceal'], 0).decode()
+    tell('the first table of --work', [] if f':34: propagate: work 10 of 23 steps\n{table}' in told else [f'wrote {told!r}'])
+    for example in EXAMPLES:
+        text = example.read_text()
+        if re.search(r'^(@|save)|^// \./run (many|resume|save|dump)', text, re.M):
+            continue
+        told = call(f'--work of {example.name}', ['--work', f'examples/{example.name}'], 0).decode()
+        updates = re.split(r'(?m)^(?=\S)', told)
+        sums = [(re.search(r': work ([\d,]+) of', it), re.findall(r'^ *([\d,]+) +[\d,]+ +[\d,]+  \w', it, re.M)) for it in updates if heading in it]
+        plain = lambda number: int(number.replace(',', ''))
+        tell(f'the sums of --work of {example.name}', [f'{work[1]} is not {rows}' for work, rows in sums if plain(work[1]) != sum(map(plain, rows))])
+    call('--work of a fault', ['--work', made['place.ceal']], 1, b'fault S3 at 2:10: unexpected token\n', 'write(m')
+    ran = f'{made["unrun.ceal"]}:7: run f m: work 2 of 2 steps, all of them\n'.encode()
+    pathlib.Path(made['unrun.ceal']).with_name('ran.ceal').write_text(pathlib.Path(made['unrun.ceal']).read_text().replace('int 1', 'int 0') + 'run f m\n')
+    call('--work of a run', ['--work', made['unrun.ceal'].replace('unrun', 'ran')], 0, ran.replace(b'unrun', b'ran'), '')
 
 
 def dumps(folder):
@@ -280,6 +310,13 @@ def streams():
         call('a full standard output, for --beside', ['--beside', 'examples/inc.ceal'], 71, stdout=full)
 
 
+    for words in (['examples/map.ceal'], ['--beside', 'examples/map.ceal'], ['examples/map.ceal', 'examples/inc.ceal']):
+        source, feed = os.pipe()
+        os.close(source)
+        call(f'a pipe that nobody reads, for {" ".join(words)}', words, 141, None, '', stdout=feed)
+        os.close(feed)
+
+
 def examples():
     """Every byte that the program answers to an example is handed on as it is."""
     for example in EXAMPLES:
@@ -295,20 +332,23 @@ def some_rows():
             words = [it.decode(errors='replace') for it in row.words]
             kind = words[0] if words else '', row.status
             seen[kind] = seen.get(kind, 0) + 1
+            if kind[0] in ('check', 'list') and not scripts.parts(row.given())[1]:
+                continue  # (./run puts the line %% after a source text by itself)
             if kind[0] in ('run', 'check', 'list', 'dump', 'verify', 'many', 'save', 'resume') and row.status in (0, 1) and seen[kind] <= 5 and '' not in words:
                 pathlib.Path(file.name).write_bytes(row.given())
                 call(f'row {row.name}', [*words, file.name], row.status, b''.join(row.output))
 
 
-def groups(made, folder, is_proved):
+def groups(made, folder, is_kept):
     """The tests, in groups that run side by side."""
     yield refused_at_once, folder
-    yield signals, is_proved
+    yield signals, is_kept
     yield several, made
     yield stubborn, folder
     yield build_tests.all, folder
     yield hint_tests.tables,
-    if not is_proved:
+    yield editor_tests.all,
+    if not is_kept:
         yield call, '--time without a program', ['--time', 'examples/inc.ceal'], 70, b'', 'tell something'
         return
     for group in (faults, two_files, options, hint_tests.hints_of_calls):
@@ -316,18 +356,19 @@ def groups(made, folder, is_proved):
     yield strict, made, folder
     yield dumps, folder
     yield saves, folder, made
+    yield worked, made
     for group in (pages, long_lists, streams, examples, some_rows):
         yield group,
 
 
-def main(is_proved):
+def main(is_kept):
     with tempfile.TemporaryDirectory(prefix='ceal-') as folder, ThreadPoolExecutor(len(os.sched_getaffinity(0))) as pool:
         made = files(folder)
-        for it in [pool.submit(*group) for group in groups(made, folder, is_proved)]:
+        for it in [pool.submit(*group) for group in groups(made, folder, is_kept)]:
             it.result()
     print(f'{calls.passed} passed, {calls.failed} failed')
     return int(calls.failed > 0)
 
 
 if __name__ == '__main__':
-    sys.exit(main(sys.argv[1:] == ['proved']))
+    sys.exit(main(sys.argv[1:] != ['tried']))

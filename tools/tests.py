@@ -1,13 +1,13 @@
 """Runs every test that needs no proof, in parts that run side by side: `./run --test`.
 
 A part is the rows, the tests of a crate, the pages, the streams of the program, the server, its client in Python with the jobs of
-examples/, or `./run` itself. Where the proved program is there it answers the rows and `./run`; else they are tried by `rt try`, which
-compiles each part again.
+examples/, the library for C, or `./run` itself. Where the proved programs are there they answer; else their drafts do, which are made first.
+Where no draft can be made, `rt try` answers the rows and `./run`, and compiles each part again. The library is tried where it is proved.
 """
 import os, re, subprocess, sys, tempfile, time
 
-from tools import answers, job_tests, rows
-from tools.answers import PROGRAM, TOP
+from tools import answers, libceal, rows
+from tools.programs import PROVED, TOP, why_unproved
 
 ROWS = TOP / 'crates/ceal_rows/data/rows.txt'
 PASSED = re.compile(r'(\d+) passed[,;] (\d+) failed')
@@ -41,22 +41,41 @@ def python(*words):
     return [sys.executable, '-B', *words]
 
 
-def parts(is_proved):
-    """The parts, those that take longest first."""
-    own = python('-m', 'tools.self_tests', 'proved' if is_proved else 'unproved')
+def parts(how, program, server):
+    """The parts, those that take longest first; `how` the program was made is one of proved, draft and tried."""
+    own = Part('./run', python('-m', 'tools.self_tests', how))
     pages = Part('pages, examples and rows are the same', python('.ci/documents'))
-    if is_proved:
-        told = ['the tests of three crates: `rt ci` and `rt test` prove and pass them']
-        served = [Part('client and jobs', python('-m', 'tools.job_tests')), Part('the server', python('.ci/serving'))]
-        if not os.access(job_tests.SERVER, os.X_OK):
-            served = []
-            told.append('the server, its client in Python and the jobs of examples/: they need a built ceal_serve')
-        return [Part('rows', python('-m', 'tools.rows', str(PROGRAM))), Part('./run', own), *served, Part('streams', python('.ci/program')), pages], told
     tests = Part('tests of three crates', python('-m', 'tools.joined_tests'))
-    return [tests, Part('./run', own), Part('rows', python('-m', 'tools.rows', 'try')), pages], [
-        'the streams of the program, the server, its client in Python and the jobs of examples/: they need programs that are built',
-        f'{len(rows.LARGE)} large rows: `python3 -B -m tools.rows try NAME` tries one, which takes up to a few minutes',
-    ]
+    if program is None:
+        return [tests, own, Part('rows', python('-m', 'tools.rows', 'try')), pages], [
+            'the streams of the program, the server, its client in Python and the jobs of examples/: they need programs that are kept',
+            f'{len(rows.LARGE)} large rows: `python3 -B -m tools.rows try NAME` tries one, which takes up to a few minutes',
+        ]
+    made = [own, Part('rows', python('-m', 'tools.rows', str(program))), Part('streams', python('.ci/program', str(program))), pages]
+    told = []
+    if server is None:
+        told.append('the server, its client in Python and the jobs of examples/: they need a ceal_serve')
+    else:
+        made[1:1] = [Part('client and jobs', python('-m', 'tools.job_tests', str(server))), Part('the server', python('.ci/serving', str(server)))]
+    why = libceal.why_not()
+    if why:
+        told.append(f'the library for C: {why}')
+    else:
+        made.insert(1, Part('the library for C', python('-m', 'tools.libceal', 'test')))
+    if how == 'proved':
+        told.append('the tests of three crates: `rt ci` and `rt test` prove and pass them')
+    else:
+        made.insert(0, tests)
+    return made, told
+
+
+def chosen(name):
+    """The program of a name that is tested; None where there is none."""
+    try:
+        return answers.chosen(name)
+    except answers.Fault as fault:
+        print(f'{name}: {fault.text}', flush=True)
+        return None
 
 
 def wait_for(running):
@@ -74,11 +93,14 @@ def wait_for(running):
 
 def main():
     begun = time.monotonic()
-    why = answers.why_unproved()
+    why = why_unproved()
     if why:
         answers.need_toolchain()
+    program, server = chosen('ceal'), chosen('ceal_serve')
+    how = 'proved' if program == PROVED['ceal'].path else 'draft' if program else 'tried'
+    if how == 'tried':
         print(f'{why}: all is compiled with no proof, in some six minutes of processor time', flush=True)
-    waiting, skipped = parts(not why)
+    waiting, skipped = parts(how, program, server)
     running, passed, failed = [], 0, 0
     while waiting or running:
         while waiting and len(running) < len(os.sched_getaffinity(0)):

@@ -50,7 +50,7 @@ def shown(seconds):
 def spent(words, given):
     """The processor time of one run of the program."""
     with given.stream() as stream, open(os.devnull, 'wb') as nowhere:
-        process = subprocess.Popen([answers.PROGRAM, *words], stdin=stream, stdout=nowhere)
+        process = subprocess.Popen([answers.chosen(), *words], stdin=stream, stdout=nowhere)
         answers.running.append(process)
         status, used = os.wait4(process.pid, 0)[1:]
         process.returncode = os.waitstatus_to_exitcode(status) if hasattr(os, 'waitstatus_to_exitcode') else status
@@ -188,7 +188,7 @@ def works(words, head, lines, timed):
     """The answer to a script that asks for the work after each of the timed lines, and the two replies of each."""
     script = [it for at, line in enumerate(lines) for it in ([line, b'work'] if at in timed else [line])]
     script = b'\n'.join([*script, b''])
-    answer = answers.by_program(words, Input('', head + script), True)
+    answer = answers.by_program(answers.chosen(), words, Input('', head + script), True)
     replies = iter([taken for line, taken in scripts.replies(script, answer.output)] if answer.status == 0 else [])
     told = [(next(replies), next(replies) if at in timed else []) for at in range(len(lines))] if answer.status == 0 else []
     return answer, told
@@ -216,9 +216,8 @@ def copied(session):
 
 
 def main(words, given):
-    why = answers.why_unproved()
-    if why:
-        raise Fault(70, f'{why}, and only its times tell something: ./run --build proves and builds it')
+    if answers.chosen() is None:
+        raise Fault(70, 'only the times of a program that is kept tell something: ./run --build proves and builds it')
     sys.stdout.reconfigure(errors='replace')  # (not every terminal has a µ)
     source, mark, script = scripts.parts(given.text())
     lines, head = scripts.lines_of(script), source + mark

@@ -56,6 +56,7 @@ class Update:
     def __init__(self, old, new):
         self.old, self.new, self.names, self.work, self.pairs = old, new, {}, 0, []
         self.cursor, self.limit, self.label = 0, None, 'kept'  # (no limit: the old items are kept one by one)
+        self.stale, self.reused = [], []  # (reads, by their old and new places, and the new places of the parts that are reused)
         self.places = collections.defaultdict(list)
         for at, item in enumerate(old.items):
             if item[0] in 'ar':
@@ -122,10 +123,12 @@ class Update:
                 self.new.labels[at] = 'anew'
                 return 'new', None
             self.revoke(found)
+            self.reused.append(at)
             self.label = 'taken'
         end = self.old.ends[self.cursor]
         is_stale = self.named(self.new.items[at][2]) != self.old.items[self.cursor][2]
         self.old.labels[self.cursor] = self.new.labels[at] = 'stale' if is_stale else self.label
+        self.stale += [(self.cursor, at)] if is_stale else []
         self.cursor += 1
         self.limit = end if is_stale else None
         return 'stale' if is_stale else 'kept', end

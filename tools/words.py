@@ -11,8 +11,9 @@ USAGE = """usage: ./run FILE ..                   runs programs with their scrip
        ./run resume FILE SAVE SCRIPT   the same, where source text and save are two files
        ./run gen KIND SEED SIZE        runs a generated workload: list or tree
        ./run --test                    runs the tests that need no proof
-       ./run --build                   proves and builds the program
-       ./run --install FOLDER          puts the proved program into a folder
+       ./run --draft                   compiles the program and the server once, with no proof, and keeps them
+       ./run --build                   proves and builds the program and the server
+       ./run --install FOLDER          puts the proved program and the server into a folder
        ./run --version                 says which version this is
 FILE may be - for standard input. Options come before, between or after the other words; what comes after a word -- is no option:
        --fuel N    a run takes at most N steps: with run, dump, many, save
@@ -22,7 +23,8 @@ FILE may be - for standard input. Options come before, between or after the othe
        --dot       the last graph of the replies in the language of Graphviz: with run
        --trace     a picture of the trace, and of what the last update did to it: with run
        --time      how long each run and each update takes: with run
-Of --beside, --dot, --trace and --time a call takes one; --strict goes with --beside and with --dot."""
+       --work      which lines of the source text each update re-executed, and which reads were stale: with run
+Of --beside, --dot, --trace, --time and --work a call takes one; --strict goes with --beside and with --dot."""
 MODES = ('run', 'check', 'list', 'dump', 'verify', 'many', 'save', 'resume')
 WITH_FUEL = ('run', 'dump', 'many', 'save')
 # What each option takes: the modes that it goes with.
@@ -32,10 +34,11 @@ OPTIONS = {
     '--dot': ('run',),
     '--trace': ('run',),
     '--time': ('run',),
+    '--work': ('run',),
 }
 TOGETHER = ({'--strict', '--beside'}, {'--strict', '--dot'})
 # How many words there are with an option that takes no program.
-ALONE = {'--help': 1, '-h': 1, '--version': 1, '-V': 1, '--build': 1, '--test': 1, '--install': 2, '--built': 2}
+ALONE = {'--help': 1, '-h': 1, '--version': 1, '-V': 1, '--build': 1, '--draft': 1, '--test': 1, '--install': 2, '--built': 2}
 SPELT_OUT = {'help': '--help', 'version': '--version', '-h': '--help', '-V': '--version'}
 LARGEST_FUEL, LARGEST_SEED, LARGEST_SIZE = 4_194_304, 2_147_483_647, 40_000
 
@@ -113,8 +116,10 @@ def unknown(what, word, known):
     """Says that a word is none of those that are known, and which of them is like it."""
     import difflib
 
-    like = difflib.get_close_matches(word, known, 1)
-    return f'there is no {what} {word}' + (f' (did you mean {like[0]}?)' if like else f'; ./run --help tells them' if what == 'option' else '')
+    plain = {it.lstrip('-'): it for it in known}
+    like = difflib.get_close_matches(word.lstrip('-'), plain, 1)
+    more = f' (did you mean {plain[like[0]]}?)' if like else '; ./run --help tells them' if what == 'option' else ''
+    return f'there is no {what} {word}{more}'
 
 
 def aside(word):

@@ -86,6 +86,7 @@ impl Model for Known {
 }
 
 impl Known {
+    /// The known blocks of this list.
     pub fn new(blocks: Vec<KnownBlock>) -> Known
         ensures value { result ≡ blocks.items }
     {
@@ -101,6 +102,7 @@ impl Known {
         Ok(())
     }
 
+    /// The blocks, in their order.
     pub fn items(&self) -> &[KnownBlock]
         ensures value { result.now ≡ self.now }
     {

@@ -108,6 +108,7 @@ fn levels_there(levels: usize, more: usize, less: usize) -> Result<usize, NoMemo
 }
 
 impl<'a> Old<'a> {
+    /// The old items, and the tables that find a key and an end among them.
     pub fn new(alloc: Global, items: &'a [Item]) -> Result<Old<'a>, NoMemory>
         ensures value { IfOk result (λ o. o ≡ items.now) }
     {

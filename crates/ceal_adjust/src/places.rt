@@ -18,6 +18,7 @@ pub struct Places {
 }
 
 impl Places {
+    /// A table with no place in it.
     #[tactic(auto, unfolding(crate::specs::Places::listed))]
     pub fn new(alloc: Global) -> Places
         ensures nothing { (m : AnyMark) → listed result m ≡ [] }

@@ -22,12 +22,14 @@ impl<T> Model for Boxed<T> {
 }
 
 impl<T> Boxed<T> {
+    /// The value.
     pub fn get(&self) -> &T
         ensures value { result.now ≡ self.now }
     {
         &self.inner
     }
 
+    /// The value itself, out of its box.
     pub fn into_inner(self) -> T
         ensures value { result ≡ self }
     {
@@ -37,6 +39,7 @@ impl<T> Boxed<T> {
 }
 
 impl<T: Drop> Boxed<T> {
+    /// Puts a value into a box.
     pub fn new(alloc: Global, value: T) -> Result<Boxed<T>, NoMemory>
         ensures value { IfOk result (λ b. b ≡ value) }
     {

@@ -29,6 +29,7 @@ impl Key {
         self == other
     }
 
+    /// A key with the same arguments.
     pub fn copy(&self) -> Result<Key, NoMemory>
         ensures equal { IfOk result (λ k. k ≡ self.now) }
     {
@@ -72,6 +73,7 @@ pub enum Item {
 }
 
 impl Item {
+    /// An equal item.
     pub fn copy(&self) -> Result<Item, NoMemory>
         ensures equal { IfOk result (λ i. i ≡ self.now) }
     {
@@ -122,12 +124,14 @@ impl Model for Forest {
 }
 
 impl Forest {
+    /// The forest of these items, in their order.
     pub fn new(items: Vec<Item>) -> Forest
         ensures value { result ≡ items.items }
     {
         Forest { items }
     }
 
+    /// Puts an item at the end; without memory the forest stays as it is.
     pub fn push(&mut self, item: Item) -> Result<(), NoMemory>
         ensures ok { OnOk result (self.new ≡ self.old ++ item ∷ []) }
         ensures err { OnErr result (self.new ≡ self.old) }
@@ -136,12 +140,14 @@ impl Forest {
         Ok(())
     }
 
+    /// The items, in the order of the run.
     pub fn items(&self) -> &[Item]
         ensures value { result.now ≡ self.now }
     {
         self.items.as_slice()
     }
 
+    /// An equal forest.
     pub fn copy(&self) -> Result<Forest, NoMemory>
         ensures equal { IfOk result (λ f. f ≡ self.now) }
     {

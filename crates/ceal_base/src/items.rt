@@ -25,12 +25,14 @@ impl<T> Model for Items<T> {
 }
 
 impl<T> Items<T> {
+    /// The list of these items.
     pub fn new(items: Vec<T>) -> Items<T>
         ensures value { result ≡ items.items }
     {
         Items { items }
     }
 
+    /// A list without items.
     pub fn empty(alloc: Global) -> Items<T>
         ensures value { result ≡ [] }
     {
@@ -39,6 +41,7 @@ impl<T> Items<T> {
         }
     }
 
+    /// The items, as the vector that they are kept in.
     pub fn into_vec(self) -> Vec<T>
         ensures value { result.items ≡ self }
     {
@@ -46,6 +49,7 @@ impl<T> Items<T> {
         items
     }
 
+    /// The items, in their order.
     pub fn items(&self) -> &[T]
         ensures value { result.now ≡ self.now }
     {
@@ -54,6 +58,7 @@ impl<T> Items<T> {
 }
 
 impl<T: Drop> Items<T> {
+    /// Puts an item at the end; without memory the list stays as it is.
     pub fn push(&mut self, item: T) -> Result<(), NoMemory>
         ensures ok { OnOk result (self.new ≡ self.old ++ item ∷ []) }
         ensures err { OnErr result (self.new ≡ self.old) }

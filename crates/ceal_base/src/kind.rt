@@ -80,12 +80,14 @@ impl Model for Kinds {
 }
 
 impl Kinds {
+    /// The list of these kinds.
     pub fn new(items: Vec<Kind>) -> Kinds
         ensures value { result ≡ items.items }
     {
         Kinds { items }
     }
 
+    /// Puts a kind at the end; without memory the list stays as it is.
     pub fn push(&mut self, item: Kind) -> Result<(), NoMemory>
         ensures ok { OnOk result (self.new ≡ self.old ++ item ∷ []) }
         ensures err { OnErr result (self.new ≡ self.old) }
@@ -94,12 +96,14 @@ impl Kinds {
         Ok(())
     }
 
+    /// The kinds, in their order.
     pub fn items(&self) -> &[Kind]
         ensures value { result.now ≡ self.now }
     {
         self.items.as_slice()
     }
 
+    /// An equal list.
     pub fn copy(&self) -> Result<Kinds, NoMemory>
         ensures equal { IfOk result (λ k. k ≡ self.now) }
     {

@@ -25,12 +25,14 @@ impl Model for BlockWords {
 }
 
 impl BlockWords {
+    /// A block of a shape, with a word for each field.
     pub fn new(shape: Shape, words: Vec<Word>) -> BlockWords
         ensures value { result ≡ record { shape = shape; words = words.items } }
     {
         BlockWords { shape, words }
     }
 
+    /// Puts a word at the end; without memory the block stays as it is.
     pub fn push(&mut self, item: Word) -> Result<(), NoMemory>
         ensures ok { OnOk result
             (self.new ≡ record self.old { words = self.old.words ++ item ∷ [] }) }
@@ -40,6 +42,7 @@ impl BlockWords {
         Ok(())
     }
 
+    /// The words, a field each.
     pub fn items(&self) -> &[Word]
         ensures value { result.now ≡ self.now.words }
     {
@@ -53,6 +56,7 @@ impl BlockWords {
         set_item(&mut self.words, field as usize, word);
     }
 
+    /// An equal block.
     pub fn copy(&self) -> Result<BlockWords, NoMemory>
         ensures equal { IfOk result (λ b. b ≡ self.now) }
     {
@@ -80,12 +84,14 @@ impl Model for Inputs {
 }
 
 impl Inputs {
+    /// These input blocks, in the order of their numbers.
     pub fn new(blocks: Vec<BlockWords>) -> Inputs
         ensures value { result ≡ blocks.items }
     {
         Inputs { blocks }
     }
 
+    /// Puts a block at the end; without memory nothing changes.
     pub fn push(&mut self, item: BlockWords) -> Result<(), NoMemory>
         ensures ok { OnOk result (self.new ≡ self.old ++ item ∷ []) }
         ensures err { OnErr result (self.new ≡ self.old) }
@@ -94,6 +100,7 @@ impl Inputs {
         Ok(())
     }
 
+    /// The blocks, in the order of their numbers.
     pub fn items(&self) -> &[BlockWords]
         ensures value { result.now ≡ self.now }
     {
@@ -107,6 +114,7 @@ impl Inputs {
         set_word(&mut self.blocks, at as usize, field, word);
     }
 
+    /// Equal inputs.
     pub fn copy(&self) -> Result<Inputs, NoMemory>
         ensures equal { IfOk result (λ i. i ≡ self.now) }
     {
@@ -132,12 +140,14 @@ impl Model for Memory {
 }
 
 impl Memory {
+    /// The memory of these inputs and of the core blocks made so far.
     pub fn new(inputs: Inputs, made: Vec<BlockWords>) -> Memory
         ensures value { result ≡ record { inputs = inputs; made = made.items } }
     {
         Memory { inputs, made }
     }
 
+    /// Puts a block at the end; without memory nothing changes.
     pub fn push(&mut self, item: BlockWords) -> Result<(), NoMemory>
         ensures ok { OnOk result
             (self.new ≡ record self.old { made = self.old.made ++ item ∷ [] }) }
@@ -147,6 +157,7 @@ impl Memory {
         Ok(())
     }
 
+    /// The blocks, in the order of their numbers.
     pub fn items(&self) -> &[BlockWords]
         ensures value { result.now ≡ self.now.made }
     {
@@ -163,6 +174,7 @@ impl Memory {
         }
     }
 
+    /// An equal memory.
     pub fn copy(&self) -> Result<Memory, NoMemory>
         ensures equal { IfOk result (λ m. m ≡ self.now) }
     {

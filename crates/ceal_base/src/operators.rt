@@ -55,6 +55,7 @@ fn truth_word(holds: bool) -> Word
     if holds { Word::Num(1) } else { Word::Num(0) }
 }
 
+/// The value of an operator with one operand.
 pub fn apply_unary(op: Unary, a: Word) -> Word
     ensures value { result ≡ unary_value op a }
 {
@@ -89,6 +90,7 @@ fn picked_word(row: u32, first: Word, index: Word) -> Word
     }
 }
 
+/// The value of an operator with two operands. Numbers wrap at 64 bits.
 pub fn apply_binary(op: Binary, a: Word, b: Word) -> Word
     ensures value { result ≡ binary_value op a b }
 {

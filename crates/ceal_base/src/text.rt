@@ -30,12 +30,14 @@ impl Model for Text {
 }
 
 impl Text {
+    /// The text of these bytes.
     pub fn new(bytes: Vec<u8>) -> Text
         ensures value { result ≡ bytes.items }
     {
         Text { bytes }
     }
 
+    /// A text of no bytes.
     pub fn empty(alloc: Global) -> Text
         ensures value { result ≡ [] }
     {
@@ -44,6 +46,7 @@ impl Text {
         }
     }
 
+    /// A text with a copy of these bytes.
     pub fn from_slice(alloc: Global, bytes: &[u8]) -> Result<Text, NoMemory>
         ensures equal { IfOk result (λ t. t ≡ bytes.now) }
     {
@@ -51,6 +54,7 @@ impl Text {
         Ok(Text { bytes })
     }
 
+    /// Puts a byte at the end; without memory the text stays as it is.
     pub fn push(&mut self, item: u8) -> Result<(), NoMemory>
         ensures ok { OnOk result (self.new ≡ self.old ++ item ∷ []) }
         ensures err { OnErr result (self.new ≡ self.old) }
@@ -59,12 +63,14 @@ impl Text {
         Ok(())
     }
 
+    /// The bytes.
     pub fn items(&self) -> &[u8]
         ensures value { result.now ≡ self.now }
     {
         self.bytes.as_slice()
     }
 
+    /// An equal text.
     pub fn copy(&self) -> Result<Text, NoMemory>
         ensures equal { IfOk result (λ t. t ≡ self.now) }
     {

@@ -35,12 +35,14 @@ impl Model for Words {
 }
 
 impl Words {
+    /// The list of these words. Up to six of them are kept in place.
     pub fn new(items: SmallVec<Word, 6>) -> Words
         ensures value { result ≡ items.items }
     {
         Words { items }
     }
 
+    /// A list of no words.
     pub fn empty(alloc: Global) -> Words
         ensures value { result ≡ [] }
     {
@@ -49,6 +51,7 @@ impl Words {
         }
     }
 
+    /// A list with a copy of these words.
     pub fn from_slice(alloc: Global, items: &[Word]) -> Result<Words, NoMemory>
         ensures equal { IfOk result (λ w. w ≡ items.now) }
     {
@@ -105,6 +108,7 @@ impl Words {
         }
     }
 
+    /// Puts a word at the end; without memory the list stays as it is.
     pub fn push(&mut self, item: Word) -> Result<(), NoMemory>
         ensures ok { OnOk result (self.new ≡ self.old ++ item ∷ []) }
         ensures err { OnErr result (self.new ≡ self.old) }
@@ -113,12 +117,14 @@ impl Words {
         Ok(())
     }
 
+    /// The words, in their order.
     pub fn items(&self) -> &[Word]
         ensures value { result.now ≡ self.now }
     {
         self.items.as_slice()
     }
 
+    /// An equal list.
     pub fn copy(&self) -> Result<Words, NoMemory>
         ensures equal { IfOk result (λ w. w ≡ self.now) }
     {

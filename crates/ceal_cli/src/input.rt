@@ -14,6 +14,7 @@ pub struct Input<'a> {
 }
 
 impl<'a> Input<'a> {
+    /// All of an input, of which nothing was taken yet.
     pub fn new(bytes: &'a [u8]) -> Input<'a>
         requires small { length bytes.now < 2 ^ 32 }
         ensures bytes { result.bytes.now ≡ bytes.now }

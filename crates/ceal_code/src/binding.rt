@@ -8,22 +8,23 @@ ghost use Rattle.ceal_code.specs.Step.{bound, chosen, woven};
 ghost use Rattle.ceal_code.specs.Value.{set, values};
 ghost use Rattle.ceal_code.specs.Weaving.{one_other, others};
 
-use crate::evaluate::Scope;
+use crate::evaluate::{Scope, have_room};
 use crate::expr::{CodeExpr, VarId};
 use crate::plain_words::PlainWords;
 use ceal_base::no_memory::NoMemory;
 use ceal_base::word::Word;
 use std::alloc::Global;
 
-/// Adds nulls, up to the word of this variable. They are few, and put one by one.
+/// Adds nulls, up to the word of this variable, for which room is made at once.
 #[inline(never)]
 fn lengthen(env: &mut Vec<Word>, v: u32) -> Result<(), NoMemory>
     ensures there { OnOk result (v < length env.new.items) }
     ensures same { OnOk result (arguments env.new.items ≡ arguments env.old.items) }
 {
     let count = v as usize + 1;
+    have_room(env, count)?;
     while env.len() < count {
-        env.push(Word::Null)?;
+        env.push_reserved(Word::Null);
     }
     Ok(())
 }

@@ -82,6 +82,7 @@ impl Code {
         (structs, functions, units, kinds)
     }
 
+    /// Puts a core function at the end, whose number is the next one.
     pub fn push_functions(&mut self, item: FunctionCode) -> Result<(), NoMemory>
         ensures ok { OnOk result
             (self.new ≡ record self.old { functions = self.old.functions ++ item ∷ [] }) }
@@ -91,12 +92,14 @@ impl Code {
         Ok(())
     }
 
+    /// The functions, in the order of their numbers.
     pub fn functions(&self) -> &[FunctionCode]
         ensures value { result.now ≡ self.now.functions }
     {
         self.functions.as_slice()
     }
 
+    /// Puts a unit at the end, whose number is the next one.
     pub fn push_units(&mut self, item: Unit) -> Result<(), NoMemory>
         ensures ok { OnOk result
             (self.new ≡ record self.old { units = self.old.units ++ item ∷ [] }) }
@@ -106,12 +109,14 @@ impl Code {
         Ok(())
     }
 
+    /// The units, in the order of their numbers.
     pub fn units(&self) -> &[Unit]
         ensures value { result.now ≡ self.now.units }
     {
         self.units.as_slice()
     }
 
+    /// Puts the kinds of the next function's variables at the end.
     pub fn push_kinds(&mut self, item: Kinds) -> Result<(), NoMemory>
         ensures ok { OnOk result
             (self.new ≡ record self.old { kinds = self.old.kinds ++ item ∷ [] }) }

@@ -1,6 +1,7 @@
 // The values of the expressions of trace code.
 
-ghost use Rattle.std.specs.Prelude.{◌≡◌, is_some, true, Option, IfOk, IfSome, OnOk};
+ghost use Rattle.std.specs.Prelude.{◌≡◌, ◌≤◌, is_some, true, Option, IfOk, IfSome, OnOk};
+ghost use Rattle.std.specs.Prelude.{vec_len, vec_capacity};
 ghost use Rattle.ceal_base.specs.Access.{place_in};
 ghost use Rattle.ceal_base.specs.Operators.{number_of, truth, quotient, remainder, numbers_value, binary_value};
 ghost use Rattle.ceal_base.specs.declared.kind.Shape.TheVariants.{Struct};
@@ -342,9 +343,23 @@ impl<'a, P: PlainWords> Scope<'a, P> {
             (P.plain self.now.plain.now) (arguments self.now.env.now) es.now) }
     {
         words.clear();
+        have_room(words, es.len())?;
         for e in es {
-            words.push(self.value(e))?;
+            words.push_reserved(self.value(e));
         }
         Ok(())
     }
+}
+
+/// Sees that there is room for `count` words.
+#[inline(always)]
+pub(crate) fn have_room(words: &mut Vec<Word>, count: usize) -> Result<(), NoMemory>
+    ensures same { words.new.items ≡ words.old.items }
+    ensures len { vec_len words.new ≡ vec_len words.old }
+    ensures room { OnOk result (count ≤ vec_capacity words.new) }
+{
+    if words.capacity() < count {
+        words.reserve(count)?;
+    }
+    Ok(())
 }

@@ -51,6 +51,7 @@ fn is_stmt_ok(
     }
 }
 
+/// Whether each statement of an initialiser is valid.
 #[cycle(stmts)]
 #[tactic(auto, using(crate::proofs::Equations::StmtSteps::stmts_steps))]
 pub fn are_stmts_ok(

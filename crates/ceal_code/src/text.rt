@@ -17,6 +17,7 @@ use ceal_base::text::Text;
 use ceal_base::typed::StructInfo;
 use std::alloc::Global;
 
+/// Appends a variable as listings spell it.
 pub fn put_var(out: &mut Text, v: VarId) -> Result<(), NoMemory>
     ensures { IfOk result (λ _. out.new ≡ out.old ++ var_text v) }
 {
@@ -24,6 +25,7 @@ pub fn put_var(out: &mut Text, v: VarId) -> Result<(), NoMemory>
     out.append_number(v.0 as usize)
 }
 
+/// Appends a unit's number as listings spell it.
 pub fn put_unit(out: &mut Text, u: UnitId) -> Result<(), NoMemory>
     ensures { IfOk result (λ _. out.new ≡ out.old ++ unit_text u) }
 {

@@ -162,6 +162,7 @@ impl<'a> TraceMemory<'a> {
         }
     }
 
+    /// The code whose structs give the shapes.
     pub fn code(&self) -> &'a Code
         ensures value { result.now ≡ code_in self.now }
     {

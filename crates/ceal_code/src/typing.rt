@@ -25,6 +25,7 @@ pub enum ExprType {
     AnyPlace,
 }
 
+/// Whether two kinds are one.
 pub fn is_same_kind(a: Kind, b: Kind) -> bool
     ensures { result ≡ same_kind a b }
 {
@@ -65,6 +66,7 @@ pub fn is_fit(kind: Kind, t: Option<ExprType>) -> bool
     }
 }
 
+/// The same where the kind may be missing; then nothing fits.
 pub fn is_fit_maybe(kind: Option<Kind>, t: Option<ExprType>) -> bool
     ensures { result ≡ fits_maybe kind t }
 {

@@ -30,6 +30,7 @@ impl Model for Unit {
 }
 
 impl Unit {
+    /// A unit of a function, with its parameters and its commands.
     pub fn new(function: u32, params: Vec<VarId>, body: Vec<Cmd>) -> Unit
         ensures value { result
             ≡ record { function = function; params = params.items; body = body.items } }
@@ -41,6 +42,7 @@ impl Unit {
         }
     }
 
+    /// Puts a parameter at the end.
     pub fn push_params(&mut self, item: VarId) -> Result<(), NoMemory>
         ensures ok { OnOk result
             (self.new ≡ record self.old { params = self.old.params ++ item ∷ [] }) }
@@ -50,12 +52,14 @@ impl Unit {
         Ok(())
     }
 
+    /// The parameters, in the order in which arguments come.
     pub fn params(&self) -> &[VarId]
         ensures value { result.now ≡ self.now.params }
     {
         self.params.as_slice()
     }
 
+    /// Puts a command at the end.
     pub fn push_body(&mut self, item: Cmd) -> Result<(), NoMemory>
         ensures ok { OnOk result
             (self.new ≡ record self.old { body = self.old.body ++ item ∷ [] }) }
@@ -65,6 +69,7 @@ impl Unit {
         Ok(())
     }
 
+    /// The commands, of which the first is run first.
     pub fn body(&self) -> &[Cmd]
         ensures value { result.now ≡ self.now.body }
     {

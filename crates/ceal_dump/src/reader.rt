@@ -87,12 +87,14 @@ fn bytes_after(bytes: &[u8], count: usize) -> &[u8]
 }
 
 impl<'a> Reader<'a> {
+    /// A reader at the first of these bytes.
     pub fn new(bytes: &'a [u8]) -> Reader<'a>
         ensures value { result ≡ bytes.now }
     {
         Reader { rest: bytes }
     }
 
+    /// Whether all bytes were read.
     pub fn is_empty(&self) -> bool
         ensures value { result ≡ (length self.now == 0) }
     {

@@ -39,6 +39,7 @@ pub fn first() -> Place
     input(0)
 }
 
+/// The place that holds the list.
 pub fn list() -> Place
     ensures place { result ≡ record { block = Input 1; field = 0 } }
 {

@@ -28,6 +28,7 @@ pub fn side() -> Place
     input(0)
 }
 
+/// The place that holds the area.
 pub fn area() -> Place
     ensures place { result ≡ record { block = Input 1; field = 0 } }
 {

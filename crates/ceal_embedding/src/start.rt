@@ -1,6 +1,7 @@
 // How an example begins: its program runs once on two modifiables.
 
-ghost use Rattle.std.specs.Prelude.{◌≡◌, ◌<◌, ◌^◌, length, IfOk, OnOk};
+ghost use Rattle.std.specs.Prelude.{◌≡◌, ◌<◌, ◌^◌, ◌∷◌, [], length, IfOk, OnOk};
+ghost use Rattle.ceal_embedding.specs.Engines.{HasCodeOf, KeepsProgram, call_of, one_word};
 ghost use Rattle.ceal_engine.specs.Engine.{IsPresent};
 ghost use Rattle.ceal_engine.specs.declared.phase.Phase.TheVariants.{Finished};
 
@@ -26,6 +27,11 @@ pub fn start(alloc: Global, example: Example) -> Result<Engine, Trouble>
     requires small { length example.source.now < 2 ^ 32 }
     ensures present { IfOk result IsPresent }
     ensures finished { IfOk result (λ engine. engine.phase ≡ Finished) }
+    ensures program { IfOk result (HasCodeOf example.entry.source.now) }
+    ensures fuel { IfOk result (λ engine. engine.fuel ≡ 1000) }
+    ensures inputs { IfOk result (λ engine. engine.inputs
+        ≡ one_word example.entry.first ∷ one_word example.entry.second ∷ []) }
+    ensures called { IfOk result (λ engine. engine.call ≡ call_of example.entry.function) }
 {
     let program = compile(alloc, example.source)?;
     let mut engine = Engine::new(alloc, program.code, 1_000)?;
@@ -40,6 +46,11 @@ pub fn start(alloc: Global, example: Example) -> Result<Engine, Trouble>
 
 /// Makes the inputs, and runs the program on them.
 fn run_once(engine: &mut Engine, example: Example) -> Result<(), Trouble>
+    requires none { engine.old.inputs ≡ [] }
+    ensures kept { KeepsProgram engine.old engine.new }
+    ensures inputs { OnOk result (engine.new.inputs
+        ≡ one_word example.entry.first ∷ one_word example.entry.second ∷ []) }
+    ensures called { OnOk result (engine.new.call ≡ call_of example.entry.function) }
     ensures present { OnOk result (IsPresent engine.new) }
     ensures finished { OnOk result (engine.new.phase ≡ Finished) }
 {

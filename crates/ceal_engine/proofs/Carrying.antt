@@ -1,8 +1,7 @@
 -- A run with which a repair is in progress, and which slice of the definition's repair a slice of it is.
-use Rattle.std.proofs.Common.{◌≡◌, ℕ, ◌+◌, ◌<◌, Bool, true, false, Option, Some, None, List, refl, sym, ap, subst, ◌∙◌, inl, inr, ◌⊎◌, arith}
+use Rattle.std.proofs.Common.{◌≡◌, ℕ, ◌+◌, ◌<◌, ◌≤◌, Bool, true, false, Option, Some, None, List, refl, sym, ap, subst, ◌∙◌, inr, arith}
 use Rattle.std.specs.Option.{IsSomeAnd}
-use Rattle.std.specs.Prelude.{◌↔◌, IsSome, Ok, Err}
-use Rattle.std.proofs.lemmas.Bool.{false≢true}
+use Rattle.std.specs.Prelude.{◌↔◌, IsSome}
 use Rattle.ceal_base.proofs.TraceLemmas.{trace-flat}
 use Rattle.ceal_base.specs.Block.{Block}
 use Rattle.ceal_base.specs.Trace.{Trace, trace_of}
@@ -20,21 +19,13 @@ use Rattle.ceal_engine.proofs.RunMemory.{low-numbers}
 use Rattle.ceal_engine.specs.Engine.{EngineState, IsWhole, fresh_call, trace}
 use Rattle.ceal_engine.specs.Keeping.{IsPartKept, Keeps, heap_in, phase_at, phase_of, running_in, state_of}
 use Rattle.ceal_engine.specs.Runs.{finished, under_way, told, opened}
-use Rattle.ceal_engine.specs.Partial.{spent_in, carried_by, CarriesRepair, IsUnderWay, RenamedFrom, progress_of, SliceContinues, SliceEnds, IsAnew, IsOut, IsRepairSoFar, RepairOutcome}
-use Rattle.ceal_engine.specs.Partial.{ProgressOutcome, KeepsWords}
-use Rattle.ceal_engine.specs.declared.phase.Came.{Came}
-use Rattle.ceal_engine.specs.declared.phase.Came.TheVariants as came
-use Rattle.ceal_engine.specs.declared.phase.Progress.{Progress}
-use Rattle.ceal_engine.specs.declared.phase.Progress.TheVariants.{Done as Ended}
-use Rattle.ceal_engine.specs.Repaired.{IsRepaired}
+use Rattle.ceal_engine.specs.Partial.{spent_in, carried_by, CarriesRepair, IsUnderWay, RenamedFrom, SliceContinues, SliceEnds, IsOut, KeepsWords, unrepaired_of, LeavesFewer}
 use Rattle.ceal_engine.specs.declared.phase.Phase.{Phase}
 use Rattle.ceal_engine.specs.declared.phase.Phase.TheVariants.{Finished as IsFinished, Pending, Partial}
 use Rattle.ceal_engine.specs.declared.run.Run.{Run}
 use Rattle.ceal_engine.specs.declared.run.Run.TheVariants as its
 use Rattle.ceal_engine.specs.declared.run.Stage.{Stage}
 use Rattle.ceal_engine.specs.declared.run.Stage.TheVariants as stage
-use Rattle.ceal_engine.specs.declared.run_error.RunError.{RunError}
-use Rattle.ceal_engine.specs.declared.run_error.RunError.TheVariants.{Memory, OutOfFuel as RanOut}
 use Rattle.ceal_heap.specs.Heap.{Contents, next, plain_of}
 use Rattle.ceal_repair.proofs.Runs.FewNumbers.{kept-few}
 use Rattle.ceal_repair.specs.Answers.{IsKeptRun}
@@ -46,25 +37,27 @@ use Rattle.ceal_repair.specs.declared.advance.Progress.TheVariants.{More, Done, 
 use Rattle.ceal_theory.proofs.SlicedRepair.CarriedLaws.{alike, carried-begin-law, carried-same-law, carried-on-law, own-single}
 use Rattle.ceal_theory.proofs.Renaming.RenamedSlice.{slice-renamed}
 use Rattle.ceal_theory.proofs.SlicedRepair.SliceLaws.{begin-law, other-names-law, slice-law, slices-law, whole-law, is-done-law}
+use Rattle.ceal_theory.proofs.SlicedRepair.Progress.{progress-law}
 use Rattle.ceal_theory.specs.Adjust.{Above}
 use Rattle.ceal_theory.specs.Carried.{Carried, CarriedSlices, numbered_from_zero}
 use Rattle.ceal_theory.specs.Laws.{Edited}
+use Rattle.ceal_theory.specs.Progress.{unrepaired}
 use Rattle.ceal_theory.specs.Repair.{own}
 use Rattle.ceal_theory.specs.Slices.{Repair, beginning, sliced, is_done, RepairHolds, Slices, IsOldOrNewPair, RenamedSlices}
 
 -- ---- a new repair begins
 
 module _ (code : Code) (fuel : ℕ) (inputs : List Block) (call : Call) (l : Trace) (run : Running) (kept : IsKeptRun code inputs call.function call.args fuel l run) where
-  low : Above (next run.heap) l
+  abbrev low : Above (next run.heap) l
   low = low-numbers code inputs l run kept.stands
 
-  edited : Edited code inputs inputs call.function call.args l (next run.heap)
+  abbrev edited : Edited code inputs inputs call.function call.args l (next run.heap)
   edited = record { call = kept.fits; fit = kept.fits.blocks; extended = extended-refl code inputs; trace = kept.replays; above = low }
 
   few-readable : HasFew fuel run.heap
   few-readable = kept-few code inputs call.function call.args fuel l run kept
 
-  begun : IsPartRun code inputs call.function call.args fuel (beginning code inputs l 0) (told 0 run)
+  pub begun : IsPartRun code inputs call.function call.args fuel (beginning code inputs l 0) (told 0 run)
   begun = record {
     fits = kept.fits;
     stands = record {
@@ -86,7 +79,7 @@ module _ (code : Code) (fuel : ℕ) (inputs : List Block) (call : Call) (l : Tra
     numbers = kept.numbers;
   }
 
-  pub begun-kept : IsPartKept code fuel inputs call (told 0 run)
+  unfoldable pub begun-kept : IsPartKept code fuel inputs call (told 0 run)
   begun-kept = record {
     repair = beginning code inputs l 0;
     of = begun;
@@ -277,7 +270,8 @@ module _ (code : Code) (fuel : ℕ) (inputs : List Block) (call : Call) (g : Sta
           apart = λ b c t none. ap (λ (g : Contents). plain_of g (Core c)) (sym same.heap) ∙ (sym (k.of.stands.known c) ∙ w.apart b c t none);
         }
 
-    pub comes-more : (run' : Running) → IsSliced code inputs call.function call.args reads fuel k.repair run' More → SliceContinues e (under_way code fuel inputs (Some call) run') reads next' r
+    pub comes-more : (run' : Running) → IsSliced code inputs call.function call.args reads fuel k.repair run' More
+        → SliceContinues e (under_way code fuel inputs (Some call) run') reads next' r
     comes-more run' s = let z = found s.0 s.1 in record {
       repair = z.repair;
       is = z.is;
@@ -294,7 +288,8 @@ module _ (code : Code) (fuel : ℕ) (inputs : List Block) (call : Call) (g : Sta
       };
     }
 
-    pub comes-done : (run' : Running) → IsSliced code inputs call.function call.args reads fuel k.repair run' Done → SliceEnds e (finished code fuel inputs (Some call) run') reads next' r
+    pub comes-done : (run' : Running) → IsSliced code inputs call.function call.args reads fuel k.repair run' Done
+        → SliceEnds e (finished code fuel inputs (Some call) run') reads next' r
     comes-done run' s = let z = found s.0 s.1 in record {
       repair = z.repair;
       is = z.is;
@@ -321,46 +316,24 @@ module _ (code : Code) (fuel : ℕ) (inputs : List Block) (call : Call) (g : Sta
   more-some None run' s = absurd (s.2 (whole-done code inputs call.function call.args fuel k.repair run k.of None s.0 s.1 refl))
   more-some (Some n) run' s = refl
 
+  -- fewer reads are left from the first stale one on
+  pub fewer-left : (reads : Option ℕ) (run' : Running) → IsSliced code inputs call.function call.args reads fuel k.repair run' More
+      → LeavesFewer e (under_way code fuel inputs (Some call) run') reads
+  fewer-left None run' s = tt
+  fewer-left (Some n) run' s =
+      let was : trace e ≡ Some k.repair.items = sym (ap (λ t. trace_of (Rattle.ceal_trace.specs.Items.forest_of t.nodes)) same.trace) ∙ part-trace code fuel inputs call run k in
+      let now : trace (under_way code fuel inputs (Some call) run') ≡ Some s.0.items = ap trace_of s.3.stands.items ∙ trace-flat s.0.items in
+      let fewer = progress-law code s.1.names inputs call.function call.args k.of.fits (numbered_from_zero k.repair)
+      (anew-sound code inputs call.function call.args fuel k.repair run k.of (Some n) s.0 s.1)
+      n s.0 (by-rules code inputs call.function call.args fuel k.repair run k.of (Some n) s.0 s.1) s.2 in
+      subst (λ (o : Option Trace). unrepaired_of code inputs o + n ≤ unrepaired_of code inputs (trace e)) (sym now)
+      (subst (λ (o : Option Trace). unrepaired code inputs s.0.items + n ≤ unrepaired_of code inputs o) (sym was) fewer)
+
   -- and blocks can still be read
   pub words-stay : (reads : Option ℕ) (run' : Running) → IsSliced code inputs call.function call.args reads fuel k.repair run' More → KeepsWords (Some before.heap) (Some run'.heap)
   words-stay reads run' s b block w =
       sym (s.3.stands.known b)
       ∙ still-known code inputs call.function call.args fuel k.repair run k.of reads s.0 s.1 b block (k.of.stands.known b ∙ (ap (λ h. plain_of h (Core b)) same.heap ∙ w))
-
--- where all was run again there was no slice
-pub anew-comes : (e n : EngineState) (k : Option ℕ) (next' : ℕ) (r : Repair) → sliced e.code own e.inputs k e.fuel r ≡ None → (error : RunError) → RepairOutcome e n k next' r (Err error)
-anew-comes e n k next' r none Memory = tt
-anew-comes e n k next' r none RanOut = inl none
-
--- all reads, without a number
-abbrev all_reads : Option ℕ
-all_reads = None
-
--- where all was to be repaired, it has ended
-pub ended-so : (e n : EngineState) (next' : ℕ) (r : Repair) (far : Came) → RepairOutcome e n None next' r (Ok far) → (far ≡ came.More → IsSome all_reads)
-    → SliceEnds e n None next' r ⊎ IsAnew e n None r
-ended-so before after next' r came.More c more = absurd (false≢true (more refl))
-ended-so before after next' r came.Done c more = inl c
-ended-so before after next' r came.Anew c more = inr c
-
--- a whole run is repaired, and not run again
-pub whole-repair : (e n : EngineState) (l : Trace) (far : Came) → (far ≡ came.More → IsSome all_reads) → IsRepairSoFar e n l far → IsRepairSoFar e n l came.Done
-whole-repair before after l came.More more h = absurd (false≢true (more refl))
-whole-repair before after l came.Done more h = h
-whole-repair before after l came.Anew more h = absurd h
-
--- and so it is where a slice ends
-pub done-repair : (e n : EngineState) (l : Trace) (far : Came) (p : Progress) → p ≡ progress_of far → p ≡ Ended → IsRepairSoFar e n l far → IsSomeAnd (trace n) (IsRepaired n l)
-done-repair before after l came.More p is done h = absurd (let clash = sym is ∙ done in cc)
-done-repair before after l came.Done p is done h = h.0
-done-repair before after l came.Anew p is done h = absurd h
-
--- the same, where it is not told whether the call was run again
-pub comes-so : (e n : EngineState) (k : Option ℕ) (next' : ℕ) (r : Repair) (far : Came) → RepairOutcome e n k next' r (Ok far) → (p : Progress) → p ≡ progress_of far
-    → ProgressOutcome e n k next' r (Ok p)
-comes-so before after k next' r came.More c p is = subst (λ q. ProgressOutcome before after k next' r (Ok q)) (sym is) c
-comes-so before after k next' r came.Done c p is = subst (λ q. ProgressOutcome before after k next' r (Ok q)) (sym is) (inl c)
-comes-so before after k next' r came.Anew c p is = subst (λ q. ProgressOutcome before after k next' r (Ok q)) (sym is) (inr c)
 
 -- ---- in the words of the engine's functions
 
@@ -398,17 +371,23 @@ module _ (code : Code) (fuel : ℕ) (inputs : List Block) (before : Run) (call :
     keeps-done h = by-parts (λ c b. Keeps code fuel inputs (its.Kept run' stage.Finished) c)
         (λ c b g o k t. let d = subst (IsSliced code inputs c.function c.args reads fuel k.repair run') h t in kept-as code fuel inputs c k.of.fits d.0.items run' d.2)
 
-    pub goes-on : s ≡ More → (next' : ℕ) (r : Repair) → CarriesRepair (old call before) next' r → SliceContinues (old call before) (under_way code fuel inputs call run') reads next' r
+    pub goes-on : s ≡ More
+        → (next' : ℕ) (r : Repair) → CarriesRepair (old call before) next' r → SliceContinues (old call before) (under_way code fuel inputs call run') reads next' r
     goes-on h = by-parts (λ c b. (next' : ℕ) (r : Repair) → CarriesRepair (old c b) next' r → SliceContinues (old c b) (under_way code fuel inputs c run') reads next' r)
         (λ c b g o k t next' r m. comes-more code fuel inputs c g b run o k reads next' r m run' (subst (IsSliced code inputs c.function c.args reads fuel k.repair run') h t))
 
-    pub ends : s ≡ Done → (next' : ℕ) (r : Repair) → CarriesRepair (old call before) next' r → SliceEnds (old call before) (finished code fuel inputs call run') reads next' r
+    pub ends : s ≡ Done
+        → (next' : ℕ) (r : Repair) → CarriesRepair (old call before) next' r → SliceEnds (old call before) (finished code fuel inputs call run') reads next' r
     ends h = by-parts (λ c b. (next' : ℕ) (r : Repair) → CarriesRepair (old c b) next' r → SliceEnds (old c b) (finished code fuel inputs c run') reads next' r)
         (λ c b g o k t next' r m. comes-done code fuel inputs c g b run o k reads next' r m run' (subst (IsSliced code inputs c.function c.args reads fuel k.repair run') h t))
 
     pub some-reads : s ≡ More → IsSome reads
     some-reads h = by-parts (λ c b. IsSome reads)
         (λ c b g o k t. more-some code fuel inputs c g b run o k reads run' (subst (IsSliced code inputs c.function c.args reads fuel k.repair run') h t))
+
+    pub leaves-fewer : s ≡ More → LeavesFewer (old call before) (under_way code fuel inputs call run') reads
+    leaves-fewer h = by-parts (λ c b. LeavesFewer (old c b) (under_way code fuel inputs c run') reads)
+        (λ c b g o k t. fewer-left code fuel inputs c g b run o k reads run' (subst (IsSliced code inputs c.function c.args reads fuel k.repair run') h t))
 
     pub keeps-words : s ≡ More → KeepsWords (heap_in (running_in before)) (Some run'.heap)
     keeps-words h = by-parts (λ c b. KeepsWords (heap_in (running_in b)) (Some run'.heap))

@@ -1,11 +1,12 @@
 -- what crates above cite
 pub mod MarkedEnds
+pub mod Advanced
+pub mod Present
 -- what only this crate cites
 pub mod Inputs
 pub mod MoreMemory
 pub mod RunMemory
 pub mod LiveCount
-pub mod Present
 pub mod Repairs
 pub mod Keeping
 pub mod Propagated
@@ -17,5 +18,6 @@ pub mod NoneStale
 pub mod Restored
 pub mod EngineLaws
 pub mod TraceSoFar
-pub mod LooksOfCalls
+pub mod CostOfCalls
 pub mod Samples
+pub mod Settled

@@ -1,5 +1,5 @@
 -- A repair in progress where no read is stale, and what it leaves of the nodes at the beginning.
-use Rattle.std.proofs.Common.{◌≡◌, ◌≢◌, ◌⊎◌, inl, inr, ℕ, zero, suc, ◌≤◌, true, false, Ok, Err, Option, Some, None, List, refl, sym, ap, ◌∙◌, subst, arith}
+use Rattle.std.proofs.Common.{◌≡◌, ◌≢◌, ℕ, zero, suc, ◌≤◌, true, false, Err, Option, Some, None, List, refl, sym, ap, ◌∙◌, subst, arith}
 use Rattle.ceal_base.specs.Block.{Block}
 use Rattle.ceal_base.specs.Trace.{Trace, trace_of}
 use Rattle.ceal_base.specs.declared.call.Call.{Call}
@@ -13,12 +13,10 @@ use Rattle.ceal_engine.proofs.Repairs.{no-end}
 use Rattle.ceal_engine.specs.Calls.{Advances}
 use Rattle.ceal_engine.specs.Engine.{EngineState, IsWhole, stands_for, fresh_call}
 use Rattle.ceal_engine.specs.Keeping.{Keeps, forest_in, phase_of, running_in, state_of}
-use Rattle.ceal_engine.specs.Partial.{CarriesRepair, RepairOutcome, IsRunAgain}
+use Rattle.ceal_engine.specs.Partial.{CarriesRepair}
 use Rattle.ceal_engine.specs.Repaired.{KeepsFront}
 use Rattle.ceal_engine.specs.Runs.{opened}
-use Rattle.ceal_engine.specs.declared.phase.Came.{Came}
-use Rattle.ceal_engine.specs.declared.phase.Came.TheVariants as came
-use Rattle.ceal_engine.specs.declared.phase.Phase.TheVariants.{Partial, Dropped}
+use Rattle.ceal_engine.specs.declared.phase.Phase.TheVariants.{Dropped}
 use Rattle.ceal_engine.specs.declared.run.Run.{Run}
 use Rattle.ceal_engine.specs.declared.run.Run.TheVariants as its
 use Rattle.ceal_engine.specs.declared.run.Stage.{Stage}
@@ -43,13 +41,13 @@ module _ (code : Code) (inputs : List Block) (f : ℕ) (args : List Word) (fuel 
   few = omega (arith, part.few, part.stands.spent)
 
   module _ (names : ℕ → ℕ) (turned : Turned code names inputs 0 (numbered_from_zero q) (numbered_from_zero q)) where
-    abbrev same : Repair
-    same = repair_at (goes_on code inputs (numbered_from_zero q)) q.items
+    abbrev pub left : Repair
+    left = repair_at (goes_on code inputs (numbered_from_zero q)) q.items
 
-    there : (k : Option ℕ) → k ≢ Some 0 → sliced code names inputs k fuel (numbered_from_zero q) ≡ Some same
-    there None some = (slices-law code names inputs None fuel (numbered_from_zero q) same).1 (turned.whole honest, few)
+    pub there : (k : Option ℕ) → k ≢ Some 0 → sliced code names inputs k fuel (numbered_from_zero q) ≡ Some left
+    there None some = (slices-law code names inputs None fuel (numbered_from_zero q) left).1 (turned.whole honest, few)
     there (Some zero) some = absurd (some refl)
-    there (Some (suc n)) some = (slices-law code names inputs (Some (suc n)) fuel (numbered_from_zero q) same).1 (turned.ended honest (suc n) (omega arith), few)
+    there (Some (suc n)) some = (slices-law code names inputs (Some (suc n)) fuel (numbered_from_zero q) left).1 (turned.ended honest (suc n) (omega arith), few)
 
   pub done-within : (k : Option ℕ) → k ≢ Some 0 → IsSliceOf code inputs k fuel q None → ⊥
   done-within k some s =
@@ -96,14 +94,6 @@ front-kept code fuel inputs call its.New run run' after is h = none-some run is
 front-kept code fuel inputs call (its.Kept before g) run run' after is h = λ front back e agrees. h front back (ap (λ (t : Timeline). t.nodes) (same-as g before run is).trace ∙ e) agrees
 front-kept code fuel inputs call its.Dropped run run' after is h = none-some run is
 
--- they are kept, or the call was run again in place of a repair
-pub front-or-again : (e n : EngineState) (reads : Option ℕ) (far : Came) → (far ≢ came.Anew → KeepsFront e n) → (far ≡ came.Anew → e.phase ≡ Partial)
-    → ((next : ℕ) (r : Repair) → CarriesRepair e next r → RepairOutcome e n reads next r (Ok far))
-    → KeepsFront e n ⊎ IsRunAgain e n reads
-front-or-again e n reads came.More kept part comes = inl (kept (λ s. absurd cc))
-front-or-again e n reads came.Done kept part comes = inl (kept (λ s. absurd cc))
-front-or-again e n reads came.Anew kept part comes = inr (record { part = part refl; anew = comes })
-
 -- where the run was given up there is none
 no-running : (run : Run) → phase_of run ≡ Dropped → running_in run ≡ None
 no-running its.New e = refl
@@ -112,9 +102,10 @@ no-running (its.Kept run stage.Pending) e = absurd (grind (arith, e))
 no-running (its.Kept run stage.Partial) e = absurd (grind (arith, e))
 no-running its.Dropped e = refl
 
--- and no nodes
-pub front-of-none : (code : Code) (fuel : ℕ) (inputs : List Block) (call : Option Call) (run : Run) → phase_of run ≡ Dropped → (n : EngineState) → KeepsFront (state_of code fuel inputs call run) n
-front-of-none code fuel inputs call run e n = rw (no-running run e) tt
+-- so no repair is carried
+pub none-carried : (code : Code) (fuel : ℕ) (inputs : List Block) (call : Option Call) (run : Run) → phase_of run ≡ Dropped → (next : ℕ) (r : Repair)
+    → CarriesRepair (state_of code fuel inputs call run) next r → ⊥
+none-carried code fuel inputs call run e next r c = none-some c.items (sym (ap (λ o. stands_for (forest_in o)) (no-running run e)) ∙ c.is)
 
 -- after an error the type of an answer does not matter
 pub on-error : {A B : Type 0} (e n : EngineState) (error : RunError) → Advances {A = A} e n (Err error) → Advances {A = B} e n (Err error)

@@ -1,19 +1,20 @@
 -- What a repair that begins makes of the trace of a run.
 use Rattle.std.proofs.Common.{◌≡◌, ℕ, Option, Some, None, List, sym, ap, ◌∙◌, subst}
+use Rattle.std.specs.Option.{IsSomeAnd}
 use Rattle.ceal_base.specs.Block.{Block}
 use Rattle.ceal_base.specs.Trace.{Trace}
 use Rattle.ceal_base.specs.declared.call.Call.{Call}
 use Rattle.ceal_base.specs.declared.word.Word.{Word}
 use Rattle.ceal_code.proofs.Words.SameIsEqual.{some-same, none-some}
 use Rattle.ceal_code.specs.Program.{Code}
+use Rattle.ceal_code.specs.Replay.{IsHonest}
 use Rattle.ceal_engine.proofs.Carrying.{opened-whole}
 use Rattle.ceal_engine.proofs.Present.{trace-kept, whole-kept}
 use Rattle.ceal_engine.proofs.Propagated.{told-run}
 use Rattle.ceal_engine.proofs.Repairs.{repaired-of, unchanged-of}
-use Rattle.ceal_engine.specs.Engine.{IsWhole, fresh_call, stands_for}
+use Rattle.ceal_engine.specs.Engine.{EngineState, IsWhole, fresh_call, stands_for, trace}
 use Rattle.ceal_engine.specs.Keeping.{Keeps, forest_in, phase_of, running_in, state_of}
-use Rattle.ceal_engine.specs.Partial.{IsRepairSoFar}
-use Rattle.ceal_engine.specs.declared.phase.Came.TheVariants as came
+use Rattle.ceal_engine.specs.Repaired.{IsRepaired as IsRepairedTrace, IsUnchanged}
 use Rattle.ceal_engine.specs.Runs.{finished, told, opened}
 use Rattle.ceal_engine.specs.declared.run.Run.{Run}
 use Rattle.ceal_engine.specs.declared.run.Run.TheVariants as its
@@ -22,6 +23,12 @@ use Rattle.ceal_repair.specs.Answers.{IsKeptRun, IsRepaired}
 use Rattle.ceal_repair.specs.declared.advance.Progress.{Progress}
 use Rattle.ceal_repair.specs.declared.advance.Progress.TheVariants.{Done, Spent}
 use Rattle.ceal_repair.specs.declared.running.Running.{Running}
+
+-- what a repair that ended has made of the trace of a run
+abbrev SoFar : EngineState → EngineState → Trace → Type 0
+SoFar e n l =
+    IsSomeAnd (trace n) (IsRepairedTrace n l)
+    × (IsHonest e.code e.inputs l → IsUnchanged n l × (n.timeline ≡ e.timeline))
 
 -- what propagation promises of each run of a call
 abbrev Repairs : Code → ℕ → List Block → Running → Running → Progress → Type 0
@@ -50,12 +57,12 @@ module _ (code : Code) (fuel : ℕ) (inputs : List Block) (before : Run) (whole 
 
   -- the new trace is the repair of the old one
   pub done-so-far : p ≡ Done → (l : Trace) → stands_for (forest_in (running_in before)) ≡ Some l
-      → IsRepairSoFar (state_of code fuel inputs call before) (finished code fuel inputs call run') l came.Done
+      → SoFar (state_of code fuel inputs call before) (finished code fuel inputs call run') l
   done-so-far h =
-      by-parts (λ c b. (l : Trace) → stands_for (forest_in (running_in b)) ≡ Some l → IsRepairSoFar (state_of code fuel inputs c b) (finished code fuel inputs c run') l came.Done)
+      by-parts (λ c b. (l : Trace) → stands_for (forest_in (running_in b)) ≡ Some l → SoFar (state_of code fuel inputs c b) (finished code fuel inputs c run') l)
       (λ c b g m was own r l t.
       let same : m ≡ l = some-same m l (sym (trace-kept code fuel inputs c b m was) ∙ t) in
-      subst (λ l. IsRepairSoFar (state_of code fuel inputs (Some c) (its.Kept b g)) (finished code fuel inputs (Some c) run') l came.Done) same
+      subst (λ l. SoFar (state_of code fuel inputs (Some c) (its.Kept b g)) (finished code fuel inputs (Some c) run') l) same
       (let old = subst (IsKeptRun code inputs c.function c.args fuel m) (sym own) (told-run code fuel inputs 0 c.function c.args m b was) in
       let d = subst (IsRepaired code inputs c.function c.args fuel m run run') h r in (
         repaired-of code fuel inputs c was.fits m run old run' d,

@@ -5,7 +5,7 @@ use Rattle.ceal_base.specs.Trace.{Trace}
 use Rattle.ceal_base.specs.declared.word.Word.{Word}
 use Rattle.ceal_code.specs.Replay.{IsHonest}
 use Rattle.ceal_engine.specs.Engine.{EngineState, IsPresent, IsWhole, IfOutOfFuel, NeedsNoMemory, fresh_of, trace}
-use Rattle.ceal_engine.specs.Looks.{LooksOfRun}
+use Rattle.ceal_engine.specs.Cost.{CostOfRun}
 use Rattle.ceal_engine.specs.Repaired.{IsFirst}
 use Rattle.ceal_engine.specs.declared.phase.Phase.TheVariants.{Finished, Dropped}
 use Rattle.ceal_engine.specs.declared.run_error.RunError.{RunError}
@@ -24,14 +24,14 @@ pub record Advances {A : Type 0} (e n : EngineState) (result : Result A RunError
   pub out_of_fuel : IfOutOfFuel result (fresh_of n ≡ None)
   pub dropped : OnErr result (n.phase ≡ Dropped)
 
--- the engine with a call
+-- the engine with a call, of which there is no run
 abbrev pub called : EngineState → ℕ → List Word → EngineState
-called e f args = record e { call = Some (record { function = f; args = args }) }
+called e f args = record e { call = Some (record { function = f; args = args }); phase = Dropped }
 
 -- The call was run from nothing.
 pub record IsRunAnew (e : EngineState) : Type 0 where
   pub phase : e.phase ≡ Finished
   pub present : IsPresent e
   pub first : IsSomeAnd (trace e) (IsFirst e)
-  pub looks : LooksOfRun e
+  pub cost : CostOfRun e
   pub unmarked : e.marked ≡ None

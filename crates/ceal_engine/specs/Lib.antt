@@ -4,8 +4,9 @@ pub mod Repaired
 pub mod Keeping
 pub mod Runs
 pub mod Partial
-pub mod Looks
+pub mod Cost
 pub mod Marks
 pub mod Calls
+pub mod Advance
 -- what its own functions say of each other
 pub mod Reading

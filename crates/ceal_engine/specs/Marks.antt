@@ -1,5 +1,5 @@
 -- What the places of an engine held at the end when they were marked.
-use Rattle.std.specs.Prelude.{◌≡◌, ◌⊎◌, Bool, true, None, [], unwrap_or}
+use Rattle.std.specs.Prelude.{◌≡◌, Bool, true, [], unwrap_or}
 use Rattle.ceal_base.specs.Access.{word_in}
 use Rattle.ceal_base.specs.Fitting.{kind_in}
 use Rattle.ceal_base.specs.declared.word.Place.{Place}
@@ -23,7 +23,3 @@ is_modifiable e p = is_cell (kind_in e.code.structs (block_in e p.block) p.field
 
 abbrev pub IsModifiable : EngineState → Place → Type 0
 IsModifiable e p = is_modifiable e p ≡ true
-
--- what was marked is marked still, or nothing is
-abbrev pub KeepsMark : EngineState → EngineState → Type 0
-KeepsMark e n = (n.marked ≡ e.marked) ⊎ (n.marked ≡ None)

@@ -1,39 +1,26 @@
 -- An engine whose repair is under way, and what a slice makes of it.
-use Rattle.std.specs.Prelude.{◌≡◌, ◌⊎◌, ◌<◌, ◌≤◌, ℕ, true, false, Option, Some, None, Result, Ok, Err, ⊤}
+use Rattle.std.specs.Prelude.{◌≡◌, ◌⊎◌, ◌<◌, ◌≤◌, ℕ, ◌+◌, true, false, Option, Some, None, List, ⊤}
 use Rattle.std.specs.Option.{IsSomeAnd}
 use Rattle.ceal_base.specs.Block.{Block}
 use Rattle.ceal_base.specs.Trace.{Trace}
 use Rattle.ceal_base.specs.declared.call.Call.{Call}
 use Rattle.ceal_base.specs.declared.word.BlockId.TheVariants.{Core}
 use Rattle.ceal_code.specs.Alike.{Pairs, Tied, TraceAlike, OneToOne}
-use Rattle.ceal_code.specs.Replay.{IsHonest}
+use Rattle.ceal_code.specs.Program.{Code}
 use Rattle.ceal_code.specs.Value.{Plain}
 use Rattle.ceal_engine.specs.Engine.{EngineState, IsEngine, IsWhole, trace}
-use Rattle.ceal_engine.specs.Repaired.{IsFirst, IsRepaired, IsUnchanged}
 use Rattle.ceal_engine.specs.declared.phase.Came.{Came}
 use Rattle.ceal_engine.specs.declared.phase.Came.TheVariants as came
 use Rattle.ceal_engine.specs.declared.phase.Phase.{Phase}
 use Rattle.ceal_engine.specs.declared.phase.Phase.TheVariants.{New, Finished, Pending, Partial, Dropped}
 use Rattle.ceal_engine.specs.declared.phase.Progress.{Progress}
 use Rattle.ceal_engine.specs.declared.phase.Progress.TheVariants.{More, Done}
-use Rattle.ceal_engine.specs.declared.run_error.RunError.{RunError}
-use Rattle.ceal_engine.specs.declared.run_error.RunError.TheVariants.{Memory, OutOfFuel}
 use Rattle.ceal_heap.specs.Heap.{Contents, plain_of}
 use Rattle.ceal_theory.specs.Adjust.{Above, Extended}
 use Rattle.ceal_theory.specs.Carried.{Carried}
+use Rattle.ceal_theory.specs.Progress.{unrepaired}
 use Rattle.ceal_theory.specs.Repair.{own}
 use Rattle.ceal_theory.specs.Slices.{Repair, beginning, sliced, is_done, RepairHolds}
-
--- the phase after a slice, by how far it has come
-abbrev pub phase_after : Progress → Phase
-phase_after More = Partial
-phase_after Done = Finished
-
--- the phase after a repair has gone on
-abbrev pub phase_after_repair : Came → Phase
-phase_after_repair came.More = Partial
-phase_after_repair came.Done = Finished
-phase_after_repair came.Anew = Finished
 
 -- a run that was made again is up to date, too
 abbrev pub progress_of : Came → Progress
@@ -99,49 +86,24 @@ pub record SliceEnds (e n : EngineState) (k : Option ℕ) (next : ℕ) (r : Repa
   pub items : IsSomeAnd (trace n) (RenamedFrom e next r repair.items)
   pub work : n.work ≡ repair.spent
 
--- No slice is there within the fuel; the call was run again, and nothing is marked.
-pub record IsAnew (e n : EngineState) (k : Option ℕ) (r : Repair) : Type 0 where
-  pub none : sliced e.code own e.inputs k e.fuel r ≡ None
-  pub first : IsSomeAnd (trace n) (IsFirst n)
-  pub unmarked : n.marked ≡ None
+-- how many reads of a trace there are from the first stale one on
+abbrev pub unrepaired_of : Code → List Block → Option Trace → ℕ
+unrepaired_of code inputs None = 0
+unrepaired_of code inputs (Some l) = unrepaired code inputs l
 
--- The call was run again in place of a repair that was under way.
-pub record IsRunAgain (e n : EngineState) (k : Option ℕ) : Type 0 where
-  pub part : e.phase ≡ Partial
-  pub anew : (next : ℕ) (r : Repair) → CarriesRepair e next r → IsAnew e n k r
+abbrev pub unrepaired_in : EngineState → ℕ
+unrepaired_in e = unrepaired_of e.code e.inputs (trace e)
 
--- What a repair of a run makes of its trace, by how far it has come. Where nothing was stale nothing has changed.
-abbrev pub IsRepairSoFar : EngineState → EngineState → Trace → Came → Type 0
-IsRepairSoFar e n l came.More = ⊤
-IsRepairSoFar e n l came.Done =
-    IsSomeAnd (trace n) (IsRepaired n l)
-    × (IsHonest e.code e.inputs l → IsUnchanged n l × (n.timeline ≡ e.timeline))
-IsRepairSoFar e n l came.Anew = ⊥
+-- from the first stale one on there are fewer reads than before, by that number at least
+abbrev pub LeavesFewer : EngineState → EngineState → Option ℕ → Type 0
+LeavesFewer e n None = ⊤
+LeavesFewer e n (Some k) = unrepaired_in n + k ≤ unrepaired_in e
 
 -- no slice is there within the fuel, or it is done
 abbrev pub IsOut : EngineState → Option ℕ → Repair → Type 0
 IsOut e k r =
     (sliced e.code own e.inputs k e.fuel r ≡ None)
     ⊎ ((r' : Repair) × (sliced e.code own e.inputs k e.fuel r ≡ Some r') × (is_done e.code e.inputs r' ≡ true))
-
--- What `k` reads, or all of them, make of the engine's repair, by the answer.
-abbrev pub RepairOutcome : EngineState → EngineState → Option ℕ → ℕ → Repair → Result Came RunError → Type 0
-RepairOutcome e n k next r (Ok came.More) = SliceContinues e n k next r
-RepairOutcome e n k next r (Ok came.Done) = SliceEnds e n k next r
-RepairOutcome e n k next r (Ok came.Anew) = IsAnew e n k r
-RepairOutcome e n k next r (Err OutOfFuel) = IsOut e k r
-RepairOutcome e n k next r (Err Memory) = ⊤
-
--- the same, where it is not told whether the call was run again
-abbrev pub ProgressOutcome : EngineState → EngineState → Option ℕ → ℕ → Repair → Result Progress RunError → Type 0
-ProgressOutcome e n k next r (Ok More) = SliceContinues e n k next r
-ProgressOutcome e n k next r (Ok Done) = SliceEnds e n k next r ⊎ IsAnew e n k r
-ProgressOutcome e n k next r (Err error) = RepairOutcome e n k next r (Err error)
-
--- the same, where all that is left is repaired
-abbrev pub EndOutcome : {A : Type 0} → EngineState → EngineState → ℕ → Repair → Result A RunError → Type 0
-EndOutcome e n next r (Ok done) = SliceEnds e n None next r ⊎ IsAnew e n None r
-EndOutcome e n next r (Err error) = RepairOutcome e n None next r (Err error)
 
 -- each block that could be read can be read still, and has the same words
 abbrev pub KeepsWords : Option Contents → Option Contents → Type 0

@@ -14,7 +14,7 @@ use Rattle.ceal_base.specs.declared.word.Word.{Word}
 use Rattle.ceal_code.specs.Program.{Code}
 use Rattle.ceal_code.specs.Replay.{stored}
 use Rattle.ceal_engine.specs.Engine.{EngineState}
-use Rattle.ceal_engine.specs.Looks.{LooksOfRun}
+use Rattle.ceal_engine.specs.Cost.{CostOfRun}
 use Rattle.ceal_engine.specs.Keeping.{Keeps, state_of}
 use Rattle.ceal_engine.specs.Repaired.{IsFirst}
 use Rattle.ceal_engine.specs.declared.run.Run.{Run}
@@ -45,7 +45,7 @@ trace_in run = trace_of (forest_of run.tables.trace.nodes)
 pub record IsFirstOf (code : Code) (fuel : ℕ) (inputs : List Block) (call : Option Call) (run : Running) : Type 0 where
   pub kept : Keeps code fuel inputs (its.Kept run stage.Finished) call
   pub first : IsSomeAnd (trace_in run) (IsFirst (finished code fuel inputs call run))
-  pub looks : LooksOfRun (finished code fuel inputs call run)
+  pub cost : CostOfRun (finished code fuel inputs call run)
   pub unmarked : run.tables.mods.marked ≡ None
 
 -- a run of which so much work is told

@@ -7,7 +7,7 @@ ghost use Rattle.ceal_base.specs.Fitting.{block_fits, inputs_fit};
 ghost use Rattle.ceal_base.specs.declared.word.BlockId.TheVariants.{Input};
 ghost use Rattle.ceal_code.specs.Valid.{valid};
 ghost use Rattle.ceal_engine.specs.Engine.{InLimits, trace, phase_after_edit, takes, with_base};
-ghost use Rattle.ceal_engine.specs.Looks.{LooksAtNothing, LooksOfEdit};
+ghost use Rattle.ceal_engine.specs.Cost.{CostOfInput, CostOfEdit};
 ghost use Rattle.ceal_engine.specs.Partial.{CarriesRepair};
 ghost use Rattle.ceal_engine.specs.Repaired.{IsRestorable, IsRestored};
 ghost use Rattle.ceal_engine.specs.declared.phase.Phase.TheVariants.{New, Finished};
@@ -144,6 +144,7 @@ impl Engine {
         ensures work { IfOk result (λ e. e.work ≡ work) }
         ensures marked { IfOk result (λ e. e.marked ≡ None) }
         ensures forest { IfOk result (λ e. IsSomeAnd (trace e) (IsRestored forest.now)) }
+        ensures differed { IfOk result (λ e. e.differed ≡ 0) }
     {
         let mut engine = Engine::called(alloc, code, fuel, inputs, seed)?;
         match engine.run(function, args) {
@@ -216,7 +217,7 @@ impl Engine {
         ensures work { self.new.work ≡ self.old.work }
         ensures carries { OnOk result ((next : ℕ) (r : RepairOf) →
             CarriesRepair self.old next r → CarriesRepair self.new next r) }
-        ensures looks { LooksAtNothing self.old self.new }
+        ensures cost { CostOfInput self.old self.new }
         ensures marked { self.new.marked ≡ self.old.marked }
         ensures number { IfOk result (λ id. id ≡ Input (length self.old.inputs)) }
         ensures inputs { OnOk result
@@ -245,7 +246,7 @@ impl Engine {
         ensures work { self.new.work ≡ self.old.work }
         ensures carries { OnOk result ((next : ℕ) (r : RepairOf) →
             CarriesRepair self.old next r → CarriesRepair self.new next r) }
-        ensures looks { LooksOfEdit self.old self.new }
+        ensures cost { CostOfEdit self.old self.new }
         ensures marked { self.new.marked ≡ self.old.marked }
         ensures phase { OnOk result (self.new.phase ≡ phase_after_edit self.old.phase) }
         ensures inputs { OnOk result (self.new.inputs ≡ with_base self.old.inputs place value) }

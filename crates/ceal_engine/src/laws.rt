@@ -1,6 +1,6 @@
 // Laws of engines, each the contract of a function that does nothing.
 
-ghost use Rattle.ceal_engine.specs.Looks.{LooksLaw};
+ghost use Rattle.ceal_engine.specs.Cost.{CostLaw};
 ghost use Rattle.ceal_engine.specs.Partial.{BeginsLaw, KeptLaw};
 
 /// An engine with a run carries the repair that begins from its trace.
@@ -13,8 +13,9 @@ pub fn kept_law()
     ensures law { KeptLaw }
 {}
 
-/// What any list of edits, new inputs and repairs looks at is bounded by the edits, by the steps and the reads that are
-/// re-executed and by the writes that the trace loses, whatever its size.
-pub fn looks_law()
-    ensures law { LooksLaw }
+/// What any list of edits, new inputs and repairs looks at and touches is bounded by the edits, by the steps that are
+/// re-executed, by the reads that get another value, and by the writes and nodes that the trace loses, whatever its
+/// size.
+pub fn cost_law()
+    ensures law { CostLaw }
 {}

@@ -5,7 +5,7 @@
 //! which is the run from scratch on its present inputs up to the numbers of its core blocks. `specs/Repaired` says what
 //! becomes of the trace: after a first run it is the first trace, after a propagation its repair. The body keeps what
 //! `ceal_repair` keeps of a run: the nodes, the lists of the modifiables, the queue of reads that may be stale, the
-//! memo, and the heap. `specs/Looks` says how many contents a propagation looks at, whatever the size of the trace. A
+//! memo, and the heap. `specs/Cost` says how many contents a propagation looks at, whatever the size of the trace. A
 //! repair may be done in slices, with edits between them: `specs/Partial` says what becomes of it. `asking` tests what
 //! calls require, `run` has the run with its phase and what edits and new inputs do to it, `reading` reads words and
 //! contents, and `items` lists the flat items of nodes.

@@ -1,9 +1,10 @@
 // What is read of a run.
 
-ghost use Rattle.std.specs.Prelude.{◌≡◌, slice_get, unwrap_or};
+ghost use Rattle.std.specs.Prelude.{◌≡◌, slice_get, unwrap_or, IfSome};
 ghost use Rattle.ceal_code.specs.PlainWords.{block_shape, block_word};
 ghost use Rattle.ceal_engine.specs.Keeping.{running_in};
 ghost use Rattle.ceal_engine.specs.Reading.{content_at, known_block};
+ghost use Rattle.ceal_repair.specs.Kept.{Kept};
 
 use crate::run::Run;
 use ceal_base::kind::Shape;
@@ -68,13 +69,14 @@ pub fn plain_word(run: &Run, inputs: &Inputs, block: BlockId, field: u32) -> Wor
 
 /// The content of a modifiable at the end of the run.
 pub fn content(run: &Run, inputs: &Inputs, place: Place) -> Word
+    requires kept { IfSome (running_in run.now) (λ r. Kept r.tables) }
     ensures { result ≡ content_at (running_in run.now) inputs.now place }
 {
     match word(run, inputs, place.block, place.field) {
         None => Word::Null,
         Some(word) => match run {
             Run::New => word,
-            Run::Kept(run, _) => run.tables.mods.last_value(place),
+            Run::Kept(run, _) => run.tables.last_value(place),
             Run::Dropped => word,
         },
     }

@@ -32,6 +32,7 @@ impl Model for Graph {
 }
 
 impl Graph {
+    /// The graph of these structs, functions and blocks.
     pub fn new(structs: Structs, functions: Vec<GraphFunction>, blocks: Vec<GraphBlock>) -> Graph
         ensures value { result
             ≡ record { structs = structs; functions = functions.items; blocks = blocks.items } }
@@ -43,6 +44,7 @@ impl Graph {
         }
     }
 
+    /// Puts a function at the end, whose number is the next one.
     pub fn push_functions(&mut self, item: GraphFunction) -> Result<(), NoMemory>
         ensures ok { OnOk result
             (self.new ≡ record self.old { functions = self.old.functions ++ item ∷ [] }) }
@@ -52,12 +54,14 @@ impl Graph {
         Ok(())
     }
 
+    /// The functions, in the order of their numbers.
     pub fn functions(&self) -> &[GraphFunction]
         ensures value { result.now ≡ self.now.functions }
     {
         self.functions.as_slice()
     }
 
+    /// Puts a block at the end, whose number is the next one.
     pub fn push_blocks(&mut self, item: GraphBlock) -> Result<(), NoMemory>
         ensures ok { OnOk result
             (self.new ≡ record self.old { blocks = self.old.blocks ++ item ∷ [] }) }
@@ -67,6 +71,7 @@ impl Graph {
         Ok(())
     }
 
+    /// The blocks, in the order of their numbers.
     pub fn blocks(&self) -> &[GraphBlock]
         ensures value { result.now ≡ self.now.blocks }
     {

@@ -30,6 +30,7 @@ impl Model for LiveSet {
 }
 
 impl LiveSet {
+    /// The set of no variables.
     pub fn empty(alloc: Global) -> LiveSet
         ensures value { result ≡ [] }
     {
@@ -39,12 +40,14 @@ impl LiveSet {
         }
     }
 
+    /// Whether a variable is in the set.
     pub fn contains(&self, v: u32) -> bool
         ensures value { result ≡ is_in v self.now }
     {
         has(self.chunks.as_slice(), v)
     }
 
+    /// Puts a variable into the set, once; without memory the set stays as it is.
     pub fn insert(&mut self, v: u32) -> Result<(), NoMemory>
         ensures ok { OnOk result ((w : ℕ) → is_in w self.new ≡ (v == w || is_in w self.old)) }
         ensures err { OnErr result (self.new ≡ self.old) }

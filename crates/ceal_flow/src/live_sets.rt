@@ -22,12 +22,14 @@ impl Model for LiveSets {
 }
 
 impl LiveSets {
+    /// These sets, one for each block.
     pub fn new(sets: Vec<LiveSet>) -> LiveSets
         ensures value { result ≡ sets.items }
     {
         LiveSets { sets }
     }
 
+    /// Puts the set of the next block at the end.
     pub fn push(&mut self, item: LiveSet) -> Result<(), NoMemory>
         ensures ok { OnOk result (self.new ≡ self.old ++ item ∷ []) }
         ensures err { OnErr result (self.new ≡ self.old) }
@@ -36,6 +38,7 @@ impl LiveSets {
         Ok(())
     }
 
+    /// The sets, in the order of the blocks.
     pub fn items(&self) -> &[LiveSet]
         ensures value { result.now ≡ self.now }
     {

@@ -1,13 +1,10 @@
 -- Copies told by the times of assignments.
-use Rattle.std.proofs.Common.{◌≡◌, ℕ, ◌<◌, ◌≤◌, ◌==◌, nat_lt, Bool, true, false, if◌then◌else◌, Option, Some, None, List, refl, ap, ◌∙◌, arith}
+use Rattle.std.proofs.Common.{◌≡◌, ℕ, ◌<◌, ◌≤◌, ◌==◌, nat_lt, Bool, true, false, if◌then◌else◌, Option, Some, None, refl, ap, ◌∙◌, arith}
 use Rattle.std.proofs.Math.Path.{fun_ext}
-use Rattle.std.specs.BTreeMap.{is_at}
-use Rattle.std.specs.Map.{lookup}
-use Rattle.std.specs.Ordering.{nat_cmp}
 use Rattle.ceal_code.proofs.Words.SameIsEqual.{nat-same, nat-refl}
 use Rattle.ceal_code.specs.declared.expr.CodeExpr.{CodeExpr, Num as NumExpr, Null as NullExpr, Var, Unary', Binary', Field', Address'}
 use Rattle.ceal_fold.specs.Folding.{copy_by, copy_without, copies_with}
-use Rattle.ceal_fold.specs.States.{last_of, time, lasting_copy, current_copy, copy_at}
+use Rattle.ceal_fold.specs.States.{Pages, last_of, time, lasting_copy, current_copy, copy_at}
 use Rattle.ceal_fold.specs.declared.copies.Copied.{Copied}
 use Rattle.ceal_fold.specs.declared.copies.Copied.TheVariants.{Num as CopiedNum, Null as CopiedNull, Var as CopiedVar}
 use Rattle.ceal_fold.specs.declared.known.Assigned.{Assigned}
@@ -98,21 +95,13 @@ module _ (last last' : ℕ → Option Assigned) (v at : ℕ) (copy : Option Copi
           ap (current_copy last') (ap last' i ∙ put-same) ∙ new copy h
       go false e = ap (current_copy last') (put-other u e) ∙ other (last u) refl
 
-at-is : (v u : ℕ) → is_at (nat_cmp v) u ≡ (u == v)
-at-is v u = grind arith
-
-module _ (known known' : List (ℕ × Assigned)) (v at : ℕ) (copy : Option Copied)
-    (put : (u : ℕ) → lookup (is_at (nat_cmp u)) known' ≡ (if is_at (nat_cmp v) u then made at copy else lookup (is_at (nat_cmp u)) known))
+module _ (known known' : Pages) (v at : ℕ) (copy : Option Copied) (put : (u : ℕ) → last_of known' u ≡ (if u == v then made at copy else last_of known u))
     (earlier : (u : ℕ) → time (last_of known u) < at) where
-  put-last : (u : ℕ) → last_of known' u ≡ (if u == v then made at copy else last_of known u)
-  unfolding last_of
-  put-last u = put u ∙ ap (λ b. if b then made at copy else lookup (is_at (nat_cmp u)) known) (at-is v u)
-
   pub assigned-times : (u : ℕ) → time (last_of known' u) ≤ at
-  assigned-times = put-times (last_of known) (last_of known') v at copy put-last earlier
+  assigned-times = put-times (last_of known) (last_of known') v at copy put earlier
 
   pub assigned-copies : copy_without v copy ≡ copy → copy_at known' ≡ copies_with (copy_at known) v copy
   unfolding copy_at copies_with
-  assigned-copies h = fun_ext (put-copies (last_of known) (last_of known') v at copy put-last earlier h)
+  assigned-copies h = fun_ext (put-copies (last_of known) (last_of known') v at copy put earlier h)
 
 pub ruleset pass_steps = (copy-other)

@@ -1,5 +1,6 @@
 pub mod ExprSteps
 pub mod ListSteps
+pub mod PageSteps
 pub mod KnownSteps
 pub mod VarSteps
 pub mod Trees

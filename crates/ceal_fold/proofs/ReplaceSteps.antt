@@ -8,32 +8,31 @@ use Rattle.ceal_code.specs.Valid.{followers}
 use Rattle.ceal_code.specs.declared.command.Cmd.{Cmd}
 use Rattle.ceal_fold.proofs.ListSteps.{at-same, at-other}
 use Rattle.ceal_fold.specs.Folding.{Copies, no_copies, copies_after, folded_command, is_among, copies_past, folded_commands}
-use Rattle.ceal_fold.specs.States.{last_of, time, copy_at, state_at, copies_at, Until, AllUntil}
-use Rattle.ceal_fold.specs.declared.known.Assigned.{Assigned}
+use Rattle.ceal_fold.specs.States.{Pages, last_of, time, copy_at, state_at, copies_at, Until, AllUntil}
 
 pub set-length : {A : Type 0} (xs : List A) (i : ℕ) (x : A) → length (slice_set xs i x) ≡ length xs
 set-length [] i x = refl
 set-length (y ∷ xs) zero x = refl
 set-length (y ∷ xs) (suc i) x = ap suc (set-length xs i x)
 
-pub states-same : (states : List (List (ℕ × Assigned))) (i : ℕ) (s : List (ℕ × Assigned)) → i < length states → copies_at (slice_set states i s) i ≡ copy_at s
+pub states-same : (states : List Pages) (i : ℕ) (s : Pages) → i < length states → copies_at (slice_set states i s) i ≡ copy_at s
 unfolding copies_at state_at
 states-same states i s h = ap copy_at (at-same [] states i s h)
 
-pub states-other : (states : List (List (ℕ × Assigned))) (i : ℕ) (s : List (ℕ × Assigned)) (j : ℕ) → (j ≡ i → ⊥) → copies_at (slice_set states i s) j ≡ copies_at states j
+pub states-other : (states : List Pages) (i : ℕ) (s : Pages) (j : ℕ) → (j ≡ i → ⊥) → copies_at (slice_set states i s) j ≡ copies_at states j
 unfolding copies_at state_at
 states-other states i s j h = ap copy_at (at-other [] states i s j h)
 
 -- times
-pub copies-is : (states : List (List (ℕ × Assigned))) (i : ℕ) → copies_at states i ≡ copy_at (state_at states i)
+pub copies-is : (states : List Pages) (i : ℕ) → copies_at states i ≡ copy_at (state_at states i)
 unfolding copies_at
 copies-is states i = refl
 
-pub until-at : (n : ℕ) (states : List (List (ℕ × Assigned))) → AllUntil n states → (j v : ℕ) → time (last_of (state_at states j) v) ≤ n
+pub until-at : (n : ℕ) (states : List Pages) → AllUntil n states → (j v : ℕ) → time (last_of (state_at states j) v) ≤ n
 unfolding AllUntil Until
 until-at n states h j v = h j v
 
-pub until-from : (n : ℕ) (s : List (ℕ × Assigned)) → ((v : ℕ) → time (last_of s v) ≤ n) → Until n s
+pub until-from : (n : ℕ) (s : Pages) → ((v : ℕ) → time (last_of s v) ≤ n) → Until n s
 unfolding Until
 until-from n s h = h
 
@@ -41,7 +40,7 @@ pub until-none : (n : ℕ) → Until n []
 unfolding Until last_of
 until-none n v = omega arith
 
-pub until-set : (n : ℕ) (states : List (List (ℕ × Assigned))) (i : ℕ) (s : List (ℕ × Assigned)) → AllUntil n states → Until n s → AllUntil n (slice_set states i s)
+pub until-set : (n : ℕ) (states : List Pages) (i : ℕ) (s : Pages) → AllUntil n states → Until n s → AllUntil n (slice_set states i s)
 unfolding AllUntil state_at
 until-set n [] i s h k j = h j
 until-set n (x ∷ xs) zero s h k zero = k
@@ -49,7 +48,7 @@ until-set n (x ∷ xs) zero s h k (suc j) = h (suc j)
 until-set n (x ∷ xs) (suc i) s h k zero = h zero
 until-set n (x ∷ xs) (suc i) s h k (suc j) = until-set n xs i s (λ j. h (suc j)) k j
 
-pub until-more : (n : ℕ) (states : List (List (ℕ × Assigned))) → AllUntil n states → AllUntil (n + 1) states
+pub until-more : (n : ℕ) (states : List Pages) → AllUntil n states → AllUntil (n + 1) states
 unfolding AllUntil Until
 until-more n states h j v = let lo = h j v in omega (arith, lo)
 
@@ -59,11 +58,11 @@ until-begun n zero j = until-none n
 until-begun n (suc m) zero = until-none n
 until-begun n (suc m) (suc j) = until-begun n m j
 
-pub hand-none : (states : List (List (ℕ × Assigned))) (k : Copies) (j : ℕ) → copies_at states j ≡ (if is_among j [] then k else copies_at states j)
+pub hand-none : (states : List Pages) (k : Copies) (j : ℕ) → copies_at states j ≡ (if is_among j [] then k else copies_at states j)
 unfolding is_among
 hand-none states k j = refl
 
-pub hand-one : (states : List (List (ℕ × Assigned))) (i : ℕ) (s : List (ℕ × Assigned)) (j : ℕ) → j < length states
+pub hand-one : (states : List Pages) (i : ℕ) (s : Pages) (j : ℕ) → j < length states
     → copies_at (slice_set states i s) j ≡ (if is_among j (i ∷ []) then copy_at s else copies_at states j)
 unfolding is_among
 hand-one states i s j h = go (j == i) refl
@@ -72,7 +71,7 @@ hand-one states i s j h = go (j == i) refl
     go true e = let k : j ≡ i = nat-same j i e in rw (← k) (states-same states j s h)
     go false e = states-other states i s j (λ k. grind (arith, e, k))
 
-pub hand-two : (states : List (List (ℕ × Assigned))) (i k : ℕ) (s : List (ℕ × Assigned)) (j : ℕ) → j < length states
+pub hand-two : (states : List Pages) (i k : ℕ) (s : Pages) (j : ℕ) → j < length states
     → copies_at (slice_set (slice_set states i s) k s) j ≡ (if is_among j (i ∷ k ∷ []) then copy_at s else copies_at states j)
 unfolding is_among
 hand-two states i k s j h = go (j == i) refl (j == k) refl
@@ -95,7 +94,7 @@ root-none (suc n) zero = refl
 root-none (suc n) (suc j) = root-none n j
 
 -- what the followers of a command are handed
-pub handed-is : (states : List (List (ℕ × Assigned))) (i : ℕ) (c : Cmd) (known : Copies) (j : ℕ) (new : Copies)
+pub handed-is : (states : List Pages) (i : ℕ) (c : Cmd) (known : Copies) (j : ℕ) (new : Copies)
     → new ≡ (if is_among j (followers c i) then known else copies_at (slice_set states i []) j)
     → known ≡ copies_after (copies_at states i) c → i < j → new ≡ copies_past (copies_at states) i c j
 unfolding copies_past
@@ -129,7 +128,7 @@ pub replicate-length : {A : Type 0} (n : ℕ) (x : A) → length (replicate n x)
 replicate-length zero x = refl
 replicate-length (suc n) x = ap suc (replicate-length n x)
 
-pub walk-on : (structs : List StructInfo) (states states' : List (List (ℕ × Assigned))) (i : ℕ) (c command : Cmd) (cs rest done done' whole : List Cmd)
+pub walk-on : (structs : List StructInfo) (states states' : List Pages) (i : ℕ) (c command : Cmd) (cs rest done done' whole : List Cmd)
     → rest ≡ c ∷ cs → done' ≡ done ++ command ∷ [] → command ≡ folded_command structs (copies_at states i) c → i + length rest ≡ length states
     → ((j : ℕ) → i < j → j < length states → copies_at states' j ≡ copies_past (copies_at states) i command j)
     → (done ++ folded_commands structs (copies_at states) i rest) ≡ whole → (done' ++ folded_commands structs (copies_at states') (i + 1) cs) ≡ whole

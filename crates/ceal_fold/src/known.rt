@@ -1,9 +1,6 @@
 // What is known of variables at a point of a path.
 
-ghost use Rattle.std.specs.Prelude.{◌≡◌, ◌<◌, ◌≤◌, ℕ, [], Some, if◌then◌else◌, IfOk};
-ghost use Rattle.std.specs.BTreeMap.{is_at};
-ghost use Rattle.std.specs.Map.{lookup};
-ghost use Rattle.std.specs.Ordering.{nat_cmp};
+ghost use Rattle.std.specs.Prelude.{◌≡◌, ◌==◌, ◌<◌, ◌≤◌, ℕ, [], Some, if◌then◌else◌, IfOk};
 ghost use Rattle.ceal_fold.specs.Folding.{copies_with, copy_without, copies_after};
 ghost use Rattle.ceal_fold.specs.States.{last_of, time, lasting_copy, copy_at};
 
@@ -13,7 +10,6 @@ use ceal_base::no_memory::NoMemory;
 use ceal_code::command::Cmd;
 use ceal_code::expr::VarId;
 use std::alloc::Global;
-use std::collections::BTreeMap;
 use std::marker::Model;
 
 /// The last assignment of a variable: when it was, and what it made the variable a copy of.
@@ -36,22 +32,23 @@ impl Model for Known {
     ghost use Rattle.std.specs.Prelude.{ℕ, List, [], unwrap_or};
     ghost use Rattle.ceal_fold.specs.declared.known.Assigned.{Assigned};
 
-    ghost Value = { List (ℕ × Assigned) };
+    ghost Value = { List (ℕ × List (ℕ × Assigned)) };
 
     ghost view = { λ k. unwrap_or k.shared [] };
 }
 
 /// Only one assignment.
 fn begun(alloc: Global, v: VarId, last: Assigned) -> Result<Shared, NoMemory>
-    ensures value { IfOk result (λ shared. (u : ℕ) → lookup (is_at (nat_cmp u)) shared
-        ≡ (if is_at (nat_cmp v.0) u then Some last else lookup (is_at (nat_cmp u)) [])) }
+    ensures value { IfOk result (λ shared. (u : ℕ) → last_of shared u
+        ≡ (if u == v.0 then Some last else last_of [] u)) }
 {
-    let mut shared = Shared::new(alloc, BTreeMap::new(alloc))?;
-    shared.put(v.0, last)?;
+    let mut shared = Shared::new(alloc)?;
+    shared.put(alloc, v.0, last)?;
     Ok(shared)
 }
 
 impl Known {
+    /// Nothing is known of any variable.
     pub fn new(alloc: Global) -> Known
         ensures { result ≡ [] }
     {
@@ -132,14 +129,15 @@ impl Known {
             (λ _. copy_at self.new ≡ copies_with (copy_at self.old) v.0 copy) }
         ensures times { IfOk result (λ _. (u : ℕ) → time (last_of self.new u) ≤ at) }
     {
+        let alloc = self.alloc;
         let last = Assigned { at, copy };
         match &mut self.shared {
             Some(shared) => {
-                shared.put(v.0, last)?;
+                shared.put(alloc, v.0, last)?;
                 Ok(())
             }
             None => {
-                self.shared = Some(begun(self.alloc, v, last)?);
+                self.shared = Some(begun(alloc, v, last)?);
                 Ok(())
             }
         }

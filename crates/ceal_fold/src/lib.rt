@@ -11,6 +11,7 @@ mod expr;
 pub mod fold;
 mod known;
 pub mod laws;
+mod page;
 mod replace;
 mod shared;
 mod unused;

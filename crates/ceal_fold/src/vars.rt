@@ -24,6 +24,7 @@ impl Model for Vars {
 }
 
 impl Vars {
+    /// No variables.
     pub fn new(alloc: Global) -> Vars
         ensures { result ≡ [] }
     {
@@ -32,6 +33,7 @@ impl Vars {
         }
     }
 
+    /// Whether a variable is among them.
     #[tactic(auto, unfolding(crate::specs::States::has))]
     pub fn has(&self, v: VarId) -> bool
         ensures { result ≡ has self.now v.0 }
@@ -39,6 +41,7 @@ impl Vars {
         self.set.contains(&v.0)
     }
 
+    /// Puts a variable among them.
     pub fn put(&mut self, v: VarId) -> Result<(), NoMemory>
         ensures value { IfOk result (λ _. (u : ℕ) → has self.new u ≡ (has self.old u || v.0 == u)) }
     {
@@ -46,6 +49,7 @@ impl Vars {
         Ok(())
     }
 
+    /// Takes a variable out, if it is there.
     pub fn take_out(&mut self, v: VarId)
         ensures value { (u : ℕ) → has self.new u ≡ (not (v.0 == u) && has self.old u) }
     {

@@ -24,6 +24,7 @@ impl<T> Model for Stack<T> {
 }
 
 impl<T> Stack<T> {
+    /// An empty stack.
     pub fn new(alloc: Global) -> Stack<T>
         ensures value { result ≡ [] }
     {
@@ -32,6 +33,7 @@ impl<T> Stack<T> {
         }
     }
 
+    /// Puts an item on top; without memory the stack stays as it is.
     #[tactic(auto, using(crate::proofs::Stacks::reverse_push))]
     pub fn push(&mut self, item: T) -> Result<(), NoMemory>
     where
@@ -43,6 +45,7 @@ impl<T> Stack<T> {
         Ok(())
     }
 
+    /// Takes the item on top, if there is one.
     #[tactic(auto, using(crate::proofs::Stacks::reverse_push))]
     pub fn pop(&mut self) -> Option<T>
         ensures value { MatchOption result ((self.old ≡ []) × (self.new ≡ []))
@@ -62,6 +65,7 @@ impl<T> Stack<T> {
 }
 
 impl<T> Stack<T> {
+    /// Whether the stack has no items.
     #[tactic(auto, using(crate::proofs::Stacks::empties))]
     pub fn is_empty(&self) -> bool
         ensures value { IsTrue result ↔ (self.now ≡ []) }

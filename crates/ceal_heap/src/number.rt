@@ -18,6 +18,7 @@ pub struct Held {
 }
 
 impl Held {
+    /// The slot of the region.
     pub fn into_slot(self) -> Slot
         ensures { result ≡ self.slot }
     {

@@ -31,6 +31,7 @@ impl Model for Pieces {
 }
 
 impl Pieces {
+    /// No pieces.
     pub fn new(alloc: Global) -> Result<Pieces, NoMemory>
         ensures { IfOk result (λ p. IsEmpty p) }
     {

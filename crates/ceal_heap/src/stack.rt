@@ -59,6 +59,7 @@ impl Stack {
         self.items.pop()
     }
 
+    /// Whether the stack has no items.
     pub fn is_empty(&self) -> bool
         ensures { result ≡ (length self.now.items == 0) }
     {

@@ -37,6 +37,7 @@ impl<'a> Model for Activation<'a> {
 }
 
 impl<'a> Activation<'a> {
+    /// An activation at the beginning of a body, with a word for each variable.
     #[tactic(auto, using(crate::proofs::TodoLemmas::joined_steps))]
     pub fn new(
         alloc: Global,
@@ -50,6 +51,7 @@ impl<'a> Activation<'a> {
         Ok(Activation { parts, env })
     }
 
+    /// The words of the variables, by their numbers.
     pub fn variables(&self) -> &[Word]
         ensures value { result.now ≡ self.now.env }
     {

@@ -11,4 +11,5 @@ pub mod Entering
 pub mod Adding
 pub mod Taking
 pub mod Walking
+pub mod Scrambling
 pub mod Samples

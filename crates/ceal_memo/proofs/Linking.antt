@@ -1,7 +1,7 @@
 -- Groups in the chains of their buckets.
-use Rattle.std.proofs.Common.{◌≡◌, ◌≢◌, ◌<◌, ◌≤◌, ◌-◌, ℕ, suc, zero, Bool, true, false, inl, inr, List, [], ◌∷◌, ◌++◌, length, set, refl, sym, ap, ◌∙◌, subst, arith, slice_index_or}
-use Rattle.std.proofs.Common.{slice_set}
-use Rattle.std.proofs.lemmas.Nat.{and_le_r}
+use Rattle.std.proofs.Common.{◌≡◌, ◌≢◌, ◌<◌, ◌≤◌, ◌*◌, ◌/◌, ◌^◌, ◌-◌, ℕ, suc, zero, Bool, true, false, inl, inr, List, [], ◌∷◌, ◌++◌, length, set, refl, sym, ap, ◌∙◌, subst, arith, slice_index_or}
+use Rattle.std.proofs.Common.{slice_set, lit≤}
+use Rattle.std.proofs.Math.Nat.{mul-lt-mul_of_pos_right, div-lt_iff_lt-mul}
 use Rattle.std.proofs.lemmas.Bool.{eq-eqb, false≢true}
 use Rattle.std.proofs.lemmas.Bool.Decides.{eqb_tells}
 use Rattle.ceal_memo.specs.declared.chains.Group.{Group}
@@ -10,18 +10,21 @@ use Rattle.ceal_memo.specs.Lists.{has_stamps}
 use Rattle.ceal_memo.proofs.Grouping.{group_is, set_here, set_others, length_set, set_again, pushed_before, lists_set, lists_linked, same_hash, same_length, same_stamped, some_is}
 use Rattle.ceal_memo.proofs.Chaining.{chained_as, appended, inserted_first, inserted_after, removed_first, removed_after}
 
-pub bucket_within : (size hash : ℕ) → 0 < size → bucket size hash < size
-bucket_within size hash some = let most = and_le_r hash (size - 1) in omega arith
+pub bucket_within : (size hash : ℕ) → 0 < size → hash < 2 ^ 32 → bucket size hash < size
+bucket_within size hash some low =
+    let most : hash * size < 2 ^ 32 * size = mul-lt-mul_of_pos_right low some in
+    let all : hash * size < size * 2 ^ 32 = omega (arith, most) in
+    (div-lt_iff_lt-mul (lit≤ tt)).1 all
 
 -- the head of a bucket leads to the last group in it
-pub head_last : (heads : List ℕ) (groups : List Group) → IsLinked heads groups → (hash : ℕ)
+pub head_last : (heads : List ℕ) (groups : List Group) → IsLinked heads groups → (hash : ℕ) → hash < 2 ^ 32
     → IsLast (IsIn (stamped groups) (length heads) groups) (bucket (length heads) hash) (length groups) (head_at heads (bucket (length heads) hash))
-head_last [] groups linked hash = record {
+head_last [] groups linked hash low = record {
   within = let few = linked.few in omega arith;
   there = λ n is. absurd (omega arith);
   last = λ n under is. let few = linked.few in absurd (omega arith);
 }
-head_last (h ∷ hs) groups linked hash = linked.chained.heads (bucket (length (h ∷ hs)) hash) (bucket_within (length (h ∷ hs)) hash (omega arith))
+head_last (h ∷ hs) groups linked hash low = linked.chained.heads (bucket (length (h ∷ hs)) hash) (bucket_within (length (h ∷ hs)) hash (omega arith) low)
 
 -- ---- one more is chosen
 

@@ -1,13 +1,13 @@
 -- Groups of stamps by hash, in chains
 -- (hash tables with separate chaining: Knuth, *The Art of Computer Programming*, volume 3, 6.4).
-use Rattle.std.specs.Prelude.{◌≡◌, ◌-◌, ◌<◌, ◌≤◌, ◌==◌, ℕ, suc, Bool, true, List, [], ◌∷◌, length}
-use Rattle.std.specs.Prelude.{slice_index_or, set, bit_and, if◌then◌else◌}
+use Rattle.std.specs.Prelude.{◌≡◌, ◌*◌, ◌/◌, ◌^◌, ◌<◌, ◌≤◌, ◌==◌, ℕ, suc, Bool, true, List, [], ◌∷◌, length}
+use Rattle.std.specs.Prelude.{slice_index_or, set, if◌then◌else◌}
 use Rattle.ceal_memo.specs.Lists.{has_stamps}
 use Rattle.ceal_memo.specs.declared.chains.Group.{Group}
 
--- the bucket that a hash falls into
+-- the bucket that a hash falls into: the upper bits of the hash tell it
 abbrev pub bucket : ℕ → ℕ → ℕ
-bucket size hash = bit_and hash (size - 1)
+bucket size hash = hash * size / 2 ^ 32
 
 abbrev pub blank : Group
 blank = record { hash = 0; next = 0; list = [] }

@@ -63,6 +63,16 @@ key_digest seed (OfRead key) =
     (key.unit.0 * 4294967296 + key.var)) key.args
 key_digest seed (OfAlloc key) = alloc_digest seed key
 
--- the hash of a key: the upper 31 bits of the sum of its digest, since a part of a key has up to 34
+-- the word of a seed that is multiplied by no part of a key of up to 29 words, made odd
+abbrev pub odd_word : List ℕ → ℕ
+odd_word seed = seed_word seed 64 / 2 * 2 + 1
+
+-- what the hash is of the sum of a digest: the sum is scrambled, multiplied by the odd word of the seed, and of that
+-- the upper 32 bits are kept (multiply-shift: Dietzfelbinger and others, "A reliable randomized algorithm for the
+-- closest-pair problem", 1997)
+abbrev pub upper_bits : List ℕ → ℕ → ℕ
+upper_bits seed sum = (odd_word seed * mixed 0 sum) % 2 ^ 64 / 2 ^ 32
+
+-- the hash of a key
 unfoldable pub hash_of : List ℕ → EntryKey → ℕ
-hash_of seed key = (key_digest seed key).sum / 2 ^ 33
+hash_of seed key = upper_bits seed (key_digest seed key).sum

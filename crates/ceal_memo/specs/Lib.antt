@@ -1,6 +1,7 @@
 -- what the crate promises
 pub mod Keys
 pub mod Memo
+pub mod Seeds
 -- what its own functions say of each other
 pub mod Hashes
 pub mod Table

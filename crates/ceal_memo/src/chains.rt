@@ -27,7 +27,7 @@ fn bucket(size: usize, hash: u32) -> usize
     ensures bucket { result ≡ bucket size hash }
     ensures within { result < size }
 {
-    hash as usize & (size - 1)
+    (u128::from(hash) * size as u128 / 4_294_967_296) as usize
 }
 
 // The link to the first group in the bucket of a hash.

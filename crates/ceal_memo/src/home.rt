@@ -38,6 +38,7 @@ impl Model for Homes {
 }
 
 impl Homes {
+    /// No stamp has a home.
     pub fn new(alloc: Global) -> Homes
         ensures { result ≡ [] }
     {

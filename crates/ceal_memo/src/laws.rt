@@ -1,6 +1,7 @@
 // The laws of the memo table.
 
-ghost use Rattle.std.specs.Prelude.{◌≡◌, ◌↔◌, ℕ, List, Option, None};
+ghost use Rattle.std.specs.Prelude.{◌≡◌, ◌<◌, ◌↔◌, ◌^◌, ℕ, List, Option, None};
+ghost use Rattle.ceal_base.specs.Hashing.{mixed};
 ghost use Rattle.ceal_order.specs.Stamps.{OneMore};
 ghost use Rattle.ceal_memo.specs.Keys.{EntryKey};
 ghost use Rattle.ceal_memo.specs.Memo.{Contents, Holds, Follows, HasNone, KeepsEntries};
@@ -26,4 +27,9 @@ pub fn follows_still()
 pub fn has_none()
     ensures law { (memo : Contents) (entries : ℕ → Option EntryKey) (s : ℕ) → Holds memo entries
         → (entries s ≡ None) ↔ HasNone s memo }
+{}
+
+/// A law: no two sums of 64 bits are scrambled into one, so keys with another sum stay apart until bits are dropped.
+pub fn scrambled_apart()
+    ensures law { (m n : ℕ) → m < 2 ^ 64 → n < 2 ^ 64 → mixed 0 m ≡ mixed 0 n → m ≡ n }
 {}

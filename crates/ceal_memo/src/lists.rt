@@ -44,6 +44,7 @@ impl Model for Lists {
 }
 
 impl Lists {
+    /// No lists.
     pub fn new(alloc: Global) -> Lists
         ensures { result ≡ [] }
     {
@@ -55,6 +56,7 @@ impl Lists {
     }
 
     /// Puts a stamp into the list of a hash, and gives the number of that list.
+    #[inline(always)]
     pub fn put(&mut self, order: &Order, hash: u32, stamp: Stamp) -> Result<u32, NoMemory>
         requires here { IsTrue (is_in stamp.0 order.now.stamps) }
         requires rising { IsRising order.now.stamps (stamps_at self.old hash) }
@@ -181,6 +183,7 @@ fn let_go(heads: &mut [u32], groups: &mut [Group], free: u32, number: u32)
 }
 
 // Gives a hash that has no list one with a stamp: the group that was emptied last, or one more.
+#[inline(always)]
 fn enter(
     heads: &mut Vec<u32>,
     groups: &mut Vec<Group>,
@@ -230,6 +233,7 @@ fn refill(heads: &mut [u32], groups: &mut [Group], number: u32, hash: u32, list:
 }
 
 // Adds a group.
+#[inline(always)]
 fn add(
     heads: &mut Vec<u32>,
     groups: &mut Vec<Group>,

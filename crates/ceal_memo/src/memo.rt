@@ -45,6 +45,7 @@ impl Memo {
     pub fn seeded(alloc: Global, seed: Seed) -> Result<Memo, NoMemory>
         ensures holds { IfOk result (λ memo. Holds memo no_entries) }
         ensures follows { IfOk result (λ memo. (order : List ℕ) → Follows order memo) }
+        ensures seed { IfOk result (λ memo. memo.seed ≡ seed.words) }
     {
         Ok(Memo {
             table: Table::new(alloc),
@@ -53,6 +54,7 @@ impl Memo {
     }
 
     /// A read's key, as it is entered.
+    #[inline(always)]
     pub fn of_read(&self, key: &ReadKey<'_>) -> Hashed
         ensures { IsOf self.now (OfRead key.now) result }
     {
@@ -62,6 +64,7 @@ impl Memo {
     }
 
     /// An allocation's key, as it is entered.
+    #[inline(always)]
     pub fn of_alloc(&self, key: &Key) -> Hashed
         ensures { IsOf self.now (OfAlloc key.now) result }
     {
@@ -71,6 +74,7 @@ impl Memo {
     }
 
     /// Enters a key at a stamp that has no entry.
+    #[inline(always)]
     pub fn add(&mut self, order: &Order, hashed: Hashed, stamp: Stamp) -> Result<(), NoMemory>
         requires here { IsTrue (is_in stamp.0 order.now.stamps) }
         requires follows { Follows order.now.stamps self.old }
@@ -80,6 +84,7 @@ impl Memo {
             → Holds self.new (with_key stamp.0 key entries)) }
         ensures err { OnErr result (self.new ≡ self.old) }
         ensures follows { Follows order.now.stamps self.new }
+        ensures seed { self.new.seed ≡ self.old.seed }
     {
         self.table.add(order, hashed.hash, stamp)?;
         Ok(())
@@ -99,6 +104,7 @@ impl Memo {
             → Holds self.new (with_key stamp.0 (OfRead key.now) entries)) }
         ensures err { OnErr result (self.new ≡ self.old) }
         ensures follows { Follows order.now.stamps self.new }
+        ensures seed { self.new.seed ≡ self.old.seed }
     {
         let hashed = self.of_read(key);
         self.add(order, hashed, stamp)?;
@@ -114,6 +120,7 @@ impl Memo {
             → Holds self.new (with_key stamp.0 (OfAlloc key.now) entries)) }
         ensures err { OnErr result (self.new ≡ self.old) }
         ensures follows { Follows order.now.stamps self.new }
+        ensures seed { self.new.seed ≡ self.old.seed }
     {
         let hashed = self.of_alloc(key);
         self.add(order, hashed, stamp)?;
@@ -129,6 +136,7 @@ impl Memo {
         ensures gone { HasNone stamp.0 self.new }
         ensures absent { HasNone stamp.0 self.old → self.new ≡ self.old }
         ensures follows { (order : List ℕ) → Follows order self.old → Follows order self.new }
+        ensures seed { self.new.seed ≡ self.old.seed }
     {
         self.table.remove(order, stamp);
     }

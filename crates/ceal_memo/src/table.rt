@@ -58,6 +58,7 @@ impl Table {
     }
 
     /// Enters a stamp that has no entry under a hash.
+    #[inline(always)]
     pub fn add(&mut self, order: &Order, hash: u32, stamp: Stamp) -> Result<(), NoMemory>
         requires here { IsTrue (is_in stamp.0 order.now.stamps) }
         requires follows { Follows order.now.stamps self.old }

@@ -1,6 +1,7 @@
 -- The cells of places and their slots.
 use Rattle.std.proofs.Common.{◌≡◌, ◌≢◌, ◌<◌, ◌≤◌, ◌+◌, ℕ, suc, zero, cond, inl, inr, ◌⊎◌, true, false, List, [], ◌∷◌, ◌++◌, length, get_or, set, Option, Some, None, refl, sym, ap, subst, ◌∙◌, arith}
 use Rattle.std.proofs.Common.{rules, length-append}
+use Rattle.std.specs.Prelude.{IsSome, ◌↔◌}
 use Rattle.std.specs.Bool.{Decides}
 use Rattle.std.specs.Map.{lookup}
 use Rattle.std.proofs.lemmas.Bool.{cases_Bool, false≢true}
@@ -134,12 +135,18 @@ pub record Held (cells : List (Place × Cell)) (p : Place) (slot : ℕ) : Type 0
   pub within : slot < length cells
   pub stands : Stands p cells slot
 
-pub held : (index : Index) (cells : List (Place × Cell)) (p : Place) (slot : ℕ) → Indexes index cells → slot ≡ slot_of index p → slot ≢ no_slot → Held cells p slot
-held index cells p slot indexes is some =
-    let at = is ∙ indexes.slots p in
+pub held_at : (cells : List (Place × Cell)) (p : Place) (slot : ℕ) → slot ≡ where_from 0 p cells → slot ≢ no_slot → Held cells p slot
+held_at cells p slot at some =
     let f = slot_found 0 p cells (λ none. some (at ∙ none)) in
     let same : slot ≡ f.slot = omega (arith, at, f.is) in
     record { within = rw same f.within; stands = rw same f.stands }
+
+-- the slot of a place is that to which the index leads
+pub leads : (index : Index) (cells : List (Place × Cell)) (p : Place) (slot : ℕ) → Indexes index cells → slot ≡ where_from 0 p cells → slot ≡ slot_of index p
+leads index cells p slot indexes is = is ∙ sym (indexes.slots p)
+
+pub held : (index : Index) (cells : List (Place × Cell)) (p : Place) (slot : ℕ) → Indexes index cells → slot ≡ slot_of index p → slot ≢ no_slot → Held cells p slot
+held index cells p slot indexes is some = held_at cells p slot (is ∙ indexes.slots p) some
 
 pub none_held : (index : Index) (cells : List (Place × Cell)) (p : Place) (slot : ℕ) → Indexes index cells → slot ≡ slot_of index p → slot ≡ no_slot
     → where_from 0 p cells ≡ no_slot
@@ -147,6 +154,13 @@ none_held index cells p slot indexes is none = sym (is ∙ indexes.slots p) ∙ 
 
 pub not_found : (index : Index) (cells : List (Place × Cell)) (p : Place) → Indexes index cells → where_from 0 p cells ≡ no_slot → lookup (ghosts.eq p) cells ≡ None
 not_found index cells p indexes none = slot_none 0 p cells (let few = indexes.few in omega arith) none
+
+-- a place has a cell if it has a slot, and only then
+pub cell_told : (index : Index) (cells : List (Place × Cell)) (p : Place) → Indexes index cells → (where_from 0 p cells ≢ no_slot) ↔ IsSome (lookup (ghosts.eq p) cells)
+cell_told index cells p indexes = (
+  (λ some. let h = held_at cells p (where_from 0 p cells) refl some in rw (lookup_stands p cells (where_from 0 p cells) h.stands) refl),
+  (λ has none. let no = not_found index cells p indexes none in absurd (grind (arith, rw no at has))),
+)
 
 pub still_indexes : (index : Index) (cells : List (Place × Cell)) (k : ℕ) (c : Cell) → Indexes index cells → Indexes index (with_cell k c cells)
 still_indexes index cells k c indexes = record {

@@ -8,3 +8,4 @@ pub mod Samples
 pub mod MarksLemmas
 pub mod ChangedPlaces
 pub mod RenewedMarks
+pub mod ToldCells

@@ -1,15 +1,13 @@
 -- Stamps with their values.
-use Rattle.std.proofs.Common.{◌≡◌, ◌<◌, ◌≤◌, ◌+◌, ◌-◌, ℕ, suc, zero, inl, inr, true, false, List, [], ◌∷◌, length, map, get_or, refl, sym, ap, ◌∙◌, arith}
+use Rattle.std.proofs.Common.{◌≡◌, ◌<◌, ◌≤◌, ◌+◌, ℕ, suc, zero, inl, inr, true, false, Option, Some, None, List, [], ◌∷◌, length, take, refl, sym, ap, ◌∙◌, arith}
+use Rattle.std.specs.Prelude.{unwrap_or, IsSome}
 use Rattle.std.proofs.lemmas.Bool.Decides.{eqb_tells}
 use Rattle.std.proofs.lemmas.Bool.{cases_lt, lt-ltb, le-ltb, eq-eqb}
 use Rattle.std.specs.List.{insert, remove}
-use Rattle.std.proofs.lemmas.List.{length-map}
 use Rattle.ceal_base.specs.declared.word.Word.{Word}
 use Rattle.ceal_order.specs.Stamps.{is_in, place, without}
-use Rattle.ceal_order.specs.Packed.{word_of}
-use Rattle.ceal_order.specs.declared.packed.Packed.{Packed}
-use Rattle.ceal_order.specs.Rising.{IsBeforeAll, IsRising, count_before}
-use Rattle.ceal_mods.specs.Writes.{Write, stamps_of, written, last_of, those_before, without_one}
+use Rattle.ceal_order.specs.Rising.{IsBeforeAll, IsRising, count_before, last_from, last_stamp}
+use Rattle.ceal_mods.specs.Writes.{Write, AreTold, stamps_of, written, last_of, those_before, without_one}
 
 pub stamps-written : (ss : List ℕ) (vs : List Word) → length ss ≡ length vs → stamps_of (written ss vs) ≡ ss
 stamps-written [] vs same = refl
@@ -18,25 +16,52 @@ stamps-written (s ∷ ss) (v ∷ vs) same = ap (λ (l : List ℕ). s ∷ l) (sta
 
 -- ---- values
 
+some-is : (a b : ℕ) → Some a ≡ Some b → a ≡ b
+some-is a b e = ap (λ (o : Option ℕ). unwrap_or o a) e
+
 -- the value after this number of writes, the base after none
 abbrev pub value_after : Word → List Word → ℕ → Word
 value_after base vs zero = base
 value_after base [] (suc n) = base
 value_after base (v ∷ vs) (suc n) = value_after v vs n
 
-pub value_after-at : (base d : Word) (vs : List Word) (n : ℕ) → 0 < n → n ≤ length vs → value_after base vs n ≡ get_or vs (n - 1) d
-value_after-at base d vs zero some within = absurd (omega arith)
-value_after-at base d [] (suc n) some within = absurd (omega arith)
-value_after-at base d (v ∷ vs) (suc zero) some within = refl
-value_after-at base d (v ∷ vs) (suc (suc n)) some within =
-    let next : suc (suc n) - 1 ≡ suc (suc n - 1) = omega arith in
-    rw next (value_after-at v d vs (suc n) (omega arith) (omega arith))
-
-pub last-written : (base : Word) (ss : List ℕ) (vs : List Word) → length ss ≡ length vs → last_of base (written ss vs) ≡ value_after base vs (length vs)
+last-written : (base : Word) (ss : List ℕ) (vs : List Word) → length ss ≡ length vs → last_of base (written ss vs) ≡ value_after base vs (length vs)
 last-written base [] [] same = refl
 last-written base [] (v ∷ vs) same = absurd (omega arith)
 last-written base (s ∷ ss) [] same = absurd (omega arith)
 last-written base (s ∷ ss) (v ∷ vs) same = last-written v ss vs (omega arith)
+
+-- what is told at the last of the first n stamps, or of one before them
+module _ (tells : ℕ → Option Word) where
+  told-from : (s : ℕ) (v : Word) (ss : List ℕ) (vs : List Word) (n : ℕ) → length ss ≡ length vs → tells s ≡ Some v → AreTold tells (written ss vs)
+      → tells (last_from s (take n ss)) ≡ Some (value_after v vs n)
+  told-from s v ss vs zero same here told = here
+  told-from s v [] [] (suc n) same here told = here
+  told-from s v [] (y ∷ ys) (suc n) same here told = absurd (omega arith)
+  told-from s v (x ∷ xs) [] (suc n) same here told = absurd (omega arith)
+  told-from s v (x ∷ xs) (y ∷ ys) (suc n) same here told = told-from x y xs ys n (omega arith) told.0 told.1
+
+  told-after : (base : Word) (ss : List ℕ) (vs : List Word) (n t : ℕ) → length ss ≡ length vs → AreTold tells (written ss vs) → last_stamp (take n ss) ≡ Some t
+      → tells t ≡ Some (value_after base vs n)
+  told-after base ss vs zero t same told last = absurd (cc)
+  told-after base [] vs (suc n) t same told last = absurd (cc)
+  told-after base (x ∷ xs) [] (suc n) t same told last = absurd (omega arith)
+  told-after base (x ∷ xs) (y ∷ ys) (suc n) t same told last =
+      let is : last_from x (take n xs) ≡ t = some-is (last_from x (take n xs)) t last in
+      rw (← is) (told-from x y xs ys n (omega arith) told.0 told.1)
+
+take-all : (ss : List ℕ) → take (length ss) ss ≡ ss
+take-all [] = refl
+take-all (s ∷ ss) = ap (λ (l : List ℕ). s ∷ l) (take-all ss)
+
+-- what is told is a word
+pub told-is : (o : Option Word) (v w : Word) → o ≡ Some v → o ≡ Some w → v ≡ w
+told-is None v w a b = absurd (cc)
+told-is (Some u) v w a b = ap (λ (o : Option Word). unwrap_or o v) (sym a ∙ b)
+
+pub some-told : (o : Option Word) (v : Word) → o ≡ Some v → IsSome o
+some-told None v e = absurd (cc)
+some-told (Some u) v e = refl
 
 module _ (order : List ℕ) where
   none_before : (s x : ℕ) (ss : List ℕ) (vs : List Word) → place s order ≤ place x order → IsBeforeAll order x ss → those_before order s (written ss vs) ≡ []
@@ -60,6 +85,17 @@ module _ (order : List ℕ) where
     | inl less ↦ rw (lt-ltb (place x order) (place s order) less) (last-before v s xs vs (omega arith) rising.2)
     | inr le ↦ rw (le-ltb (place x order) (place s order) le, none_before s x xs vs le rising.1, none_counted s x xs le rising.1) refl
   ]
+
+-- ---- what is told
+
+module _ (tells : ℕ → Option Word) (base : Word) (ss : List ℕ) (vs : List Word) (same : length ss ≡ length vs) (told : AreTold tells (written ss vs)) (t : ℕ) where
+  pub last-told : last_stamp ss ≡ Some t → tells t ≡ Some (last_of base (written ss vs))
+  last-told last = told-after tells base ss vs (length ss) t same told (ap last_stamp (take-all ss) ∙ last)
+      ∙ ap Some (ap (value_after base vs) same ∙ sym (last-written base ss vs same))
+
+  pub before-told : (order : List ℕ) (s : ℕ) → IsRising order ss → last_stamp (take (count_before order s ss) ss) ≡ Some t
+      → tells t ≡ Some (last_of base (those_before order s (written ss vs)))
+  before-told order s rising last = told-after tells base ss vs (count_before order s ss) t same told last ∙ ap Some (sym (last-before order base s ss vs same rising))
 
 -- ---- one more
 
@@ -101,40 +137,3 @@ as_many-without s (x ∷ xs) (v ∷ vs) same found = elim (eqb_tells x s) [
       let next : 1 + place s xs ≡ suc (place s xs) = omega arith in
       rw (p.0, next) (ap suc (as_many-without s xs vs (omega arith) (rw p.0 at found)))
 ]
-
--- ---- one more, and out again
-
-pub insert-without : (s i : ℕ) (ss : List ℕ) → is_in s ss ≡ false → without s (insert ss i s) ≡ ss
-insert-without s zero ss none = rw (eq-eqb s s refl) refl
-insert-without s (suc i) [] none = rw (eq-eqb s s refl) refl
-insert-without s (suc i) (x ∷ xs) none = elim (eqb_tells x s) [
-  | inl p ↦ absurd (let no : true ≡ false = rw p.0 at none in cc)
-  | inr p ↦ rw p.0 (ap (λ (l : List ℕ). x ∷ l) (insert-without s i xs (rw p.0 at none)))
-]
-
-pub in-inserted : (s i : ℕ) (ss : List ℕ) → is_in s (insert ss i s) ≡ true
-in-inserted s zero ss = rw (eq-eqb s s refl) refl
-in-inserted s (suc i) [] = rw (eq-eqb s s refl) refl
-in-inserted s (suc i) (x ∷ xs) = elim (eqb_tells x s) [ inl p ↦ rw p.0 refl | inr p ↦ rw p.0 (in-inserted s i xs) ]
-
--- ---- values that are packed
-
-pub packed-insert : (vs : List Packed) (i : ℕ) (v : Packed) → map word_of (insert vs i v) ≡ insert (map word_of vs) i (word_of v)
-packed-insert vs zero v = refl
-packed-insert [] (suc i) v = refl
-packed-insert (x ∷ xs) (suc i) v = ap (λ (l : List Word). word_of x ∷ l) (packed-insert xs i v)
-
-pub packed-remove : (vs : List Packed) (i : ℕ) → map word_of (remove vs i) ≡ remove (map word_of vs) i
-packed-remove [] zero = refl
-packed-remove [] (suc i) = refl
-packed-remove (x ∷ xs) zero = refl
-packed-remove (x ∷ xs) (suc i) = ap (λ (l : List Word). word_of x ∷ l) (packed-remove xs i)
-
-pub packed-get : (vs : List Packed) (i : ℕ) (d : Word) (v : Packed) → i < length vs → ((other : Packed) → get_or vs i other ≡ v) → get_or (map word_of vs) i d ≡ word_of v
-packed-get [] i d v within is = absurd (omega (arith, within))
-packed-get (x ∷ xs) zero d v within is = ap word_of (is v)
-packed-get (x ∷ xs) (suc i) d v within is = packed-get xs i d v (omega (arith, within)) is
-
--- as many stamps as values that are packed are as many as their words
-pub as_many-packed : (ss : List ℕ) (vs : List Packed) → length ss ≡ length vs → length ss ≡ length (map word_of vs)
-as_many-packed ss vs same = same ∙ sym (length-map vs word_of)

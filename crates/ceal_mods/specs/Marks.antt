@@ -9,6 +9,7 @@ use Rattle.ceal_base.specs.declared.word.Word.{Word}
 use Rattle.ceal_base.specs.declared.word.Word.TheVariants.{Num}
 use Rattle.ceal_order.specs.Stamps.{is_in, Distinct, AllBelow}
 use Rattle.ceal_mods.specs.Cell.{latest_value}
+use Rattle.ceal_mods.specs.Writes.{AreTold}
 use Rattle.ceal_mods.specs.Index.{cell_in, Indexes}
 use Rattle.ceal_mods.specs.declared.cell.Cell.{Cell}
 use Rattle.ceal_mods.specs.declared.index.Index.{Index}
@@ -21,6 +22,11 @@ ends_of (e ∷ es) = (e.0, latest_value e.1) ∷ ends_of es
 -- what a place held by these; one that is not among them held 0
 abbrev pub held_in : List (Place × Word) → Place → Word
 held_in ends p = unwrap_or (lookup (ghosts.eq p) ends) (Num (pos 0))
+
+-- the writes of each of these cells are told with their values
+abbrev pub CellsTold : (ℕ → Option Word) → List (Place × Cell) → Type 0
+CellsTold tells [] = ⊤
+CellsTold tells (e ∷ es) = AreTold tells e.1.writes × CellsTold tells es
 
 -- how often a place is among these
 abbrev pub times : Place → List Place → ℕ

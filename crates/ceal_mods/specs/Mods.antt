@@ -7,8 +7,9 @@ use Rattle.ceal_base.specs.declared.word.Place.{Place}
 use Rattle.ceal_base.specs.declared.word.Word.{Word}
 use Rattle.ceal_order.specs.Stamps.{is_in}
 use Rattle.ceal_order.specs.Rising.{KeepsOrder}
-use Rattle.ceal_mods.specs.Writes.{stamps_of}
+use Rattle.ceal_mods.specs.Writes.{stamps_of, AreTold}
 use Rattle.ceal_mods.specs.Cell.{untouched, Rises}
+use Rattle.ceal_mods.specs.Index.{where_from}
 use Rattle.ceal_mods.specs.Marks.{held_in}
 use Rattle.ceal_mods.specs.declared.cell.Cell.{Cell}
 
@@ -25,6 +26,10 @@ pub record Contents : Type 0 where
 abbrev pub cell_of : Contents → Place → Cell
 cell_of mods p = unwrap_or (lookup (ghosts.eq p) mods.cells) untouched
 
+-- where the cell of a place is among the cells, no slot where it has none
+abbrev pub cell_slot : Contents → Place → ℕ
+cell_slot mods p = where_from 0 p mods.cells
+
 -- the place was touched: what it holds has its room
 abbrev pub HasCell : Contents → Place → Type 0
 HasCell mods p = IsSome (lookup (ghosts.eq p) mods.cells)
@@ -36,6 +41,10 @@ held_at_mark mods p = held_in (unwrap_or mods.marked []) p
 -- nothing was set, written or read at any place
 abbrev pub IsUntouched : Contents → Type 0
 IsUntouched mods = (p : Place) → cell_of mods p ≡ untouched
+
+-- the writes of each place are told with their values
+abbrev pub AllTold : (ℕ → Option Word) → Contents → Type 0
+AllTold tells mods = (p : Place) → AreTold tells (cell_of mods p).writes
 
 -- the new contents have this cell at a place, and the others' cells, the look-ups and what was marked as the old ones
 pub record Changes (old new : Contents) (p : Place) (cell : Cell) : Type 0 where

@@ -1,5 +1,5 @@
 -- The writes of a place.
-use Rattle.std.specs.Prelude.{ℕ, Option, Some, None, List, [], ◌∷◌, nat_lt, insert, ◌==◌, if◌then◌else◌}
+use Rattle.std.specs.Prelude.{◌≡◌, ⊤, ℕ, Option, Some, None, List, [], ◌∷◌, nat_lt, insert, ◌==◌, if◌then◌else◌}
 use Rattle.ceal_base.specs.declared.word.Word.{Word}
 use Rattle.ceal_order.specs.Stamps.{place}
 use Rattle.ceal_order.specs.Rising.{count_before}
@@ -35,6 +35,11 @@ abbrev pub those_before : List ℕ → ℕ → List Write → List Write
 those_before order s [] = []
 those_before order s (w ∷ ws) =
     if nat_lt (place w.stamp order) (place s order) then w ∷ those_before order s ws else those_before order s ws
+
+-- each of these writes is told with its value
+abbrev pub AreTold : (ℕ → Option Word) → List Write → Type 0
+AreTold tells [] = ⊤
+AreTold tells (w ∷ ws) = (tells w.stamp ≡ Some w.value) × AreTold tells ws
 
 -- with one more, after those before it
 abbrev pub with_one : List ℕ → ℕ → Word → List Write → List Write

@@ -2,9 +2,11 @@
 
 ghost use Rattle.std.specs.Prelude.{◌≡◌, ℕ, [], IsTrue, IfSome, IfNone, IfOk};
 ghost use Rattle.ceal_order.specs.Stamps.{is_in};
+ghost use Rattle.ceal_mods.specs.Writes.{AreTold};
 ghost use Rattle.ceal_mods.specs.Cell.{untouched, latest_value, with_write, with_read, Rises, Sees, IsAffected};
 
 use crate::writes::Writes;
+use crate::written::Written;
 use ceal_base::no_memory::NoMemory;
 use ceal_base::word::Word;
 use ceal_order::order::Order;
@@ -68,10 +70,11 @@ impl Cell {
     }
 
     /// What it holds at the end.
-    pub fn end(&self) -> Word
+    pub fn end<W: Written>(&self, written: &W) -> Word
+        requires values { AreTold (W.tells written.now) self.now.writes }
         ensures { result ≡ latest_value self.now }
     {
-        self.writes.last(self.base)
+        self.writes.last(written, self.base)
     }
 
     /// The earliest read after a stamp that no write parts from it.

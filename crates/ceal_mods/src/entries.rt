@@ -69,6 +69,7 @@ pub fn remove_write_at(cells: &mut [(Place, Cell)], slot: u32, order: &Order, st
 }
 
 /// Puts a read into a cell.
+#[inline(always)]
 pub fn add_read_at(
     cells: &mut [(Place, Cell)],
     slot: u32,

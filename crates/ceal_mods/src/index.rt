@@ -28,6 +28,7 @@ pub struct Index {
 }
 
 impl Index {
+    /// No place has a cell.
     pub fn new(alloc: Global) -> Index
         ensures { (p : PlaceOf) → slot_of result p ≡ no_slot }
     {
@@ -39,6 +40,7 @@ impl Index {
     }
 
     /// The slot of a place.
+    #[inline(always)]
     pub fn find(&self, place: Place) -> u32
         ensures { result ≡ slot_of self.now place }
     {
@@ -71,6 +73,7 @@ impl Index {
     }
 
     /// Gives a place that has none a slot.
+    #[inline(always)]
     pub fn put(&mut self, place: Place, slot: u32) -> Result<(), NoMemory>
         requires absent { slot_of self.old place ≡ no_slot }
         requires slot { slot ≢ no_slot }

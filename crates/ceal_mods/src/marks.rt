@@ -1,11 +1,12 @@
 // What the places held at the end when they were marked, and where that may be otherwise since.
 
 ghost use Rattle.std.specs.Prelude.{◌≡◌, [], length, IfOk, OnOk, OnErr};
-ghost use Rattle.ceal_mods.specs.Marks.{Watches, noted, noted_in, ends_of, told, told_new};
+ghost use Rattle.ceal_mods.specs.Marks.{CellsTold, Watches, noted, noted_in, ends_of, told, told_new};
 ghost use Rattle.std.specs.Prelude.{◌++◌, drop};
 
 use crate::cell::Cell;
 use crate::ends::{add_ends, cells_from, renew_ends, tell_listed, tell_new};
+use crate::written::Written;
 use ceal_base::no_memory::NoMemory;
 use ceal_base::word::{Place, Word};
 use ceal_order::room::make_room;
@@ -63,8 +64,13 @@ impl Marks {
 
     /// Marks what the places of these cells hold at the end now. It goes through what is listed and the cells that came
     /// since.
-    pub fn renew(&mut self, cells: &[(Place, Cell)]) -> Result<(), NoMemory>
-        requires { Watches self.old cells.now }
+    pub fn renew<W: Written>(
+        &mut self,
+        written: &W,
+        cells: &[(Place, Cell)],
+    ) -> Result<(), NoMemory>
+        requires watched { Watches self.old cells.now }
+        requires values { CellsTold (W.tells written.now) cells.now }
         ensures ok { OnOk result (self.new ≡ record { ends = ends_of cells.now; slots = [] }) }
         ensures err { OnErr result (self.new ≡ self.old) }
     {
@@ -74,22 +80,39 @@ impl Marks {
         make_room(&mut self.listed, more)?;
         let room = cells.len().saturating_sub(self.slots.len());
         make_room(&mut self.slots, room)?;
-        renew_ends(&mut self.ends, &mut self.listed, &self.slots, cells);
+        renew_ends(
+            written,
+            &mut self.ends,
+            &mut self.listed,
+            &self.slots,
+            cells,
+        );
         self.slots.clear();
-        add_ends(&mut self.ends, &mut self.listed, cells_from(cells, marked));
+        add_ends(
+            written,
+            &mut self.ends,
+            &mut self.listed,
+            cells_from(cells, marked),
+        );
         Ok(())
     }
 
     /// The places of these cells that hold something else at the end than when they were marked.
-    pub fn changed(&self, alloc: Global, cells: &[(Place, Cell)]) -> Result<Vec<Place>, NoMemory>
-        requires { Watches self.now cells.now }
+    pub fn changed<W: Written>(
+        &self,
+        written: &W,
+        alloc: Global,
+        cells: &[(Place, Cell)],
+    ) -> Result<Vec<Place>, NoMemory>
+        requires watched { Watches self.now cells.now }
+        requires values { CellsTold (W.tells written.now) cells.now }
         ensures { IfOk result (λ places. places.items
             ≡ told self.now.ends cells.now self.now.slots
             ++ told_new (drop (length self.now.ends) cells.now)) }
     {
         let mut places = Vec::new(alloc);
-        tell_listed(&mut places, &self.ends, &self.slots, cells)?;
-        tell_new(&mut places, cells_from(cells, self.ends.len()))?;
+        tell_listed(written, &mut places, &self.ends, &self.slots, cells)?;
+        tell_new(written, &mut places, cells_from(cells, self.ends.len()))?;
         Ok(places)
     }
 }

@@ -1,18 +1,19 @@
 // The modifiables of all places.
 
-ghost use Rattle.std.specs.Prelude.{◌≡◌, ◌≢◌, ℕ, ◌<◌, ◌+◌, ◌-◌, ◌^◌, ◌++◌, ◌∷◌, [], List, None, Some, false, length};
+ghost use Rattle.std.specs.Prelude.{◌≡◌, ◌≢◌, ◌↔◌, ℕ, ◌<◌, ◌≤◌, ◌+◌, ◌-◌, ◌^◌, ◌++◌, ◌∷◌, [], List, None, Some, false};
 ghost use Rattle.std.specs.Prelude.{min, IsTrue, IsSome, IfSome, IfNone, IfOk, IsOk, OnOk, OnErr, is_some, vec_len};
-ghost use Rattle.std.specs.Prelude.{vec_capacity};
+ghost use Rattle.std.specs.Prelude.{length, vec_capacity};
 ghost use Rattle.std.specs.Map.{lookup};
 ghost use Rattle.ceal_base.specs.contracts.word.PlacePartialEq.TheImpl.{ghosts};
 ghost use Rattle.ceal_base.specs.declared.word.Place.{Place as PlaceOf};
 ghost use Rattle.ceal_order.specs.Stamps.{is_in};
-ghost use Rattle.ceal_mods.specs.Writes.{stamps_of};
+ghost use Rattle.ceal_mods.specs.Writes.{stamps_of, AreTold};
 ghost use Rattle.ceal_mods.specs.Cell.{untouched, value_before, latest_value, with_base, with_write, without_write};
 ghost use Rattle.ceal_mods.specs.Cell.{with_read, without_read, Sees, IsAffected};
 ghost use Rattle.ceal_mods.specs.Index.{where_from, slot_of, Indexes};
-ghost use Rattle.ceal_mods.specs.Mods.{cell_of, held_at_mark, HasCell, IsUntouched, Changes, Follows};
-ghost use Rattle.ceal_mods.specs.Marks.{ends_of, times};
+ghost use Rattle.ceal_mods.specs.Mods.{AllTold, cell_of, cell_slot, held_at_mark, HasCell, IsUntouched, Changes};
+ghost use Rattle.ceal_mods.specs.Mods.{Follows};
+ghost use Rattle.ceal_mods.specs.Marks.{CellsTold, ends_of, times};
 ghost use Rattle.ceal_mods.specs.Slots.{no_slot};
 
 use crate::cell::Cell;
@@ -22,6 +23,7 @@ use crate::entries::{
 use crate::index::Index;
 use crate::marks::{Marks, note};
 use crate::slots::NO_SLOT;
+use crate::written::Written;
 use ceal_base::no_memory::NoMemory;
 use ceal_base::word::{Place, Word};
 use ceal_order::order::Order;
@@ -102,6 +104,7 @@ impl Mods {
 
     /// Sets what a place that was never touched holds before any write, and answers true. A place that was touched is
     /// left as it is, and the answer is false.
+    #[inline(always)]
     pub fn begin(&mut self, place: Place, value: Word) -> Result<bool, NoMemory>
         ensures untouched { IfOk result
             (λ begun. IsTrue begun → cell_of self.old place ≡ untouched) }
@@ -123,20 +126,23 @@ impl Mods {
         Ok(true)
     }
 
-    /// Puts in a write of a place at a stamp where the place has none.
+    /// Puts in a write of a place at a stamp where the place has none, and says where the cell
+    /// of the place is then.
+    #[inline(always)]
     pub fn add_write(
         &mut self,
         order: &Order,
         place: Place,
         stamp: Stamp,
         value: Word,
-    ) -> Result<(), NoMemory>
+    ) -> Result<u32, NoMemory>
         requires here { IsTrue (is_in stamp.0 order.now.stamps) }
         requires follows { Follows order.now.stamps self.old }
         requires absent { is_in stamp.0 (stamps_of (cell_of self.old place).writes) ≡ false }
         ensures ok { OnOk result
             (Changes self.old self.new place
             (with_write order.now.stamps stamp.0 value (cell_of self.old place))) }
+        ensures slot { IfOk result (λ slot. slot ≡ cell_slot self.new place) }
         ensures err { OnErr result (self.new ≡ self.old) }
         ensures follows { Follows order.now.stamps self.new }
     {
@@ -144,20 +150,23 @@ impl Mods {
         if slot != NO_SLOT {
             note(&mut self.marks, slot);
             add_write_at(&mut self.cells, slot, order, stamp, value)?;
-            return Ok(());
+            return Ok(slot);
         }
         let cell = Cell::written(self.alloc, order, stamp, value)?;
+        let made = self.cells.len() as u32;
         enter(&mut self.cells, &mut self.index, place, cell)?;
-        Ok(())
+        Ok(made)
     }
 
-    /// Takes out the write of a place at a stamp where the place has one.
-    pub fn remove_write(&mut self, order: &Order, place: Place, stamp: Stamp)
+    /// Takes out the write of a place at a stamp where the place has one, and says where the
+    /// cell of the place is.
+    pub fn remove_write(&mut self, order: &Order, place: Place, stamp: Stamp) -> u32
         requires here { IsTrue (is_in stamp.0 order.now.stamps) }
         requires follows { Follows order.now.stamps self.old }
         requires there { IsTrue (is_in stamp.0 (stamps_of (cell_of self.old place).writes)) }
         ensures cell { Changes self.old self.new place
             (without_write stamp.0 (cell_of self.old place)) }
+        ensures slot { result ≡ cell_slot self.new place }
         ensures follows { Follows order.now.stamps self.new }
     {
         let slot = self.index.find(place);
@@ -165,9 +174,11 @@ impl Mods {
             note(&mut self.marks, slot);
             remove_write_at(&mut self.cells, slot, order, stamp);
         }
+        slot
     }
 
     /// Puts in a read of a place at a stamp where the place has none.
+    #[inline(always)]
     pub fn add_read(&mut self, order: &Order, place: Place, stamp: Stamp) -> Result<(), NoMemory>
         requires here { IsTrue (is_in stamp.0 order.now.stamps) }
         requires follows { Follows order.now.stamps self.old }
@@ -178,7 +189,30 @@ impl Mods {
         ensures err { OnErr result (self.new ≡ self.old) }
         ensures follows { Follows order.now.stamps self.new }
     {
-        let slot = self.index.find(place);
+        let slot = self.slot(place);
+        self.add_read_in(order, slot, place, stamp)?;
+        Ok(())
+    }
+
+    /// The same, of a place whose slot is known.
+    #[inline(always)]
+    pub fn add_read_in(
+        &mut self,
+        order: &Order,
+        slot: u32,
+        place: Place,
+        stamp: Stamp,
+    ) -> Result<(), NoMemory>
+        requires slot { slot ≡ cell_slot self.old place }
+        requires here { IsTrue (is_in stamp.0 order.now.stamps) }
+        requires follows { Follows order.now.stamps self.old }
+        requires absent { is_in stamp.0 (cell_of self.old place).reads ≡ false }
+        ensures ok { OnOk result
+            (Changes self.old self.new place
+            (with_read order.now.stamps stamp.0 (cell_of self.old place))) }
+        ensures err { OnErr result (self.new ≡ self.old) }
+        ensures follows { Follows order.now.stamps self.new }
+    {
         if slot != NO_SLOT {
             add_read_at(&mut self.cells, slot, order, stamp)?;
             return Ok(());
@@ -203,22 +237,72 @@ impl Mods {
         }
     }
 
+    /// Where the cell of a place is, if it has one. It stays there, whatever is set, put in or taken out.
+    #[inline(always)]
+    pub fn slot(&self, place: Place) -> u32
+        ensures { result ≡ cell_slot self.now place }
+    {
+        self.index.find(place)
+    }
+
+    /// Whether a place has a cell. One that has none holds 0.
+    #[inline(always)]
+    pub fn has_cell(&self, place: Place) -> bool
+        ensures { IsTrue result ↔ HasCell self.now place }
+    {
+        self.index.find(place) != NO_SLOT
+    }
+
     /// What a place holds at a stamp, which counts as one look-up.
     #[inline]
-    pub fn value_at(&mut self, order: &Order, place: Place, stamp: Stamp) -> Word
+    pub fn value_at<W: Written>(
+        &mut self,
+        order: &Order,
+        written: &W,
+        place: Place,
+        stamp: Stamp,
+    ) -> Word
         requires here { IsTrue (is_in stamp.0 order.now.stamps) }
         requires follows { Follows order.now.stamps self.old }
+        requires values { AreTold (W.tells written.now) (cell_of self.old place).writes }
         ensures value { result ≡ value_before order.now.stamps stamp.0 (cell_of self.old place) }
         ensures looked { self.new.looked ≡ min (self.old.looked + 1) (2 ^ 64 - 1) }
+        ensures no_fewer { self.old.looked ≤ self.new.looked }
+        ensures differed { self.new.differed ≡ self.old.differed }
+        ensures cells { self.new.cells ≡ self.old.cells }
+        ensures marked { self.new.marked ≡ self.old.marked }
+        ensures follows { Follows order.now.stamps self.new }
+    {
+        let slot = self.slot(place);
+        self.value_in(order, written, slot, place, stamp)
+    }
+
+    /// The same, of a place whose slot is known.
+    #[inline(always)]
+    pub fn value_in<W: Written>(
+        &mut self,
+        order: &Order,
+        written: &W,
+        slot: u32,
+        place: Place,
+        stamp: Stamp,
+    ) -> Word
+        requires slot { slot ≡ cell_slot self.old place }
+        requires here { IsTrue (is_in stamp.0 order.now.stamps) }
+        requires follows { Follows order.now.stamps self.old }
+        requires values { AreTold (W.tells written.now) (cell_of self.old place).writes }
+        ensures value { result ≡ value_before order.now.stamps stamp.0 (cell_of self.old place) }
+        ensures looked { self.new.looked ≡ min (self.old.looked + 1) (2 ^ 64 - 1) }
+        ensures no_fewer { self.old.looked ≤ self.new.looked }
         ensures differed { self.new.differed ≡ self.old.differed }
         ensures cells { self.new.cells ≡ self.old.cells }
         ensures marked { self.new.marked ≡ self.old.marked }
         ensures follows { Follows order.now.stamps self.new }
     {
         self.looked = self.looked.saturating_add(1);
-        match found(&self.cells, &self.index, place) {
+        match found_in(&self.cells, slot, place) {
             None => Word::Num(0),
-            Some(cell) => cell.writes.before(order, stamp, cell.base),
+            Some(cell) => cell.writes.before(order, written, stamp, cell.base),
         }
     }
 
@@ -232,6 +316,7 @@ impl Mods {
     /// Counts that a value which was looked up differed from what had been recorded of it.
     pub fn count_differed(&mut self)
         ensures differed { self.new.differed ≡ min (self.old.differed + 1) (2 ^ 64 - 1) }
+        ensures no_fewer { self.old.differed ≤ self.new.differed }
         ensures looked { self.new.looked ≡ self.old.looked }
         ensures cells { self.new.cells ≡ self.old.cells }
         ensures marked { self.new.marked ≡ self.old.marked }
@@ -247,19 +332,33 @@ impl Mods {
     }
 
     /// What a place holds at the end.
-    pub fn last_value(&self, place: Place) -> Word
+    #[inline(always)]
+    pub fn last_value<W: Written>(&self, written: &W, place: Place) -> Word
+        requires values { AreTold (W.tells written.now) (cell_of self.now place).writes }
         ensures { result ≡ latest_value (cell_of self.now place) }
     {
-        match found(&self.cells, &self.index, place) {
+        let slot = self.slot(place);
+        self.last_in(written, slot, place)
+    }
+
+    /// The same, of a place whose slot is known.
+    #[inline(always)]
+    pub fn last_in<W: Written>(&self, written: &W, slot: u32, place: Place) -> Word
+        requires slot { slot ≡ cell_slot self.now place }
+        requires values { AreTold (W.tells written.now) (cell_of self.now place).writes }
+        ensures { result ≡ latest_value (cell_of self.now place) }
+    {
+        match found_in(&self.cells, slot, place) {
             None => Word::Num(0),
-            Some(cell) => cell.end(),
+            Some(cell) => cell.end(written),
         }
     }
 
     /// From now on `changed` compares what places hold at the end with what they hold now. The first time it goes
     /// through all cells, and takes room for them; later it goes through those that were made, or may have changed,
     /// since.
-    pub fn mark(&mut self) -> Result<(), NoMemory>
+    pub fn mark<W: Written>(&mut self, written: &W) -> Result<(), NoMemory>
+        requires values { AllTold (W.tells written.now) self.old }
         ensures marked { OnOk result (IsSome self.new.marked) }
         ensures held { OnOk result ((p : PlaceOf)
             → held_at_mark self.new p ≡ latest_value (cell_of self.new p)) }
@@ -269,9 +368,9 @@ impl Mods {
         ensures err { OnErr result (self.new ≡ self.old) }
     {
         match &mut self.marks {
-            Some(marks) => marks.renew(&self.cells),
+            Some(marks) => marks.renew(written, &self.cells),
             None => {
-                self.marks = Some(first_marks(self.alloc, &self.cells)?);
+                self.marks = Some(first_marks(written, self.alloc, &self.cells)?);
                 Ok(())
             }
         }
@@ -286,7 +385,8 @@ impl Mods {
 
     /// The places that hold something else at the end than when `mark` was called last; one that had not been touched
     /// by then held 0. It goes through the cells that were made, or may have changed, since.
-    pub fn changed(&self) -> Result<Vec<Place>, NoMemory>
+    pub fn changed<W: Written>(&self, written: &W) -> Result<Vec<Place>, NoMemory>
+        requires values { AllTold (W.tells written.now) self.now }
         requires marked { IsSome self.now.marked }
         ensures told { IfOk result (λ places. (p : PlaceOf)
             → latest_value (cell_of self.now p) ≢ held_at_mark self.now p
@@ -297,7 +397,7 @@ impl Mods {
     {
         match &self.marks {
             None => unreachable!(),
-            Some(marks) => marks.changed(self.alloc, &self.cells),
+            Some(marks) => marks.changed(written, self.alloc, &self.cells),
         }
     }
 
@@ -311,7 +411,23 @@ impl Mods {
         ensures none { IfNone result
             ((read : ℕ) → ¬ Sees order.now.stamps (cell_of self.now place) after.0 read) }
     {
-        match found(&self.cells, &self.index, place) {
+        let slot = self.slot(place);
+        self.affected_in(order, slot, place, after)
+    }
+
+    /// The same, of a place whose slot is known.
+    #[inline]
+    pub fn affected_in(&self, order: &Order, slot: u32, place: Place, after: Stamp) -> Option<Stamp>
+        requires slot { slot ≡ cell_slot self.now place }
+        requires here { IsTrue (is_in after.0 order.now.stamps) }
+        requires follows { Follows order.now.stamps self.now }
+        ensures some { IfSome result
+            (λ read. IsAffected order.now.stamps (cell_of self.now place) after.0 read.0) }
+        ensures here { IfSome result (λ read. IsTrue (is_in read.0 order.now.stamps)) }
+        ensures none { IfNone result
+            ((read : ℕ) → ¬ Sees order.now.stamps (cell_of self.now place) after.0 read) }
+    {
+        match found_in(&self.cells, slot, place) {
             None => None,
             Some(cell) => cell.affected(order, after),
         }
@@ -319,11 +435,16 @@ impl Mods {
 }
 
 // What the places of these cells hold at the end.
-fn first_marks(alloc: Global, cells: &[(Place, Cell)]) -> Result<Marks, NoMemory>
+fn first_marks<W: Written>(
+    written: &W,
+    alloc: Global,
+    cells: &[(Place, Cell)],
+) -> Result<Marks, NoMemory>
+    requires { CellsTold (W.tells written.now) cells.now }
     ensures { IfOk result (λ marks. marks ≡ record { ends = ends_of cells.now; slots = [] }) }
 {
     let mut marks = Marks::new(alloc);
-    match marks.renew(cells) {
+    match marks.renew(written, cells) {
         Ok(()) => Ok(marks),
         Err(error) => {
             drop(marks);
@@ -332,13 +453,14 @@ fn first_marks(alloc: Global, cells: &[(Place, Cell)]) -> Result<Marks, NoMemory
     }
 }
 
-// The cell of a place.
-fn found<'a>(cells: &'a [(Place, Cell)], index: &Index, place: Place) -> Option<&'a Cell>
-    requires { Indexes index.now cells.now }
+// The cell of a place, which is at this slot.
+#[inline(always)]
+fn found_in<'a>(cells: &'a [(Place, Cell)], slot: u32, place: Place) -> Option<&'a Cell>
+    requires few { length cells.now ≤ no_slot }
+    requires slot { slot ≡ where_from 0 place cells.now }
     ensures some { IfSome result (λ c. lookup (ghosts.eq place) cells.now ≡ Some c.now) }
     ensures none { IfNone result (lookup (ghosts.eq place) cells.now ≡ None) }
 {
-    let slot = index.find(place);
     if slot == NO_SLOT {
         return None;
     }
@@ -372,6 +494,7 @@ fn enter(
 
 // Gives a place that has no cell one with this base. Most cells begin so; it is made when it has its slot, so that it
 // is moved once.
+#[inline(always)]
 fn enter_base(
     cells: &mut Vec<(Place, Cell)>,
     index: &mut Index,
@@ -392,6 +515,7 @@ fn enter_base(
 }
 
 // Makes room for one more cell, to which the index then leads from a place that has none.
+#[inline(always)]
 fn make_slot(
     cells: &mut Vec<(Place, Cell)>,
     index: &mut Index,

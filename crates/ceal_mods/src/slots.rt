@@ -25,6 +25,7 @@ impl Model for Row {
 }
 
 impl Row {
+    /// A row in which nothing was set.
     pub fn new(alloc: Global) -> Row
         ensures { result ≡ [] }
     {
@@ -33,6 +34,7 @@ impl Row {
         }
     }
 
+    /// The number that was set there, or none.
     pub fn get(&self, at: u32) -> u32
         ensures { result ≡ slot_at self.now at }
     {
@@ -43,6 +45,7 @@ impl Row {
     }
 
     /// Sets a slot; the row grows up to it. Numbers mostly come one after another, so the next one is put at the end.
+    #[inline(always)]
     pub fn set(&mut self, at: u32, slot: u32) -> Result<(), NoMemory>
         ensures here { OnOk result (slot_at self.new at ≡ slot) }
         ensures others { (n : ℕ) → n ≢ at → slot_at self.new n ≡ slot_at self.old n }
@@ -76,6 +79,7 @@ impl Model for Sheet {
 }
 
 impl Sheet {
+    /// A sheet without rows.
     pub fn new(alloc: Global) -> Sheet
         ensures { result ≡ [] }
     {
@@ -84,6 +88,7 @@ impl Sheet {
         }
     }
 
+    /// The number that was set there, or none.
     pub fn get(&self, row: u32, at: u32) -> u32
         ensures { result ≡ slot_in self.now row at }
     {
@@ -107,7 +112,7 @@ impl Sheet {
 }
 
 // Sees to it that there are at least `count` rows.
-#[inline]
+#[inline(always)]
 fn make_rows(rows: &mut Vec<Row>, count: usize) -> Result<(), NoMemory>
     ensures same { SameSlots rows.old.items rows.new.items }
     ensures enough { OnOk result (count ≤ length rows.new.items) }

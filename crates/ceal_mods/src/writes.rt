@@ -1,37 +1,37 @@
-// The writes of a place, in a list of stamps and one of values.
+// The writes of a place: a list of stamps, whose values only the proofs know.
 
 ghost use Rattle.std.specs.Prelude.{◌≡◌, [], false, OnOk, OnErr, IsTrue, IfSome, IfNone};
 ghost use Rattle.ceal_order.specs.Stamps.{is_in};
 ghost use Rattle.ceal_order.specs.Rising.{IsRising, IsFirstAfter, NoneAfter};
-ghost use Rattle.ceal_mods.specs.Writes.{stamps_of, last_of, those_before, with_one, without_one};
+ghost use Rattle.ceal_mods.specs.Writes.{stamps_of, last_of, those_before, with_one, without_one, AreTold};
 
+use crate::values::Values;
+use crate::written::Written;
 use ceal_base::no_memory::NoMemory;
 use ceal_base::word::Word;
 use ceal_order::order::Order;
-use ceal_order::packed::Packed;
 use ceal_order::rising::Rising;
-use ceal_order::short_list::ShortList;
 use ceal_order::stamp::Stamp;
 use std::alloc::Global;
 use std::marker::Model;
 
-/// Writes, whose stamps rise along the order that each call is handed. Contracts see each with its value.
+/// Writes, whose stamps rise along the order that each call is handed. Contracts see each with its value, which the
+/// caller tells where it is asked for.
 #[derive(Drop)]
 pub struct Writes {
     stamps: Rising,
-    values: ShortList<Packed>,
+    values: Values,
 }
 
 impl Model for Writes {
-    ghost use Rattle.std.specs.Prelude.{◌≡◌, List, length, map};
-    ghost use Rattle.ceal_order.specs.Packed.{word_of};
+    ghost use Rattle.std.specs.Prelude.{◌≡◌, List, length};
     ghost use Rattle.ceal_mods.specs.Writes.{Write, written};
 
     ghost Value = { List Write };
 
-    ghost view = { λ w. written w.stamps (map word_of w.values) };
+    ghost view = { λ w. written w.stamps w.values.list };
 
-    ghost invariant = { λ w. length w.stamps ≡ length w.values };
+    ghost invariant = { λ w. length w.stamps ≡ length w.values.list };
 }
 
 impl Writes {
@@ -41,33 +41,33 @@ impl Writes {
     {
         Writes {
             stamps: Rising::new(alloc),
-            values: ShortList::new(alloc),
+            values: Values::new(),
         }
     }
 
     /// The value of the latest write before a stamp, the base where there is none.
-    pub fn before(&self, order: &Order, stamp: Stamp, base: Word) -> Word
+    #[inline]
+    pub fn before<W: Written>(&self, order: &Order, written: &W, stamp: Stamp, base: Word) -> Word
         requires here { IsTrue (is_in stamp.0 order.now.stamps) }
         requires rising { IsRising order.now.stamps (stamps_of self.now) }
+        requires values { AreTold (W.tells written.now) self.now }
         ensures { result ≡ last_of base (those_before order.now.stamps stamp.0 self.now) }
     {
-        let count = self.stamps.count_before(order, stamp);
-        if count == 0 {
-            base
-        } else {
-            self.values.get(count - 1).word()
+        match self.stamps.last_before(order, stamp) {
+            None => base,
+            Some(write) => written.written_at(write),
         }
     }
 
     /// The value of the latest write, the base where there is none.
-    pub fn last(&self, base: Word) -> Word
+    #[inline(always)]
+    pub fn last<W: Written>(&self, written: &W, base: Word) -> Word
+        requires values { AreTold (W.tells written.now) self.now }
         ensures { result ≡ last_of base self.now }
     {
-        let count = self.values.len();
-        if count == 0 {
-            base
-        } else {
-            self.values.get(count - 1).word()
+        match self.stamps.last() {
+            None => base,
+            Some(write) => written.written_at(write),
         }
     }
 
@@ -83,7 +83,8 @@ impl Writes {
         self.stamps.first_after(order, stamp)
     }
 
-    /// Puts in a write at a stamp that has none.
+    /// Puts in a write at a stamp that has none. Its value is not kept: the caller tells it later, by its stamp.
+    #[inline(always)]
     pub fn add(&mut self, order: &Order, stamp: Stamp, value: Word) -> Result<(), NoMemory>
         requires here { IsTrue (is_in stamp.0 order.now.stamps) }
         requires rising { IsRising order.now.stamps (stamps_of self.old) }
@@ -93,13 +94,8 @@ impl Writes {
         ensures rising { IsRising order.now.stamps (stamps_of self.new) }
     {
         let at = self.stamps.insert(order, stamp)?;
-        match self.values.insert(at, Packed::of(value)) {
-            Ok(()) => Ok(()),
-            Err(error) => {
-                self.stamps.remove(order, stamp);
-                Err(error)
-            }
-        }
+        self.values.insert(at, &value);
+        Ok(())
     }
 
     /// Takes out the write at a stamp that has one.

@@ -64,6 +64,7 @@ impl<'a> Model for Plan<'a> {
 }
 
 impl<'a> Plan<'a> {
+    /// Which blocks of a graph begin a unit.
     pub fn new(alloc: Global, graph: &'a Graph, live: &'a LiveSets) -> Result<Plan<'a>, NoMemory>
         requires graph { IsGraph graph.now }
         ensures value { IfOk result (λ p. p ≡ record { graph = graph.now; live = live.now }) }
@@ -76,6 +77,7 @@ impl<'a> Plan<'a> {
         })
     }
 
+    /// The functions of the graph.
     pub fn functions(&self) -> &[GraphFunction]
         ensures value { result.now ≡ self.now.graph.functions }
     {
@@ -91,6 +93,7 @@ impl<'a> Plan<'a> {
         function_at(self.graph.functions(), f)
     }
 
+    /// The blocks of the graph.
     pub fn blocks(&self) -> &[GraphBlock]
         ensures value { result.now ≡ self.now.graph.blocks }
     {
@@ -116,6 +119,7 @@ impl<'a> Plan<'a> {
         entry_at(self.entries.as_slice(), b)
     }
 
+    /// Whether a unit begins at a block.
     pub fn is_entry(&self, b: u32) -> bool
         requires there { b < length self.now.graph.blocks }
         ensures value { result ≡ is_entry self.now.graph b }

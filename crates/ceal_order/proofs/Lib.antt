@@ -15,4 +15,6 @@ pub mod Powers
 pub mod Neighbours
 pub mod Spreading
 pub mod TreeLemmas
+pub mod Balance
 pub mod Parts
+pub mod LastStamps

@@ -57,3 +57,6 @@ remove-only (y ∷ z ∷ zs) i one less = absurd (omega arith)
 pub remove-fork : {A : Type 0} (xs ys zs : List A) (k i : ℕ) → k ≡ length xs + i → i < length ys → length ys ≡ 1 → remove (xs ++ ys ++ zs) k ≡ xs ++ zs
 remove-fork {A} xs ys zs k i is less one =
     remove-middle xs ys zs k i is less ∙ ap (λ (l : List A). l ++ zs) (ap (λ (l : List A). xs ++ l) (remove-only ys i one (omega arith)) ∙ append_none xs)
+
+pub remove-early : {A : Type 0} (xs ys zs : List A) (i : ℕ) → i < length xs → remove (xs ++ ys ++ zs) i ≡ remove xs i ++ ys ++ zs
+remove-early {A} xs ys zs i less = remove-front (xs ++ ys) zs i (omega (arith, length-append xs ys)) ∙ ap (λ (l : List A). l ++ zs) (remove-front xs ys i less)

@@ -1,5 +1,6 @@
 -- Stamps that rise along an order.
-use Rattle.std.specs.Prelude.{◌≡◌, ◌<◌, ◌≤◌, ℕ, suc, List, [], ◌∷◌, true, nat_lt, length, slice_index, if◌then◌else◌}
+use Rattle.std.specs.Prelude.{◌≡◌, ◌<◌, ◌≤◌, ℕ, suc, List, [], ◌∷◌, true, nat_lt, length, slice_index}
+use Rattle.std.specs.Prelude.{Option, Some, None, if◌then◌else◌}
 use Rattle.ceal_order.specs.declared.stamp.Stamp.{Stamp}
 use Rattle.ceal_order.specs.Stamps.{is_in, place}
 
@@ -23,6 +24,16 @@ abbrev pub count_before : List ℕ → ℕ → List ℕ → ℕ
 count_before order s [] = 0
 count_before order s (t ∷ ts) =
     if nat_lt (place t order) (place s order) then suc (count_before order s ts) else count_before order s ts
+
+-- the last of a stamp and these after it
+abbrev pub last_from : ℕ → List ℕ → ℕ
+last_from s [] = s
+last_from s (t ∷ ts) = last_from t ts
+
+-- the last of these, None where there are none
+abbrev pub last_stamp : List ℕ → Option ℕ
+last_stamp [] = None
+last_stamp (s ∷ ss) = Some (last_from s ss)
 
 -- of these stamps the nearest one after a stamp
 pub record IsFirstAfter (order stamps : List ℕ) (s next : ℕ) : Type 0 where

@@ -1,7 +1,9 @@
 // Items put into a tree of chunks, and taken out of it.
 
-ghost use Rattle.std.specs.Prelude.{◌≡◌, ◌<◌, ◌≤◌, ◌++◌, [], length, insert, remove, IfOk, OnOk, OnErr};
-ghost use Rattle.ceal_order.specs.Tree.{items_of, IsCounted};
+ghost use Rattle.std.specs.Prelude.{◌≡◌, ◌<◌, ◌≤◌, ◌+◌, ◌++◌, max, min, [], length, insert, remove, IfOk, OnOk, OnErr};
+ghost use Rattle.std.specs.Prelude.{vec_len, vec_capacity};
+ghost use Rattle.ceal_order.specs.Tree.{items_of, forks_of, depth_of, AreNear, IsCounted, IsChunk};
+ghost use Rattle.ceal_order.specs.Tree.{IsBalanced, GrowsByOne, first_or};
 
 use crate::tree::{
     CHUNK_ITEMS, Fork, HALF_CHUNK, Tree, count, forked, joined, merged, taken_first,
@@ -29,11 +31,18 @@ pub fn with_item<T: Copy>(
     item: T,
 ) -> (Tree<T>, Result<(), NoMemory>)
     requires counted { IsCounted tree }
+    requires balanced { IsBalanced tree }
     requires few { length (items_of tree) ≤ 18446744073709551615 }
     requires within { index < length (items_of tree) }
     ensures ok { OnOk result.1 (items_of result.0 ≡ insert (items_of tree) index item) }
     ensures err { OnErr result.1 (items_of result.0 ≡ items_of tree) }
     ensures counted { IsCounted result.0 }
+    ensures balanced { IsBalanced result.0 }
+    ensures low { depth_of result.0 ≤ 1 + depth_of tree }
+    ensures high { depth_of tree ≤ depth_of result.0 }
+    ensures forks { forks_of result.0 ≤ 1 + forks_of tree }
+    ensures kept { forks_of result.0 + vec_len spares.new ≡ forks_of tree + vec_len spares.old }
+    ensures capacity { vec_capacity spares.new ≡ vec_capacity spares.old }
 {
     match tree {
         Tree::Empty => unreachable!(),
@@ -69,6 +78,11 @@ fn with_item_here<T: Copy>(
 ) -> (Tree<T>, Result<(), NoMemory>)
     requires earlier { IsCounted opened.earlier }
     requires later { IsCounted opened.later }
+    requires chunk { IsChunk opened.fork.value.items.items }
+    requires earlier_balanced { IsBalanced opened.earlier }
+    requires later_balanced { IsBalanced opened.later }
+    requires near { AreNear (depth_of opened.earlier) (depth_of opened.later) }
+    requires few { forks_of opened.earlier + forks_of opened.later < 18446744073709551615 }
     requires within { index < length opened.fork.value.items.items }
     ensures ok { OnOk result.1 (items_of result.0
         ≡ items_of opened.earlier ++ insert opened.fork.value.items.items index item
@@ -76,6 +90,13 @@ fn with_item_here<T: Copy>(
     ensures err { OnErr result.1 (items_of result.0
         ≡ items_of opened.earlier ++ opened.fork.value.items.items ++ items_of opened.later) }
     ensures counted { IsCounted result.0 }
+    ensures balanced { IsBalanced result.0 }
+    ensures low { depth_of result.0 ≤ 2 + max (depth_of opened.earlier) (depth_of opened.later) }
+    ensures high { 1 + max (depth_of opened.earlier) (depth_of opened.later) ≤ depth_of result.0 }
+    ensures forks { forks_of result.0 ≤ 2 + forks_of opened.earlier + forks_of opened.later }
+    ensures kept { forks_of result.0 + vec_len spares.new
+        ≡ 1 + forks_of opened.earlier + forks_of opened.later + vec_len spares.old }
+    ensures capacity { vec_capacity spares.new ≡ vec_capacity spares.old }
 {
     let earlier = opened.earlier;
     let mut fork = opened.fork;
@@ -118,6 +139,9 @@ pub fn put_in_one<T: Copy>(
         ≡ insert (first.old.items ++ second.old.items) index item) }
     ensures err { OnErr result (first.new.items ++ second.new.items
         ≡ first.old.items ++ second.old.items) }
+    ensures first { GrowsByOne first.old.items first.new.items }
+    ensures past { length first.old.items ≤ index → first.new.items ≡ first.old.items }
+    ensures second { GrowsByOne second.old.items second.new.items }
 {
     let here = first.len();
     if index < here {
@@ -136,17 +160,31 @@ fn second_half<T: Copy>(
     requires { 32 ≤ length items.old.items }
     ensures ok { IfOk result
         (λ second. items.new.items ++ second.value.items.items ≡ items.old.items) }
+    ensures half { OnOk result (length items.new.items ≡ 32) }
     ensures err { OnErr result (items.new.items ≡ items.old.items) }
+    ensures taken { OnOk result (vec_len spares.new + 1 ≡ vec_len spares.old) }
+    ensures kept { OnErr result (vec_len spares.new ≡ vec_len spares.old) }
+    ensures capacity { vec_capacity spares.new ≡ vec_capacity spares.old }
 {
     let mut second = taken_spare(spares)?;
-    second.items.extend_from_slice(&items[HALF_CHUNK..])?;
-    items.truncate(HALF_CHUNK);
-    Ok(second)
+    match second.items.extend_from_slice(&items[HALF_CHUNK..]) {
+        Ok(()) => {
+            items.truncate(HALF_CHUNK);
+            Ok(second)
+        }
+        Err(_refused) => {
+            spares.push_reserved(second);
+            Err(NoMemory)
+        }
+    }
 }
 
 // A spare fork, where there is one. It has no items.
 fn taken_spare<T: Copy>(spares: &mut Vec<Box<Fork<T>>>) -> Result<Box<Fork<T>>, NoMemory>
-    ensures { IfOk result (λ fork. fork.value.items.items ≡ []) }
+    ensures items { IfOk result (λ fork. fork.value.items.items ≡ []) }
+    ensures taken { OnOk result (vec_len spares.new + 1 ≡ vec_len spares.old) }
+    ensures kept { OnErr result (vec_len spares.new ≡ vec_len spares.old) }
+    ensures capacity { vec_capacity spares.new ≡ vec_capacity spares.old }
 {
     match spares.pop() {
         None => Err(NoMemory),
@@ -167,7 +205,13 @@ pub fn front_part<T: Copy>(
     requires { 32 ≤ length items.old.items }
     ensures ok { IfOk result
         (λ front. front.value.items.items ++ items.new.items ≡ items.old.items) }
+    ensures half { IfOk result
+        (λ front. (index < 64 → length front.value.items.items ≡ 32)
+        × (64 ≤ index → front.value.items.items ≡ items.old.items)) }
     ensures err { OnErr result (items.new.items ≡ items.old.items) }
+    ensures taken { OnOk result (vec_len spares.new + 1 ≡ vec_len spares.old) }
+    ensures kept { OnErr result (vec_len spares.new ≡ vec_len spares.old) }
+    ensures capacity { vec_capacity spares.new ≡ vec_capacity spares.old }
 {
     let mut front = if index < CHUNK_ITEMS {
         second_half(spares, items)?
@@ -178,14 +222,27 @@ pub fn front_part<T: Copy>(
     Ok(front)
 }
 
-/// The tree without the item at an index. A chunk that has become empty goes, and one of few items takes in the next
-/// one.
-pub fn without_item<T: Copy>(tree: Tree<T>, index: usize) -> Tree<T>
+/// The tree without the item at an index, and whether that was in the first chunk. A chunk that has become empty goes.
+/// One of few items takes in the next one, where the item was in one of the two: so this is tried twice at most. A fork
+/// whose chunk goes is spare from then on, for which there is room.
+pub fn without_item<T: Copy>(
+    spares: &mut Vec<Box<Fork<T>>>,
+    tree: Tree<T>,
+    index: usize,
+) -> (Tree<T>, bool)
     requires counted { IsCounted tree }
+    requires balanced { IsBalanced tree }
     requires few { length (items_of tree) ≤ 18446744073709551615 }
     requires within { index < length (items_of tree) }
-    ensures items { items_of result ≡ remove (items_of tree) index }
-    ensures counted { IsCounted result }
+    requires room { forks_of tree + vec_len spares.old ≤ vec_capacity spares.old }
+    ensures items { items_of result.0 ≡ remove (items_of tree) index }
+    ensures counted { IsCounted result.0 }
+    ensures balanced { IsBalanced result.0 }
+    ensures low { depth_of result.0 ≤ depth_of tree }
+    ensures high { depth_of tree ≤ 1 + depth_of result.0 }
+    ensures forks { forks_of result.0 ≤ forks_of tree }
+    ensures kept { forks_of result.0 + vec_len spares.new ≡ forks_of tree + vec_len spares.old }
+    ensures capacity { vec_capacity spares.new ≡ vec_capacity spares.old }
 {
     match tree {
         Tree::Empty => unreachable!(),
@@ -194,65 +251,114 @@ pub fn without_item<T: Copy>(tree: Tree<T>, index: usize) -> Tree<T>
             let later = mem::replace(&mut fork.later, Tree::Empty);
             let before = count(&earlier);
             if index < before {
-                return joined(without_item(earlier, index), fork, later);
+                let (earlier, in_first) = without_item(spares, earlier, index);
+                return (joined(earlier, fork, later), in_first);
             }
             let here = fork.items.len();
             if index - before < here {
                 if here == 1 {
-                    return merged(earlier, later);
+                    spares.push_reserved(fork);
+                    return (merged(earlier, later), before == 0);
                 }
                 fork.items.remove(index - before);
-                return filled(earlier, fork, later);
+                return (filled(spares, earlier, fork, later), before == 0);
             }
-            filled(earlier, fork, without_item(later, index - before - here))
+            let (later, in_next) = without_item(spares, later, index - before - here);
+            if in_next {
+                return (filled(spares, earlier, fork, later), false);
+            }
+            (joined(earlier, fork, later), false)
         }
     }
 }
 
-// One tree of two and a fork between them, whose chunk takes in the next one where it has few items and both fit.
-fn filled<T: Copy>(earlier: Tree<T>, fork: Box<Fork<T>>, later: Tree<T>) -> Tree<T>
+// One tree of two and a fork between them, whose chunk takes in the next one where it has few items and both fit. The
+// later tree is higher by one at most.
+fn filled<T: Copy>(
+    spares: &mut Vec<Box<Fork<T>>>,
+    earlier: Tree<T>,
+    fork: Box<Fork<T>>,
+    later: Tree<T>,
+) -> Tree<T>
     requires earlier { IsCounted earlier }
     requires later { IsCounted later }
+    requires chunk { IsChunk fork.value.items.items }
+    requires earlier_balanced { IsBalanced earlier }
+    requires later_balanced { IsBalanced later }
+    requires near { depth_of later ≤ 1 + depth_of earlier }
+    requires few { forks_of earlier + forks_of later < 18446744073709551616 }
+    requires room { forks_of later + vec_len spares.old ≤ vec_capacity spares.old }
     ensures items { items_of result ≡ items_of earlier ++ fork.value.items.items ++ items_of later }
     ensures counted { IsCounted result }
+    ensures balanced { IsBalanced result }
+    ensures low { depth_of result ≤ 1 + max (depth_of earlier) (depth_of later) }
+    ensures high { max (depth_of earlier) (depth_of later) ≤ depth_of result }
+    ensures over { 1 + min (depth_of earlier) (depth_of later) ≤ depth_of result }
+    ensures forks { forks_of result ≤ 1 + forks_of earlier + forks_of later }
+    ensures kept { forks_of result + vec_len spares.new
+        ≡ 1 + forks_of earlier + forks_of later + vec_len spares.old }
+    ensures capacity { vec_capacity spares.new ≡ vec_capacity spares.old }
 {
     let here = fork.items.len();
-    if here < FEW_ITEMS && here + first_len(&later) <= CHUNK_ITEMS {
-        with_next(earlier, fork, later)
+    let most = fork.items.capacity().min(CHUNK_ITEMS);
+    if here < FEW_ITEMS && here + first_len(&later, CHUNK_ITEMS) <= most {
+        with_next(spares, earlier, fork, later)
     } else {
         joined(earlier, fork, later)
     }
 }
 
-// How many items the first chunk has; of no chunk more than fit.
-fn first_len<T: Copy>(tree: &Tree<T>) -> usize
-    ensures { result < 9223372036854775808 }
+// How many items the first chunk has, and this number where there is no chunk.
+fn first_len<T: Copy>(tree: &Tree<T>, otherwise: usize) -> usize
+    requires few { otherwise ≤ 64 }
+    requires balanced { IsBalanced tree.now }
+    ensures first { result ≡ first_or otherwise tree.now }
+    ensures few { result ≤ 64 }
 {
     match tree {
-        Tree::Empty => CHUNK_ITEMS,
-        Tree::Fork(fork) => match &fork.earlier {
-            Tree::Empty => fork.items.len(),
-            earlier => first_len(earlier),
-        },
+        Tree::Empty => otherwise,
+        Tree::Fork(fork) => first_len(&fork.earlier, fork.items.len()),
     }
 }
 
-// The same, where the chunk takes in the next one. That takes no memory: where it has no room for both, both stay.
-fn with_next<T: Copy>(earlier: Tree<T>, mut fork: Box<Fork<T>>, later: Tree<T>) -> Tree<T>
+// The same, where the chunk takes in the next one, for which it has room. The fork of that one is spare then.
+fn with_next<T: Copy>(
+    spares: &mut Vec<Box<Fork<T>>>,
+    earlier: Tree<T>,
+    mut fork: Box<Fork<T>>,
+    later: Tree<T>,
+) -> Tree<T>
     requires earlier { IsCounted earlier }
     requires later { IsCounted later }
+    requires chunk { IsChunk fork.value.items.items }
+    requires earlier_balanced { IsBalanced earlier }
+    requires later_balanced { IsBalanced later }
+    requires near { depth_of later ≤ 1 + depth_of earlier }
+    requires few { forks_of earlier + forks_of later < 18446744073709551616 }
+    requires both { length fork.value.items.items + first_or 64 later ≤ 64 }
+    requires room { length fork.value.items.items + first_or 64 later
+        ≤ vec_capacity fork.value.items }
+    requires spare_room { forks_of later + vec_len spares.old ≤ vec_capacity spares.old }
     ensures items { items_of result ≡ items_of earlier ++ fork.value.items.items ++ items_of later }
     ensures counted { IsCounted result }
+    ensures balanced { IsBalanced result }
+    ensures low { depth_of result ≤ 1 + max (depth_of earlier) (depth_of later) }
+    ensures high { max (depth_of earlier) (depth_of later) ≤ depth_of result }
+    ensures over { 1 + min (depth_of earlier) (depth_of later) ≤ depth_of result }
+    ensures forks { forks_of result ≤ 1 + forks_of earlier + forks_of later }
+    ensures kept { forks_of result + vec_len spares.new
+        ≡ 1 + forks_of earlier + forks_of later + vec_len spares.old }
+    ensures capacity { vec_capacity spares.new ≡ vec_capacity spares.old }
 {
     match later {
-        Tree::Empty => Tree::Fork(forked(earlier, fork, Tree::Empty)),
+        Tree::Empty => unreachable!(),
         Tree::Fork(top) => {
             let (mut next, rest) = taken_first(top);
-            if next.items.len() > fork.items.capacity() - fork.items.len() {
-                return joined(earlier, fork, joined(Tree::Empty, next, rest));
-            }
             match fork.items.append(&mut next.items) {
-                Ok(()) => joined(earlier, fork, rest),
+                Ok(()) => {
+                    spares.push_reserved(next);
+                    joined(earlier, fork, rest)
+                }
                 Err(_refused) => unreachable!(),
             }
         }

@@ -12,9 +12,13 @@ use crate::run::sparse_run;
 const LABELS: u64 = 1 << 62;
 
 /// Into how many shares the room between two links is parted. Only the first one is before the new link.
-const SHARES: u64 = 8;
+const SHARES: u64 = 1 << SHARE_BITS;
+
+/// That number of shares is 2 to this.
+const SHARE_BITS: u32 = 3;
 
 /// A label that is free directly after a link; where there is none, labels are given again round it first.
+#[inline(always)]
 pub fn fresh_label(links: &mut Vec<Link>, at: u32) -> u64
     requires line { IsLine links.old.items (stamps_of links.old.items) }
     requires here { IsTrue (is_in at (stamps_of links.old.items)) }
@@ -27,6 +31,7 @@ pub fn fresh_label(links: &mut Vec<Link>, at: u32) -> u64
 }
 
 // The same in a slice.
+#[inline(always)]
 fn fresh_label_in(links: &mut [Link], at: u32) -> u64
     requires line { IsLine links.old (stamps_of links.old) }
     requires here { IsTrue (is_in at (stamps_of links.old)) }
@@ -42,7 +47,8 @@ fn fresh_label_in(links: &mut [Link], at: u32) -> u64
 
 // A label that is free directly after a link, where there is one: between two links a small share of the room after the
 // first one, since what is put in next mostly comes directly after it. After the last link, and between the first and
-// the second, the room is shared among all links, so that there is room for many there.
+// the second, the room is parted into at least as many shares as there are links, so that there is room for many there.
+#[inline(always)]
 fn free_label(links: &[Link], at: u32) -> Option<u64>
     requires line { IsLine links.now (stamps_of links.now) }
     requires here { IsTrue (is_in at (stamps_of links.now)) }
@@ -50,30 +56,41 @@ fn free_label(links: &[Link], at: u32) -> Option<u64>
 {
     let low = label_at(links, at);
     let next = next_at(links, at);
-    let links_there = links.len() as u64;
     if next == NO_LINK {
-        let step = free_step(LABELS - low, links_there)?;
+        let step = free_step(LABELS - low, bits_of(links.len()))?;
         return Some(low + step);
     }
     let high = label_at(links, next);
     let room = high - low;
     if at == FIRST {
-        let step = free_step(room, links_there)?;
+        let step = free_step(room, bits_of(links.len()))?;
         return Some(high - step);
     }
-    let step = free_step(room, SHARES)?;
+    let step = free_step(room, SHARE_BITS)?;
     Some(low + step)
 }
 
-// A step into a room: a share of it, but at least 1 and less than the room. None where there is no such step.
-fn free_step(room: u64, shares: u64) -> Option<u64>
-    requires { 0 < shares }
+// How many bits a count has.
+fn bits_of(count: usize) -> u32
+    requires some { 0 < count }
+    requires few { count < 2 ^ 32 }
+    ensures some { 0 < result }
+    ensures few { result ≤ 32 }
+{
+    64 - (count as u64).leading_zeros()
+}
+
+// A step into a room: one of its 2^bits shares, but at least 1 and less than the room. None where there is no such
+// step.
+fn free_step(room: u64, bits: u32) -> Option<u64>
+    requires some { 0 < bits }
+    requires few { bits ≤ 32 }
     ensures { IfSome result (λ step. (0 < step) × (step < room)) }
 {
     if room < 2 {
         return None;
     }
-    Some((room / shares).min(room - 1).max(1))
+    Some((room >> bits).max(1))
 }
 
 // Gives labels again round a link, and a label that is then free directly after it. It is called seldom, and is a

@@ -20,6 +20,7 @@ pub struct Link {
     pub next: u32,
 }
 
+/// The label of a stamp.
 pub fn label_at(links: &[Link], at: u32) -> u64
     requires { at < length links.now }
     ensures { result ≡ label_of links.now at }
@@ -27,6 +28,7 @@ pub fn label_at(links: &[Link], at: u32) -> u64
     links[at as usize].label
 }
 
+/// The stamp after it, or none.
 pub fn next_at(links: &[Link], at: u32) -> u32
     requires { at < length links.now }
     ensures { result ≡ next_of links.now at }
@@ -34,6 +36,7 @@ pub fn next_at(links: &[Link], at: u32) -> u32
     links[at as usize].next
 }
 
+/// The stamp before it, or none.
 pub fn prev_at(links: &[Link], at: u32) -> u32
     requires { at < length links.now }
     ensures { result ≡ prev_of links.now at }
@@ -42,6 +45,7 @@ pub fn prev_at(links: &[Link], at: u32) -> u32
 }
 
 // Puts a new link after another.
+#[inline(always)]
 fn splice_slice(links: &mut [Link], at: u32, new: u32, label: u64)
     requires at { at < length links.old }
     requires new { new < length links.old }
@@ -86,6 +90,7 @@ fn unlink_slice(links: &mut [Link], at: u32, free: u32)
 }
 
 /// Puts a new link with this label after another.
+#[inline(always)]
 pub fn splice(links: &mut Vec<Link>, at: u32, new: u32, label: u64)
     requires at { at < length links.old.items }
     requires new { new < length links.old.items }

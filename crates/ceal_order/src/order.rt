@@ -102,6 +102,7 @@ impl Order {
     }
 
     /// Puts a new stamp directly after one that is there. The others keep their order.
+    #[inline(always)]
     pub fn insert_after(&mut self, stamp: Stamp) -> Stamp
         requires here { IsTrue (is_in stamp.0 self.old.stamps) }
         requires room { 0 < self.old.spare }

@@ -17,6 +17,7 @@ pub struct Halves {
 }
 
 impl Halves {
+    /// A number in two halves.
     pub fn of(number: u64) -> Halves
         ensures { number_of result ≡ number }
     {
@@ -26,6 +27,7 @@ impl Halves {
         }
     }
 
+    /// The number of these halves.
     pub fn number(self) -> u64
         ensures { result ≡ number_of self }
     {
@@ -45,6 +47,7 @@ pub enum Packed {
 }
 
 impl Packed {
+    /// A word, packed.
     #[inline]
     pub fn of(word: Word) -> Packed
         ensures { word_of result ≡ word }

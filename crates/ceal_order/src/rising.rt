@@ -1,9 +1,9 @@
 // Rising stamps.
 
-ghost use Rattle.std.specs.Prelude.{◌≡◌, ◌↔◌, ◌<◌, ◌≤◌, [], ◌∷◌, false, length, insert, remove, IfOk, IfSome, IfNone};
-ghost use Rattle.std.specs.Prelude.{OnOk, OnErr, IsTrue};
+ghost use Rattle.std.specs.Prelude.{◌≡◌, ◌↔◌, ◌<◌, ◌≤◌, [], ◌∷◌, Some, false, length, insert, remove, IfOk};
+ghost use Rattle.std.specs.Prelude.{OnOk, OnErr, IsTrue, IfSome, IfNone, take};
 ghost use Rattle.ceal_order.specs.Stamps.{is_in, place, without};
-ghost use Rattle.ceal_order.specs.Rising.{numbers, count_before, IsRising, IsFirstAfter, NoneAfter};
+ghost use Rattle.ceal_order.specs.Rising.{numbers, count_before, last_stamp, IsRising, IsFirstAfter, NoneAfter};
 
 use crate::order::Order;
 use crate::short_list::ShortList;
@@ -66,6 +66,36 @@ impl Rising {
         searched(order, &self.stamps, stamp)
     }
 
+    /// The last stamp, None where there is none.
+    #[inline]
+    pub fn last(&self) -> Option<Stamp>
+        ensures some { IfSome result (λ last. last_stamp self.now ≡ Some last.0) }
+        ensures none { IfNone result (self.now ≡ []) }
+    {
+        let count = self.stamps.len();
+        if count == 0 {
+            return None;
+        }
+        Some(self.stamps.get(count - 1))
+    }
+
+    /// The last of the stamps before one, None where there is none.
+    #[inline]
+    pub fn last_before(&self, order: &Order, stamp: Stamp) -> Option<Stamp>
+        requires here { IsTrue (is_in stamp.0 order.now.stamps) }
+        requires rising { IsRising order.now.stamps self.now }
+        ensures some { IfSome result (λ last.
+            last_stamp (take (count_before order.now.stamps stamp.0 self.now) self.now)
+            ≡ Some last.0) }
+        ensures none { IfNone result (count_before order.now.stamps stamp.0 self.now ≡ 0) }
+    {
+        let count = searched(order, &self.stamps, stamp);
+        if count == 0 {
+            return None;
+        }
+        Some(self.stamps.get(count - 1))
+    }
+
     /// The nearest one after a stamp, None where there is none.
     #[inline]
     pub fn first_after(&self, order: &Order, stamp: Stamp) -> Option<Stamp>
@@ -80,7 +110,7 @@ impl Rising {
     }
 
     /// Puts in a stamp that is not there, after those before it, and says how many those are.
-    #[inline]
+    #[inline(always)]
     pub fn insert(&mut self, order: &Order, stamp: Stamp) -> Result<usize, NoMemory>
         requires here { IsTrue (is_in stamp.0 order.now.stamps) }
         requires rising { IsRising order.now.stamps self.old }

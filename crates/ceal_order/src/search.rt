@@ -3,18 +3,19 @@
 ghost use Rattle.std.specs.Prelude.{◌≡◌, ◌<◌, ◌≤◌, length, slice_index_or, IsTrue};
 ghost use Rattle.ceal_order.specs.Stamps.{is_in};
 ghost use Rattle.ceal_order.specs.Rising.{numbers, count_before, IsRising};
-ghost use Rattle.ceal_order.specs.Tree.{items_of, IsCounted};
+ghost use Rattle.ceal_order.specs.Tree.{items_of, IsCounted, IsBalanced};
 ghost use Rattle.ceal_order.specs.declared.stamp.Stamp.{Stamp as StampOf};
 
 use crate::order::Order;
 use crate::stamp::Stamp;
 use crate::tree::{Tree, count};
 
-/// The number of stamps of a tree before one.
+/// The number of stamps of a tree before one. It goes into one tree of each fork at most, since each chunk has a stamp.
 pub fn before_in_tree(order: &Order, tree: &Tree<Stamp>, stamp: Stamp) -> usize
     requires here { IsTrue (is_in stamp.0 order.now.stamps) }
     requires rising { IsRising order.now.stamps (numbers (items_of tree.now)) }
     requires counted { IsCounted tree.now }
+    requires balanced { IsBalanced tree.now }
     requires few { length (items_of tree.now) ≤ 18446744073709551615 }
     ensures { result ≡ count_before order.now.stamps stamp.0 (numbers (items_of tree.now)) }
 {
@@ -22,17 +23,14 @@ pub fn before_in_tree(order: &Order, tree: &Tree<Stamp>, stamp: Stamp) -> usize
         Tree::Empty => 0,
         Tree::Fork(fork) => {
             let here = before_in_chunk(order, &fork.items, stamp);
-            if here < fork.items.len() {
-                if here == 0 {
-                    return before_in_tree(order, &fork.earlier, stamp);
-                }
-                return count(&fork.earlier) + here;
-            }
-            let later = before_in_tree(order, &fork.later, stamp);
             if here == 0 {
-                return before_in_tree(order, &fork.earlier, stamp) + later;
+                return before_in_tree(order, &fork.earlier, stamp);
             }
-            count(&fork.earlier) + here + later
+            let before = count(&fork.earlier) + here;
+            if here < fork.items.len() {
+                return before;
+            }
+            before + before_in_tree(order, &fork.later, stamp)
         }
     }
 }

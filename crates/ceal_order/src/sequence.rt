@@ -1,13 +1,14 @@
 // Items in a sequence.
 
 ghost use Rattle.std.specs.Prelude.{◌≡◌, ◌<◌, ◌≤◌, ◌++◌, [], length, insert, remove, slice_index_or, IfSome, IfNone};
-ghost use Rattle.std.specs.Prelude.{OnOk, OnErr, IsTrue};
+ghost use Rattle.std.specs.Prelude.{◌+◌, vec_len, vec_capacity, OnOk, OnErr, IsTrue};
 ghost use Rattle.ceal_order.specs.Stamps.{is_in};
 ghost use Rattle.ceal_order.specs.Rising.{numbers, count_before, IsRising, IsFirstAfter, NoneAfter};
-ghost use Rattle.ceal_order.specs.Tree.{items_of, IsCounted};
+ghost use Rattle.ceal_order.specs.Tree.{items_of, forks_of, IsCounted, IsBalanced};
 
 use crate::chunks::{front_part, put, put_in_one, with_item, without_item};
 use crate::order::Order;
+use crate::room::make_room;
 use crate::search::{before_in_chunk, before_in_tree};
 use crate::stamp::Stamp;
 use crate::tree::{CHUNK_ITEMS, Fork, HALF_CHUNK, Tree, count, item_at, joined, leaf};
@@ -19,19 +20,23 @@ use std::mem;
 // There are no more items than this.
 const MOST_ITEMS: usize = 4294967295;
 
-/// A list of items. The last ones are in a separate chunk, and those before them in chunks in a tree, so that each
-/// change takes as many steps as the logarithm of the number of items, wherever it is, and one at the end mostly few.
+/// A list of items. The last ones are in a separate chunk, and those before them in chunks in a balanced tree, so that
+/// each search and change goes to as many chunks as the logarithm of their number, wherever it is, and one at the end
+/// mostly to few.
 ///
-/// Memory is taken by `make_room` and `make_ample_room`, which keep spare forks for the insertions that follow.
+/// Memory is taken by `make_room`, `make_ample_room` and `make_room_for`, which keep spare forks for the insertions
+/// that follow. A fork is in the tree or spare: none is given back before the list is, so forks do not get fewer.
 #[derive(Drop)]
 pub struct Sequence<T> {
     front: Tree<T>,
     last: Vec<T>,
     spares: Vec<Box<Fork<T>>>,
+    // how many forks there are, in the tree and spare
+    forks: usize,
 }
 
 impl<T> Model for Sequence<T> {
-    ghost use Rattle.std.specs.Prelude.{List, ◌++◌, ◌≤◌, length};
+    ghost use Rattle.std.specs.Prelude.{List, ◌++◌, ◌≤◌, length, vec_len, vec_capacity};
     ghost use Rattle.std.specs.Coded.{coded_list};
     ghost use Rattle.ceal_order.specs.Tree.{items_of, Fits};
 
@@ -41,7 +46,8 @@ impl<T> Model for Sequence<T> {
 
     ghost view = { λ s. items_of s.front ++ s.last.items };
 
-    ghost invariant = { λ s. Fits s.front s.last.items };
+    ghost invariant = { λ s.
+        Fits s.front s.last.items (vec_len s.spares) s.forks (vec_capacity s.spares) };
 }
 
 impl<T: Copy> Sequence<T> {
@@ -53,15 +59,18 @@ impl<T: Copy> Sequence<T> {
             front: Tree::Empty,
             last: Vec::new(alloc),
             spares: Vec::new(alloc),
+            forks: 0,
         }
     }
 
+    /// How many items there are.
     pub fn len(&self) -> usize
         ensures { result ≡ length self.now }
     {
         count(&self.front) + self.last.len()
     }
 
+    /// The item at an index.
     #[inline(never)]
     pub fn get(&self, index: usize) -> T
         requires { index < length self.now }
@@ -117,7 +126,10 @@ impl<T: Copy> Sequence<T> {
         ensures { self.new ≡ self.old }
     {
         let fork = leaf(*self.last.allocator())?;
-        self.spares.push(fork)?;
+        let in_tree = self.forks - self.spares.len();
+        make_room(&mut self.spares, in_tree + 1)?;
+        self.spares.push_reserved(fork);
+        self.forks += 1;
         Ok(())
     }
 
@@ -145,6 +157,25 @@ impl<T: Copy> Sequence<T> {
             self.add_spare()?;
         }
         if self.spares.len() < chunks {
+            self.add_spare()?;
+        }
+        Ok(())
+    }
+
+    /// Takes what memory a list of this length needs that has no items yet and gets each of them after the others, and
+    /// what it needs to halve each of its chunks once.
+    pub fn make_room_for(&mut self, len: usize) -> Result<(), NoMemory>
+        ensures { self.new ≡ self.old }
+    {
+        self.last.reserve(CHUNK_ITEMS)?;
+        self.make_spares(len / HALF_CHUNK + 1)
+    }
+
+    // Makes spare forks, up to this number of them.
+    fn make_spares(&mut self, wanted: usize) -> Result<(), NoMemory>
+        ensures { self.new ≡ self.old }
+    {
+        for _made in self.spares.len()..wanted {
             self.add_spare()?;
         }
         Ok(())
@@ -185,9 +216,21 @@ impl<T: Copy> Sequence<T> {
         let before = count(&self.front);
         if index < before {
             let front = mem::replace(&mut self.front, Tree::Empty);
-            self.front = without_item(front, index);
+            let (front, _in_first) = without_item(&mut self.spares, front, index);
+            self.front = front;
         } else {
             self.last.remove(index - before);
+        }
+    }
+
+    /// Takes all items out, the last ones first. Their forks are spare then.
+    pub fn clear(&mut self)
+        ensures { self.new ≡ [] }
+    {
+        let mut left = self.len();
+        while left > 0 {
+            left -= 1;
+            self.remove(left);
         }
     }
 }
@@ -243,12 +286,20 @@ fn put_last<T: Copy>(
     item: T,
 ) -> Result<(), NoMemory>
     requires counted { IsCounted front.old }
+    requires balanced { IsBalanced front.old }
+    requires few { length (items_of front.old) ≤ 4294967295 }
+    requires last_fits { length last.old.items ≤ 64 }
     requires within { index ≤ length last.old.items }
     ensures ok { OnOk result (items_of front.new ++ last.new.items
         ≡ items_of front.old ++ insert last.old.items index item) }
     ensures err { OnErr result
         (items_of front.new ++ last.new.items ≡ items_of front.old ++ last.old.items) }
     ensures counted { IsCounted front.new }
+    ensures balanced { IsBalanced front.new }
+    ensures last_fits { length last.new.items ≤ 64 }
+    ensures kept { forks_of front.new + vec_len spares.new
+        ≡ forks_of front.old + vec_len spares.old }
+    ensures capacity { vec_capacity spares.new ≡ vec_capacity spares.old }
 {
     let here = last.len();
     if here >= CHUNK_ITEMS {
@@ -271,13 +322,20 @@ fn put_full<T: Copy>(
     item: T,
 ) -> Result<(), NoMemory>
     requires counted { IsCounted front.old }
-    requires full { 64 ≤ length last.old.items }
+    requires balanced { IsBalanced front.old }
+    requires few { length (items_of front.old) ≤ 4294967295 }
+    requires full { length last.old.items ≡ 64 }
     requires within { index ≤ length last.old.items }
     ensures ok { OnOk result (items_of front.new ++ last.new.items
         ≡ items_of front.old ++ insert last.old.items index item) }
     ensures err { OnErr result
         (items_of front.new ++ last.new.items ≡ items_of front.old ++ last.old.items) }
     ensures counted { IsCounted front.new }
+    ensures balanced { IsBalanced front.new }
+    ensures last_fits { length last.new.items ≤ 64 }
+    ensures kept { forks_of front.new + vec_len spares.new
+        ≡ forks_of front.old + vec_len spares.old }
+    ensures capacity { vec_capacity spares.new ≡ vec_capacity spares.old }
 {
     let mut fork = front_part(spares, last, index)?;
     let done = put_in_one(&mut fork.items, last, index, item);

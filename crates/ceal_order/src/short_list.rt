@@ -14,7 +14,7 @@ use std::alloc::Global;
 use std::marker::Model;
 
 /// A list of items, of which there are mostly two at most. Those are in the list itself and take no further memory;
-/// from the third on they are in a sequence, and stay there.
+/// from the third on they are in a sequence, and stay there until none is left.
 #[derive(Drop)]
 pub struct ShortList<T> {
     form: Form<T>,
@@ -62,6 +62,7 @@ impl<T: Copy> ShortList<T> {
         }
     }
 
+    /// How many items there are.
     #[inline]
     pub fn len(&self) -> usize
         ensures { result ≡ length self.now }
@@ -74,6 +75,7 @@ impl<T: Copy> ShortList<T> {
         }
     }
 
+    /// The item at an index.
     #[inline]
     pub fn get(&self, index: usize) -> T
         requires { index < length self.now }
@@ -125,7 +127,19 @@ impl<T: Copy> ShortList<T> {
                 let rest = if index == 0 { *second } else { *first };
                 self.form = Form::One(rest);
             }
-            Form::Many(items) => items.remove(index),
+            Form::Many(items) => {
+                items.remove(index);
+                self.let_go_if_empty();
+            }
+        }
+    }
+
+    // Gives back the memory of a sequence that has become empty.
+    fn let_go_if_empty(&mut self)
+        ensures { self.new ≡ self.old }
+    {
+        if self.len() == 0 {
+            self.form = Form::Empty;
         }
     }
 }

@@ -121,6 +121,7 @@ pub fn take_body(
     }
 }
 
+/// Takes the token after a block that has ended.
 #[inline(never)]
 pub fn take_ends(
     alloc: Global,
@@ -158,6 +159,7 @@ pub fn take_behind(
     Ok(turn)
 }
 
+/// Takes the brace that opens a block.
 #[inline(never)]
 pub fn take_opens(
     alloc: Global,

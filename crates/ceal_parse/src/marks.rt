@@ -9,18 +9,21 @@ use ceal_base::syntax::Ident;
 use ceal_lex::token::{Reserved, Sign, Token, TokenKind};
 use std::mem;
 
+/// Whether two signs are one.
 pub fn same_sign(a: Sign, b: Sign) -> bool
     ensures value { result ≡ same_signs a b }
 {
     a == b
 }
 
+/// Whether two reserved words are one.
 pub fn same_word(a: Reserved, b: Reserved) -> bool
     ensures value { result ≡ same_words a b }
 {
     a == b
 }
 
+/// Whether a token is this sign.
 pub fn is_sign(token: &Token, sign: Sign) -> bool
     ensures value { result ≡ is_sign_kind sign token.now.kind }
 {
@@ -30,6 +33,7 @@ pub fn is_sign(token: &Token, sign: Sign) -> bool
     }
 }
 
+/// Whether a token is this reserved word.
 pub fn is_word(token: &Token, word: Reserved) -> bool
     ensures value { result ≡ is_word_kind word token.now.kind }
 {

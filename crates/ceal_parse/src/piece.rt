@@ -19,6 +19,7 @@ use ceal_grammar::stack::Stack;
 use ceal_grammar::state::{Frame, Piece, Place, Whole};
 use std::alloc::Global;
 
+/// An expression that begins at its token.
 pub fn single(at: Span, form: ExprForm) -> Piece
     ensures value { result ≡ single_piece at form }
 {
@@ -63,6 +64,7 @@ pub fn element(alloc: Global, at: Span, row: Expr, index: Piece) -> Result<Piece
     Ok(single(at, ExprForm::Pick(first, second)))
 }
 
+/// A field of what the expression points to.
 pub fn access(alloc: Global, piece: Piece, field: Ident) -> Result<Piece, NoMemory>
     ensures value { IfOk result (λ p. p ≡ arrow_piece piece field) }
 {

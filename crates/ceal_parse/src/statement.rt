@@ -167,6 +167,7 @@ pub fn take_word(mode: &mut Mode, at: Span, word: Reserved) -> Turn
     }
 }
 
+/// Takes a token within the type of a declaration.
 #[inline(never)]
 pub fn take_typing(mode: &mut Mode, at: Span, part: TypePart, token: &mut Token) -> Turn
     ensures value { (i : Inside) → turn_state i mode.new result
@@ -179,6 +180,7 @@ pub fn take_typing(mode: &mut Mode, at: Span, part: TypePart, token: &mut Token)
     }
 }
 
+/// Takes the token after a declared name.
 #[inline(never)]
 pub fn take_declared(mode: &mut Mode, at: Span, form: TypeForm, name: Ident, token: &Token) -> Turn
     ensures value { (i : Inside) → turn_state i mode.new result
@@ -249,6 +251,7 @@ pub fn take_owned(at: Span, token: &Token) -> Option<Mode>
     }
 }
 
+/// Takes a token of a path on the left of an assignment.
 #[inline(never)]
 pub fn take_path(path: Expr, arrows: u32, token: &mut Token) -> Option<Mode>
     ensures value { result ≡ at_path path arrows token.old.span token.old.kind }
@@ -270,6 +273,7 @@ pub struct Reached {
     pub arrows: u32,
 }
 
+/// Takes the token after the field that a path has reached.
 #[inline(never)]
 pub fn take_reached(
     alloc: Global,
@@ -296,6 +300,7 @@ pub fn take_reached(
     }
 }
 
+/// Takes the token after the name of what is called.
 #[inline(never)]
 pub fn take_calls(callee: Callee, token: &Token) -> Option<Mode>
     ensures value { result ≡ at_calls callee token.now.kind }
@@ -348,6 +353,7 @@ pub fn take_first(
     }
 }
 
+/// Takes the first token of a statement.
 #[inline(never)]
 pub fn take_before(
     alloc: Global,

@@ -23,6 +23,7 @@ pub fn begin_type(word: Reserved) -> Option<TypePart>
     }
 }
 
+/// How a type begins with this token, if one does.
 pub fn start_type(token: &Token) -> Option<TypePart>
     ensures value { result ≡ type_starts token.now.kind }
 {

@@ -42,6 +42,7 @@ impl Ahead {
         }
     }
 
+    /// How many stamps there are.
     pub fn len(&self) -> usize
         requires { length self.now.items < 2 ^ 32 }
         ensures { result ≡ length self.now.items }

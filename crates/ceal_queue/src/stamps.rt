@@ -1,10 +1,11 @@
 // Stamps in a list that has room for more.
 
-ghost use Rattle.std.specs.Prelude.{◌≡◌, ◌<◌, ◌≤◌, [], false, length, insert, remove, slice_index_or, option_map};
+ghost use Rattle.std.specs.Prelude.{◌≡◌, ◌<◌, ◌≤◌, ◌++◌, [], false, length, insert, remove, slice_index_or, option_map};
 ghost use Rattle.std.specs.Prelude.{vec_capacity, IfSome, IfOk, IfErr, OnOk, IsTrue};
 ghost use Rattle.ceal_order.specs.Stamps.{is_in, head_of, place};
 ghost use Rattle.ceal_order.specs.Rising.{numbers, count_before, IsRising};
 ghost use Rattle.ceal_order.specs.declared.stamp.Stamp.{Stamp as StampOf};
+ghost use Rattle.ceal_queue.specs.Roomy.{InOne};
 
 use ceal_base::no_memory::NoMemory;
 use ceal_order::order::Order;
@@ -17,7 +18,7 @@ use std::marker::Model;
 /// A list of stamps. Contracts see `items`, and `capacity`, how many the list may have without a call that can fail.
 ///
 /// They are in a sequence, whose calls take few steps wherever a stamp is. Where that has no room for one more, all of
-/// them move to a plain list in which there is room for each, and stay there until it is empty.
+/// them move to a plain list in which there is room for each, and stay there until room is made again.
 #[derive(Drop)]
 pub struct Stamps {
     sequence: Sequence<Stamp>,
@@ -48,6 +49,7 @@ impl Stamps {
         }
     }
 
+    /// How many stamps there are.
     pub fn len(&self) -> usize
         ensures { result ≡ length self.now.items }
     {
@@ -60,19 +62,23 @@ impl Stamps {
         ensures raises { self.old.capacity ≤ self.new.capacity }
         ensures room { OnOk result (len ≤ self.new.capacity) }
     {
-        self.sequence.make_ample_room()?;
+        self.make_next_room()?;
         self.plain.reserve(len)?;
         Ok(())
     }
 
-    /// Makes room for the next ones in the sequence.
+    /// Makes room for the next ones in the sequence. Stamps in the plain list move back.
     #[inline]
     pub fn make_next_room(&mut self) -> Result<(), NoMemory>
         ensures { self.new ≡ self.old }
     {
+        if !self.plain.is_empty() {
+            move_back(&mut self.sequence, &mut self.plain)?;
+        }
         self.sequence.make_ample_room()
     }
 
+    /// The stamp at an index, the earliest first.
     pub fn get(&self, index: usize) -> Stamp
         requires { index < length self.now.items }
         ensures { (other : StampOf) → slice_index_or self.now.items index other ≡ result }
@@ -178,5 +184,35 @@ fn move_all(sequence: &mut Sequence<Stamp>, plain: &mut Vec<Stamp>)
     for at in 0..sequence.len() {
         let _ = plain.push(sequence.get(at));
     }
-    *sequence = Sequence::new(*plain.allocator());
+    sequence.clear();
+}
+
+// Moves all stamps of a plain list back to an empty sequence, for which memory is taken. They are seldom there.
+#[inline(never)]
+fn move_back(sequence: &mut Sequence<Stamp>, plain: &mut Vec<Stamp>) -> Result<(), NoMemory>
+    requires empty { sequence.old ≡ [] }
+    ensures items { sequence.new ++ plain.new.items ≡ plain.old.items }
+    ensures one { InOne sequence.new plain.new.items }
+    ensures capacity { vec_capacity plain.new ≡ vec_capacity plain.old }
+{
+    sequence.make_room_for(plain.len())?;
+    if fill(sequence, plain) {
+        plain.clear();
+    } else {
+        sequence.clear();
+    }
+    Ok(())
+}
+
+// Puts all stamps of a list into an empty sequence, one after another, and says whether there was room for them.
+fn fill(sequence: &mut Sequence<Stamp>, stamps: &[Stamp]) -> bool
+    requires empty { sequence.old ≡ [] }
+    ensures { IsTrue result → sequence.new ≡ stamps.now }
+{
+    for at in 0..stamps.len() {
+        if sequence.insert_in_room(at, stamps[at]).is_err() {
+            return false;
+        }
+    }
+    true
 }

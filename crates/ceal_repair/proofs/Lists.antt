@@ -5,3 +5,4 @@ pub mod PartedLists
 -- what only this crate cites
 pub mod ListsOfNodes
 pub mod KeyedNodes
+pub mod ToldWrites

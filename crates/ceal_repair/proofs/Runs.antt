@@ -2,6 +2,7 @@
 -- what crates above cite
 pub mod NewBlock
 pub mod FewNumbers
+pub mod Nearness
 -- what only this crate cites
 pub mod UnitSteps
 pub mod RepairView

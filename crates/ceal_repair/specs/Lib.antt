@@ -1,5 +1,6 @@
 -- what the crate promises
 pub mod Lists
+pub mod Distance
 pub mod Covered
 pub mod Chain
 pub mod Kept

@@ -3,6 +3,7 @@ use Rattle.std.specs.Prelude.{◌≡◌, ℕ, List, [], ◌∷◌, ◌==◌, Boo
 use Rattle.ceal_base.specs.Operators.{same_place}
 use Rattle.ceal_base.specs.declared.forest.Key.{Key}
 use Rattle.ceal_base.specs.declared.word.Place.{Place}
+use Rattle.ceal_base.specs.declared.word.Word.{Word}
 use Rattle.ceal_memo.specs.Keys.{EntryKey, OfRead, OfAlloc, ReadKey}
 use Rattle.ceal_memo.specs.Memo.{Contents as Entered, Holds}
 use Rattle.ceal_mods.specs.Mods.{Contents, cell_of}
@@ -53,6 +54,15 @@ write_of p s _ later = later
 abbrev pub writes_in : Place → List Entry → List WriteOf
 writes_in p [] = []
 writes_in p (e ∷ es) = write_of p e.stamp e.node (writes_in p es)
+
+-- the value that a node writes, None where it is no write
+abbrev pub value_written : Option Node → Option Word
+value_written (Some (Write p value)) = Some value
+value_written _ = None
+
+-- the values of the writes of nodes, by their stamps
+abbrev pub told_in : List Entry → ℕ → Option Word
+told_in nodes s = value_written (node_at s nodes)
 
 -- the modifiables have the writes and the reads of the nodes
 pub record IsTabled (nodes : List Entry) (mods : Contents) : Type 0 where

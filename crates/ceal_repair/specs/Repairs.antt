@@ -13,7 +13,7 @@ use Rattle.ceal_code.specs.declared.step.Step.{Step as CodeStep}
 use Rattle.ceal_code.specs.declared.waits.Floor.{Floor}
 use Rattle.ceal_order.specs.declared.stamp.Stamp.{Stamp}
 use Rattle.ceal_repair.specs.Frames.{Begun, frames_in}
-use Rattle.ceal_repair.specs.Looks.{KeepsMarks}
+use Rattle.ceal_repair.specs.Looks.{Account, KeepsMarks, NoneDiffers, ends_ahead, touched_ahead}
 use Rattle.ceal_repair.specs.Moment.{View, Start, RunningNow, PassingNow}
 use Rattle.ceal_repair.specs.Words.{words_of}
 use Rattle.ceal_repair.specs.declared.frame.Frame.{Frame}
@@ -53,6 +53,21 @@ view r = record {
   limit = r.limit;
   frames = frames_in (aside_in (stack_of r)) (reverse (frames_of r));
 }
+
+-- what is paid: the frames say which ends are still to come
+abbrev pub account : Repair → Account
+account r = record {
+  tables = (running_of r).tables;
+  cursor = r.cursor.0;
+  spent = (running_of r).spent;
+  ahead = touched_ahead (frames_of r);
+  ends = ends_ahead (frames_of r);
+}
+
+-- A run from nothing has no limit, since nothing is left over to it. It stays without one, and no content differs.
+abbrev pub StaysAnew : Repair → Repair → Type 0
+StaysAnew old new = old.limit ≡ None
+    → (new.limit ≡ None) × NoneDiffers (running_of old).tables (running_of new).tables
 
 -- the units that are set aside on a floor
 abbrev pub units_on : Floor → Repair → Stack

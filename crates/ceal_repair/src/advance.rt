@@ -5,7 +5,7 @@ ghost use Rattle.ceal_base.specs.Trace.{Trace};
 ghost use Rattle.ceal_base.specs.declared.word.Word.{Word};
 ghost use Rattle.ceal_code.specs.Replay.{IsHonest};
 ghost use Rattle.ceal_repair.specs.Answers.{IsKeptRun, IsRepaired};
-ghost use Rattle.ceal_repair.specs.Looks.{Pays, KeepsMarks};
+ghost use Rattle.ceal_repair.specs.Looks.{Distance, LooksAtQueued, KeepsMarks};
 ghost use Rattle.ceal_repair.specs.Propagation.{KeepsFront};
 ghost use Rattle.ceal_repair.specs.Slicing.{IsPartRun, IsSliced};
 ghost use Rattle.ceal_theory.specs.Slices.{Repair as RepairOf};
@@ -54,7 +54,11 @@ pub fn advance(
     ensures repaired { IfOk result (λ p. (f : ℕ) (args : List Word) (l : Trace)
         → IsKeptRun code.now inputs.now f args fuel l running.old → running.old.spent ≡ 0
         → IsRepaired code.now inputs.now f args fuel l running.old running.new p) }
-    ensures pays { OnOk result (Pays running.old running.new) }
+    ensures distance { OnOk result (Distance running.old running.new) }
+    ensures idle { OnOk result ((f : ℕ) (args : List Word) (r : RepairOf)
+        → IsPartRun code.now inputs.now f args fuel r running.old
+        → IsHonest code.now inputs.now r.items
+        → LooksAtQueued running.old.tables running.new.tables) }
     ensures marks { OnOk result (KeepsMarks running.old.tables running.new.tables) }
     ensures front { IfOk result (λ p. p ≢ Progress.Spent → KeepsFront code.now inputs.now
         running.old.tables.trace.nodes running.new.tables.trace.nodes) }

@@ -6,9 +6,11 @@ ghost use Rattle.ceal_base.specs.declared.word.Place.{Place as PlaceOf};
 ghost use Rattle.ceal_code.specs.Program.{Code as CodeOf};
 ghost use Rattle.ceal_order.specs.Stamps.{is_in, successor};
 ghost use Rattle.ceal_repair.specs.Blocks.{HasBlocks, KeepsReadable};
+ghost use Rattle.ceal_repair.specs.Distance.{CutsAfter};
 ghost use Rattle.ceal_repair.specs.Entries.{CutTo, IsNoneOr, IsUntil, Lies, Revokes, starts, first_in, first_stamp};
 ghost use Rattle.ceal_repair.specs.Kept.{Kept, base_in};
-ghost use Rattle.ceal_repair.specs.Looks.{due, NoneDiffers, KeepsMarks};
+ghost use Rattle.ceal_repair.specs.Lists.{nodes_after};
+ghost use Rattle.ceal_repair.specs.Looks.{due, touched_owed, CountsOn, NoneDiffers, KeepsMarks};
 ghost use Rattle.ceal_theory.specs.Groves.{Grove, Bare, cut};
 ghost use Rattle.ceal_trace.specs.Nodes.{Entry, stamps_in, has_node, node_at, is_plain};
 ghost use Rattle.ceal_trace.specs.declared.node.Node.{Node as NodeOf};
@@ -63,6 +65,9 @@ impl Running {
         ensures spent { self.new.spent ≡ self.old.spent }
         ensures looks { OnOk result (due self.new.tables ≤ due self.old.tables) }
         ensures differed { OnOk result (NoneDiffers self.old.tables self.new.tables) }
+        ensures touched { OnOk result
+            (touched_owed self.new.tables ≤ touched_owed self.old.tables) }
+        ensures counts { OnOk result (CountsOn self.old.tables self.new.tables) }
         ensures marks { OnOk result (KeepsMarks self.old.tables self.new.tables) }
         ensures kept { OnOk result (Kept self.new.tables) }
     {
@@ -110,6 +115,13 @@ impl Running {
         ensures spent { self.new.spent ≡ self.old.spent }
         ensures looks { OnOk result (due self.new.tables ≤ due self.old.tables) }
         ensures differed { OnOk result (NoneDiffers self.old.tables self.new.tables) }
+        ensures touched { OnOk result
+            (touched_owed self.new.tables ≤ touched_owed self.old.tables) }
+        ensures counts { OnOk result (CountsOn self.old.tables self.new.tables) }
+        ensures cuts { OnOk result (CutsAfter cursor.0
+            self.old.tables.trace.nodes self.new.tables.trace.nodes) }
+        ensures first { OnOk result
+            (first_in (nodes_after cursor.0 self.new.tables.trace.nodes) ≡ Some until.0) }
         ensures marks { OnOk result (KeepsMarks self.old.tables self.new.tables) }
         ensures kept { OnOk result (Kept self.new.tables) }
     {

@@ -6,6 +6,7 @@ ghost use Rattle.ceal_code.specs.Replay.{Store};
 ghost use Rattle.ceal_order.specs.Stamps.{is_in};
 ghost use Rattle.ceal_repair.specs.AsItems.{nodes_of, StartsAll};
 ghost use Rattle.ceal_repair.specs.Covered.{Queue, queue_of, Covers};
+ghost use Rattle.ceal_repair.specs.Distance.{Reuses, revalued_reads};
 ghost use Rattle.ceal_repair.specs.Kept.{Kept, CoveredBy, QueuedAfter, QueuedFrom, IsHonestRecord};
 ghost use Rattle.ceal_repair.specs.declared.tables.Tables.{Tables};
 ghost use Rattle.ceal_theory.specs.Cover.{Covered, none_waits};
@@ -26,6 +27,13 @@ pub fn unqueued_reads_are_honest()
 /// with no write of the place between.
 pub fn stale_reads_are_covered()
     ensures { (t : Tables) → Kept t → CoveredBy (queue_of t.stale.stamps) t }
+{}
+
+/// A law: where nodes are so far from old ones, the reads of them that have another value are those that can be counted
+/// by comparing both.
+pub fn stale_reads_are_revalued()
+    ensures law { (old new : List Entry) (fresh stale : ℕ)
+        → Reuses old new fresh stale → stale ≤ revalued_reads old new }
 {}
 
 /// A law: what is covered is so in the words of the theory of repair, if each allocation is at a point where the

@@ -24,7 +24,7 @@
 //! nodes inside a taken read (`pass`). `turns` are made one after another; `turn` begins one, `complete` lets its unit
 //! act until it is over, and `end` ends it. `cutting` revokes nodes that are left over, `bases` sets what modifiables
 //! hold before any write, `edits` does so for an input that is new to a run, `sought` are keys that are looked for
-//! among the nodes, and `words` reads plain words.
+//! among the nodes, and `words` reads plain words. By `written_in` a trace tells the modifiables the values of writes.
 #![tactic(auto)]
 
 pub mod advance;
@@ -42,3 +42,4 @@ pub mod running;
 mod sought;
 pub mod tables;
 mod words;
+mod written_in;

@@ -1,14 +1,15 @@
 // A repair that is under way: the machine of change propagation over the nodes of a trace.
 
-ghost use Rattle.std.specs.Prelude.{◌≡◌, ◌+◌, ◌∷◌, ◌++◌, [], Some, None, true, false, IfOk, OnOk, reverse};
+ghost use Rattle.std.specs.Prelude.{◌≡◌, ◌≤◌, ◌+◌, ◌∷◌, ◌++◌, [], Some, None, true, false, IfOk, OnOk, reverse};
 ghost use Rattle.ceal_code.specs.Stacks.{stack_in, aside_in, top_of, below_in, act_in};
 ghost use Rattle.ceal_code.specs.declared.step.Step.TheVariants.{Makes as IsMaking, Reads as IsReading};
 ghost use Rattle.ceal_code.specs.declared.step.Act.TheVariants as does;
 ghost use Rattle.ceal_repair.specs.Moment.{Start};
 ghost use Rattle.ceal_repair.specs.Reads.{closure_in};
-ghost use Rattle.ceal_repair.specs.Looks.{Pays};
+ghost use Rattle.ceal_repair.specs.Looks.{CountsOn, Pays, touched_owed};
 ghost use Rattle.ceal_repair.specs.Repairs.{code_of, inputs_of, running_of, stack_of, arguments_of, view, next_in};
-ghost use Rattle.ceal_repair.specs.Repairs.{step_of, Runs, Acts, IsOver, RunsOrEnds, SameCall};
+ghost use Rattle.ceal_repair.specs.Repairs.{step_of, Runs, Acts, IsOver, RunsOrEnds, SameCall, StaysAnew};
+ghost use Rattle.ceal_repair.specs.Repairs.{account};
 ghost use Rattle.ceal_repair.specs.Kept.{Kept};
 ghost use Rattle.ceal_order.specs.Stamps.{head_of};
 ghost use Rattle.ceal_trace.specs.Nodes.{has_node, stamps_in, with_steps, steps_at};
@@ -167,6 +168,10 @@ impl<'a> Repair<'a> {
         ensures mods { (running_of self.new).tables.mods ≡ (running_of self.old).tables.mods }
         ensures queue { (running_of self.new).tables.stale ≡ (running_of self.old).tables.stale }
         ensures memo { (running_of self.new).tables.memo ≡ (running_of self.old).tables.memo }
+        ensures touched { OnOk result (touched_owed (running_of self.new).tables
+            ≤ touched_owed (running_of self.old).tables + 1) }
+        ensures counts { OnOk result
+            (CountsOn (running_of self.old).tables (running_of self.new).tables) }
         ensures kept { Kept (running_of self.new).tables }
     {
         let running = &mut *self.running;
@@ -179,10 +184,12 @@ impl<'a> Repair<'a> {
 
     /// What the running unit does next. It answers false where the unit is over and nothing follows. After running out
     /// of memory the repair must not be used any more.
+    #[inline(always)]
     pub fn act(&mut self) -> Result<bool, NoMemory>
         requires runs { (start : Start) × Runs start self.old }
         ensures call { OnOk result (SameCall self.old self.new) }
-        ensures pays { OnOk result (Pays (running_of self.old) (running_of self.new)) }
+        ensures pays { OnOk result (Pays (account self.old) (account self.new)) }
+        ensures anew { OnOk result (StaysAnew self.old self.new) }
         ensures runs { IfOk result
             (λ more. (start : Start) → Runs start self.old → RunsOrEnds more start self.new) }
         ensures spent { IfOk result
@@ -215,7 +222,8 @@ impl<'a> Repair<'a> {
     fn close(&mut self) -> Result<bool, NoMemory>
         requires over { (start : Start) × Acts start does.Over self.old }
         ensures call { OnOk result (SameCall self.old self.new) }
-        ensures pays { OnOk result (Pays (running_of self.old) (running_of self.new)) }
+        ensures pays { OnOk result (Pays (account self.old) (account self.new)) }
+        ensures anew { OnOk result (StaysAnew self.old self.new) }
         ensures runs { IfOk result
             (λ more. (start : Start) → Acts start does.Over self.old
             → RunsOrEnds more start self.new) }

@@ -1,21 +1,23 @@
 // The tables of a trace, kept in step with its nodes.
 
 ghost use Rattle.std.specs.Prelude.{◌≡◌, ◌<◌, ◌≤◌, ◌+◌, ℕ, [], ◌∷◌, Some, None, false, length, IfOk, OnOk, OnErr};
-ghost use Rattle.std.specs.Prelude.{IsTrue};
+ghost use Rattle.std.specs.Prelude.{IsTrue, pos};
 ghost use Rattle.ceal_base.specs.declared.word.Place.{Place as PlaceOf};
+ghost use Rattle.ceal_base.specs.declared.word.Word.TheVariants.{Num};
 ghost use Rattle.ceal_code.specs.Replay.{stored};
 ghost use Rattle.ceal_memo.specs.Keys.{OfRead, OfAlloc};
 ghost use Rattle.ceal_memo.specs.Memo.{IsOf};
-ghost use Rattle.ceal_mods.specs.Mods.{cell_of, IsUntouched};
+ghost use Rattle.ceal_mods.specs.Mods.{cell_of, cell_slot, HasCell, IsUntouched};
 ghost use Rattle.ceal_order.specs.Stamps.{is_in};
 ghost use Rattle.ceal_repair.specs.Covered.{contents_after};
 ghost use Rattle.ceal_repair.specs.Kept.{Kept, QueuedAfter, base_in};
 ghost use Rattle.ceal_repair.specs.Lists.{up_to, between};
-ghost use Rattle.ceal_repair.specs.Looks.{looks_owed, LooksNever, NoneDiffers, KeepsMarks};
+ghost use Rattle.ceal_repair.specs.Looks.{looks_owed, touched_owed, CountsOn, LooksNever, NoneDiffers, KeepsMarks};
 ghost use Rattle.ceal_trace.specs.Nodes.{has_node, node_at, position, is_read, end_in, with_entry_after, with_steps};
 ghost use Rattle.ceal_trace.specs.Nodes.{new_entry, Inserted};
 ghost use Rattle.ceal_trace.specs.declared.node.Node.TheVariants.{Root, Alloc, Write, Read, End};
 
+use crate::written_in::WrittenIn;
 use ceal_base::forest::Key;
 use ceal_base::no_memory::NoMemory;
 use ceal_base::word::{BlockId, Place, Word};
@@ -63,6 +65,7 @@ impl Tables {
         ensures looks { IfOk result LooksNever }
         ensures unmarked { IfOk result (λ t. t.mods.marked ≡ None) }
         ensures kept { IfOk result Kept }
+        ensures seed { IfOk result (λ t. t.memo.seed ≡ seed.now.words) }
     {
         Ok(Tables {
             trace: Trace::new(alloc)?,
@@ -72,8 +75,9 @@ impl Tables {
         })
     }
 
-    /// Sets what a place holds before any write, and queues the read that this affects. A refusal has changed nothing
-    /// but the room of the queue.
+    /// Sets what a place holds before any write, and queues the read that this affects. A place that was never touched
+    /// holds 0, so it gets no cell for a 0. A refusal has changed nothing but the room of the queue.
+    #[inline(always)]
     pub fn edit(&mut self, place: Place, value: Word) -> Result<(), NoMemory>
         requires kept { Kept self.old }
         ensures trace { self.new.trace ≡ self.old.trace }
@@ -81,6 +85,8 @@ impl Tables {
         ensures base { OnOk result
             ((p : PlaceOf)
             → base_in self.new.mods p ≡ stored (base_in self.old.mods) place value p) }
+        ensures bare { value ≡ Num (pos 0) → ¬ HasCell self.old.mods place
+            → self.new.mods ≡ self.old.mods }
         ensures err { OnErr result (self.new.mods ≡ self.old.mods) }
         ensures queue_err { OnErr result (self.new.stale.stamps ≡ self.old.stale.stamps) }
         ensures only { (s : ℕ) → IsTrue (is_in s self.new.stale.stamps)
@@ -92,6 +98,9 @@ impl Tables {
         ensures marks { KeepsMarks self.old self.new }
         ensures kept { Kept self.new }
     {
+        if holds_anyway(&self.mods, place, value) {
+            return Ok(());
+        }
         let root = self.trace.root();
         let begun = self.mods.begin(place, value)?;
         if begun {
@@ -124,6 +133,8 @@ impl Tables {
         ensures queue { OnOk result (self.new.stale ≡ self.old.stale) }
         ensures behind { IfOk result
             (λ s. QueuedAfter after.0 self.old → QueuedAfter s.0 self.new) }
+        ensures touched { OnOk result (touched_owed self.new ≤ touched_owed self.old + 2) }
+        ensures counts { OnOk result (CountsOn self.old self.new) }
         ensures kept { OnOk result (Kept self.new) }
     {
         mods_follow();
@@ -147,6 +158,8 @@ impl Tables {
             (Write place value) self.old.trace.nodes self.new.trace.nodes) }
         ensures looks { OnOk result (looks_owed self.new ≤ looks_owed self.old + 2) }
         ensures differed { OnOk result (NoneDiffers self.old self.new) }
+        ensures touched { OnOk result (touched_owed self.new ≤ touched_owed self.old + 2) }
+        ensures counts { OnOk result (CountsOn self.old self.new) }
         ensures marks { OnOk result (KeepsMarks self.old self.new) }
         ensures bases { OnOk result
             ((p : PlaceOf) → base_in self.new.mods p ≡ base_in self.old.mods p) }
@@ -160,20 +173,23 @@ impl Tables {
         self.trace.reserve(1)?;
         self.stale.reserve(1)?;
         let added = self.trace.insert_write(after, place, value);
-        self.mods
+        let at = self
+            .mods
             .add_write(self.trace.order(), place, added, value)?;
-        self.wake(place, added);
+        self.wake_in(at, place, added);
         Ok(added)
     }
 
-    /// What a place holds directly after a node.
-    pub fn value_behind(&mut self, place: Place, after: Stamp) -> Word
+    /// What a place, whose cell is at a slot, holds directly after a node.
+    pub fn value_behind(&mut self, slot: u32, place: Place, after: Stamp) -> Word
+        requires slot { slot ≡ cell_slot self.old.mods place }
         requires kept { Kept self.old }
         requires here { IsTrue (has_node after.0 self.old.trace.nodes) }
         ensures value { result
             ≡ contents_after (base_in self.old.mods) (up_to after.0 self.old.trace.nodes) place }
         ensures looks { looks_owed self.new ≤ looks_owed self.old + 1 }
         ensures differed { NoneDiffers self.old self.new }
+        ensures counts { CountsOn self.old self.new }
         ensures marks { KeepsMarks self.old self.new }
         ensures trace { self.new.trace ≡ self.old.trace }
         ensures cells { self.new.mods.cells ≡ self.old.mods.cells }
@@ -182,8 +198,15 @@ impl Tables {
         ensures kept { Kept self.new }
     {
         match self.trace.order().next(after) {
-            None => self.mods.last_value(place),
-            Some(next) => self.mods.value_at(self.trace.order(), place, next),
+            None => {
+                let written = WrittenIn { trace: &self.trace };
+                self.mods.last_in(&written, slot, place)
+            }
+            Some(next) => {
+                let written = WrittenIn { trace: &self.trace };
+                self.mods
+                    .value_in(self.trace.order(), &written, slot, place, next)
+            }
         }
     }
 
@@ -214,6 +237,8 @@ impl Tables {
         ensures open { IfOk result (λ b. end_in b.read.0 self.new.trace.nodes ≡ None) }
         ensures looks { OnOk result (looks_owed self.new ≤ looks_owed self.old + 1) }
         ensures differed { OnOk result (NoneDiffers self.old self.new) }
+        ensures touched { OnOk result (touched_owed self.new ≤ touched_owed self.old + 2) }
+        ensures counts { OnOk result (CountsOn self.old self.new) }
         ensures marks { OnOk result (KeepsMarks self.old self.new) }
         ensures bases { OnOk result
             ((p : PlaceOf) → base_in self.new.mods p ≡ base_in self.old.mods p) }
@@ -228,11 +253,12 @@ impl Tables {
         self.trace.reserve(1)?;
         let args = Words::from_slice(alloc, key.args)?;
         let place = key.place;
-        let value = self.value_behind(place, after);
+        let at = self.mods.slot(place);
+        let value = self.value_behind(at, place, after);
         let read = self
             .trace
             .begin_read(after, place, value, key.unit, key.var, args);
-        self.mods.add_read(self.trace.order(), place, read)?;
+        self.mods.add_read_in(self.trace.order(), at, place, read)?;
         self.memo.add(self.trace.order(), hashed, read)?;
         Ok(Begun { read, value })
     }
@@ -255,6 +281,8 @@ impl Tables {
         ensures queue { OnOk result (self.new.stale ≡ self.old.stale) }
         ensures behind { IfOk result
             (λ s. QueuedAfter after.0 self.old → QueuedAfter s.0 self.new) }
+        ensures touched { OnOk result (touched_owed self.new ≤ touched_owed self.old + 2) }
+        ensures counts { OnOk result (CountsOn self.old self.new) }
         ensures kept { OnOk result (Kept self.new) }
     {
         mods_follow();
@@ -272,8 +300,19 @@ impl Tables {
         ensures mods { self.new.mods ≡ self.old.mods }
         ensures queue { self.new.stale ≡ self.old.stale }
         ensures memo { self.new.memo ≡ self.old.memo }
+        ensures touched { touched_owed self.new ≤ touched_owed self.old + 1 }
+        ensures counts { CountsOn self.old self.new }
         ensures kept { Kept self.new }
     {
         self.trace.set_steps(node, steps);
     }
+}
+
+// Whether a place is to hold 0 that was never touched: it holds 0 then.
+#[inline(always)]
+fn holds_anyway(mods: &Mods, place: Place, value: Word) -> bool
+    ensures yes { IsTrue result → (value ≡ Num (pos 0)) × (¬ HasCell mods.now place) }
+    ensures no { result ≡ false → value ≡ Num (pos 0) → HasCell mods.now place }
+{
+    value == Word::Num(0) && !mods.has_cell(place)
 }

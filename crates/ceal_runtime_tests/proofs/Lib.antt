@@ -1,2 +1,3 @@
 mod NewStamps
 mod SlotFacts
+mod ToldTwos

@@ -3,16 +3,29 @@
 ghost use Rattle.std.specs.Prelude.{◌≡◌, ◌<◌, ◌≤◌, ◌+◌, ℕ, List, IsTrue};
 ghost use Rattle.ceal_order.specs.Stamps.{is_in};
 ghost use Rattle.ceal_mods.specs.Mods.{cell_of, Follows, IsUntouched};
-ghost use Rattle.ceal_mods.specs.Writes.{stamps_of};
+ghost use Rattle.ceal_mods.specs.Writes.{stamps_of, AreTold};
+ghost use Rattle.ceal_runtime_tests.specs.Twos.{twos};
 
 use crate::asserts::{equal, holds};
 use crate::orders::order_with_room;
 use ceal_base::word::{BlockId, Place, Word};
 use ceal_mods::laws::follows_still;
 use ceal_mods::mods::Mods;
+use ceal_mods::written::Written;
 use ceal_order::order::Order;
 use ceal_order::stamp::Stamp;
 use std::process::Abort;
+
+// Tells that each write is one of 2, as it is in these tests.
+struct Twos;
+
+impl Written for Twos {
+    ghost tells = { λ _. twos };
+
+    fn written_at(&self, _write: Stamp) -> Word {
+        Word::Num(2)
+    }
+}
 
 const COUNTER: Place = Place {
     block: BlockId::Input(0),
@@ -22,8 +35,8 @@ const COUNTER: Place = Place {
 #[test]
 fn a_base_holds_from_the_start(rt: HostRuntime) {
     let mut mods = Mods::new(rt.alloc()).expect(&rt, "memory");
-    holds(&rt, mods.set_base(COUNTER, Word::Num(1)).is_ok());
-    equal(&rt, mods.last_value(COUNTER), Word::Num(1));
+    mods.set_base(COUNTER, Word::Num(1)).expect(&rt, "memory");
+    equal(&rt, mods.last_value(&Twos, COUNTER), Word::Num(1));
     equal(&rt, mods.looked(), 0);
     drop(mods);
 }
@@ -31,13 +44,15 @@ fn a_base_holds_from_the_start(rt: HostRuntime) {
 #[test]
 fn a_base_begins_once(rt: HostRuntime) {
     let mut mods = Mods::new(rt.alloc()).expect(&rt, "memory");
+    holds(&rt, !mods.has_cell(COUNTER));
     holds(&rt, mods.begin(COUNTER, Word::Num(1)).expect(&rt, "memory"));
-    equal(&rt, mods.last_value(COUNTER), Word::Num(1));
+    equal(&rt, mods.last_value(&Twos, COUNTER), Word::Num(1));
+    holds(&rt, mods.has_cell(COUNTER));
     holds(
         &rt,
         !mods.begin(COUNTER, Word::Num(2)).expect(&rt, "memory"),
     );
-    equal(&rt, mods.last_value(COUNTER), Word::Num(1));
+    equal(&rt, mods.last_value(&Twos, COUNTER), Word::Num(1));
     drop(mods);
 }
 
@@ -51,15 +66,15 @@ fn what_has_changed_since_the_mark(rt: HostRuntime) {
     let mut mods = Mods::new(rt.alloc()).expect(&rt, "memory");
     holds(&rt, !mods.is_marked());
     mods.set_base(COUNTER, Word::Num(1)).expect(&rt, "memory");
-    mods.mark().expect(&rt, "memory");
+    mods.mark(&Twos).expect(&rt, "memory");
     holds(&rt, mods.is_marked());
     mods.set_base(COUNTER, Word::Num(2)).expect(&rt, "memory");
     mods.set_base(OTHER, Word::Num(3)).expect(&rt, "memory");
-    equal(&rt, mods.changed().expect(&rt, "memory").len(), 2);
+    equal(&rt, mods.changed(&Twos).expect(&rt, "memory").len(), 2);
     mods.set_base(COUNTER, Word::Num(1)).expect(&rt, "memory");
-    equal(&rt, mods.changed().expect(&rt, "memory").len(), 1);
-    mods.mark().expect(&rt, "memory");
-    equal(&rt, mods.changed().expect(&rt, "memory").len(), 0);
+    equal(&rt, mods.changed(&Twos).expect(&rt, "memory").len(), 1);
+    mods.mark(&Twos).expect(&rt, "memory");
+    equal(&rt, mods.changed(&Twos).expect(&rt, "memory").len(), 0);
     drop(mods);
 }
 
@@ -72,8 +87,16 @@ fn writes_at_the_start<R: Abort>(rt: &R, order: &mut Order, mods: &mut Mods)
     let second = order.insert_after(first);
     mods.add_write(order, COUNTER, first, Word::Num(2))
         .expect(rt, "memory");
-    equal(rt, mods.value_at(order, COUNTER, first), Word::Num(0));
-    equal(rt, mods.value_at(order, COUNTER, second), Word::Num(2));
+    equal(
+        rt,
+        mods.value_at(order, &Twos, COUNTER, first),
+        Word::Num(0),
+    );
+    equal(
+        rt,
+        mods.value_at(order, &Twos, COUNTER, second),
+        Word::Num(2),
+    );
     equal(rt, mods.looked(), 2);
 }
 
@@ -93,11 +116,15 @@ fn writes_over_a_base<R: Abort>(rt: &R, order: &mut Order, mods: &mut Mods)
 {
     let first = order.first();
     let second = order.insert_after(first);
-    holds(rt, mods.set_base(COUNTER, Word::Num(1)).is_ok());
+    mods.set_base(COUNTER, Word::Num(1)).expect(rt, "memory");
     mods.add_write(order, COUNTER, first, Word::Num(2))
         .expect(rt, "memory");
     mods.remove_write(order, COUNTER, first);
-    equal(rt, mods.value_at(order, COUNTER, second), Word::Num(1));
+    equal(
+        rt,
+        mods.value_at(order, &Twos, COUNTER, second),
+        Word::Num(1),
+    );
 }
 
 #[test]
@@ -177,6 +204,8 @@ fn write_behind<R: Abort>(
     ensures room { order.new.spare + 1 ≡ order.old.spare }
     ensures follows { Follows order.new.stamps mods.new }
     ensures written { IsTrue (is_in result.0 (stamps_of (cell_of mods.new place).writes)) }
+    ensures twos { AreTold twos (cell_of mods.old place).writes
+        → AreTold twos (cell_of mods.new place).writes }
 {
     let stamp = order.insert_after(after);
     follows_still();
@@ -188,22 +217,31 @@ fn write_behind<R: Abort>(
 // A place with a base, a read, a write after it, and two reads after that.
 fn writes_between_reads<R: Abort>(rt: &R, order: &mut Order, mods: &mut Mods)
     requires room { 4 ≤ order.old.spare }
+    requires untouched { IsUntouched mods.old }
     requires follows { (stamps : List ℕ) → Follows stamps mods.old }
 {
-    holds(rt, mods.set_base(COUNTER, Word::Num(1)).is_ok());
+    mods.set_base(COUNTER, Word::Num(1)).expect(rt, "memory");
     let start = order.first();
     let fourth = read_behind(rt, order, mods, COUNTER, start);
     let third = read_behind(rt, order, mods, COUNTER, start);
     let second = write_behind(rt, order, mods, COUNTER, start);
     let first = read_behind(rt, order, mods, COUNTER, start);
-    equal(rt, mods.value_at(order, COUNTER, first), Word::Num(1));
-    equal(rt, mods.value_at(order, COUNTER, fourth), Word::Num(2));
+    equal(
+        rt,
+        mods.value_at(order, &Twos, COUNTER, first),
+        Word::Num(1),
+    );
+    equal(
+        rt,
+        mods.value_at(order, &Twos, COUNTER, fourth),
+        Word::Num(2),
+    );
     equal(rt, mods.affected(order, COUNTER, second), Some(third));
     equal(rt, mods.affected(order, COUNTER, start), Some(first));
     equal(rt, mods.affected(order, COUNTER, first), None);
     mods.remove_write(order, COUNTER, second);
     equal(rt, mods.affected(order, COUNTER, first), Some(third));
-    equal(rt, mods.last_value(COUNTER), Word::Num(1));
+    equal(rt, mods.last_value(&Twos, COUNTER), Word::Num(1));
 }
 
 #[test]

@@ -92,7 +92,7 @@ fn forest<R: Abort>(rt: &R, alloc: Global, trace: &Trace) -> Vec<Line> {
     lines
 }
 
-// The forest of a trace has these lines.
+/// The forest of a trace has these lines.
 pub fn has_lines<R: Abort>(rt: &R, alloc: Global, trace: &Trace, wanted: &[Line]) {
     let lines = forest(rt, alloc, trace);
     holds(rt, lines.as_slice() == wanted);

@@ -7,4 +7,5 @@ pub mod Moves
 pub mod Memory
 pub mod Saves
 pub mod Situations
+pub mod Costs
 mod Samples

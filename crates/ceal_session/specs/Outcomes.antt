@@ -4,6 +4,7 @@ use Rattle.std.specs.Prelude.{◌≡◌, ◌⊎◌, ℕ, Bool, true, false, Opti
 use Rattle.ceal_base.specs.Block.{Block}
 use Rattle.ceal_base.specs.declared.call.Call.{Call}
 use Rattle.ceal_code.specs.Program.{Code}
+use Rattle.ceal_engine.specs.Cost.{CostOfCall}
 use Rattle.ceal_engine.specs.Engine.{EngineState, IsPresent, fresh_of, has_run}
 use Rattle.ceal_engine.specs.declared.phase.Came.{Came}
 use Rattle.ceal_engine.specs.declared.phase.Came.TheVariants.{More, Done, Anew}
@@ -100,16 +101,7 @@ pub record EngineAfterCall
   pub makes : (p : Past) → IsPastOf e.code e.inputs call.function call.args p
       → SamePast e.code e.inputs call.function call.args p (past_of e)
       → PastMatches outcome e call reads p e'
-
--- so it is with the call that was accepted
-abbrev pub EngineAfterAcceptedCall : EngineState → Option ℕ → Outcome → EngineState → Type 0
-EngineAfterAcceptedCall e reads outcome e' =
-    (call : Call) → e.call ≡ Some call → EngineAfterCall e call reads outcome e'
-
--- the outcome of a run that ended in this way, if it ended
-abbrev pub with_came : {A : Type 0} → Came → Result A RunError → Outcome
-with_came c (Ok x) = Ok c
-with_came c (Err e) = Err e
+  pub cost : CostOfCall e e'
 
 -- The state is this one, and what the session has of runs is what the definition makes of what it had.
 pub record SituationAfterCall

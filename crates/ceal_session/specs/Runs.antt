@@ -1,6 +1,6 @@
 -- A session that begins, and the run from scratch at each moment of it.
-use Rattle.std.specs.Prelude.{ℕ, Bool, true, false, Option, Some, None, List, []}
-use Rattle.ceal_base.specs.Block.{Block, Blocks, alone}
+use Rattle.std.specs.Prelude.{ℕ, Bool, true, false, Option, Some, None, []}
+use Rattle.ceal_base.specs.Block.{Blocks, alone}
 use Rattle.ceal_base.specs.Finished.{Finished}
 use Rattle.ceal_base.specs.declared.typed.Typed.{Typed}
 use Rattle.ceal_mean.specs.Fresh.{fresh}

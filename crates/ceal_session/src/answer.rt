@@ -34,6 +34,7 @@ impl Model for Answer {
 }
 
 impl Answer {
+    /// An answer that is known beforehand. It takes no memory.
     pub fn fixed(text: &'static str) -> Answer
         ensures value { result ≡ text.now }
     {
@@ -53,6 +54,7 @@ impl Answer {
         })
     }
 
+    /// An answer that was made for this line.
     pub fn owned(text: Text) -> Answer
         ensures value { result ≡ text }
     {
@@ -61,6 +63,7 @@ impl Answer {
         }
     }
 
+    /// The bytes of the answer.
     pub fn items(&self) -> &[u8]
         ensures value { result.now ≡ self.now }
     {

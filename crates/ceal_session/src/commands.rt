@@ -1,6 +1,7 @@
 // What a command is answered, and the state after it.
 
 ghost use Rattle.std.specs.Prelude.{◌≡◌, ◌≢◌, [], ◌∷◌, Some, None, IfOk, OnOk, OnErr, map};
+ghost use Rattle.ceal_engine.specs.Cost.{CostOfCall};
 ghost use Rattle.ceal_script.specs.Spelling.{IsName};
 ghost use Rattle.ceal_session.specs.Questions.{HasReads};
 ghost use Rattle.ceal_session.specs.AfterLine.{KeepsRuns, RunsOrKeeps, IsAfterNoMemoryOf};
@@ -39,6 +40,7 @@ fn make_modifiable(
         (sense_of_value state.old.state value.now ∷ [])) }
     ensures quiet { IfOk result (λ reply. IsQuiet reply → state.new ≡ state.old) }
     ensures trace { OnOk result (KeepsRuns (situation state.old) (situation state.new)) }
+    ensures cost { OnOk result (CostOfCall state.old.engine state.new.engine) }
     ensures err { OnErr result (state.new ≡ state.old) }
 {
     let shape = mod_shape(state, kind);
@@ -62,6 +64,7 @@ fn make_block(
         (map (sense_of_value state.old.state) values.now)) }
     ensures quiet { IfOk result (λ reply. IsQuiet reply → state.new ≡ state.old) }
     ensures trace { OnOk result (KeepsRuns (situation state.old) (situation state.new)) }
+    ensures cost { OnOk result (CostOfCall state.old.engine state.new.engine) }
     ensures err { OnErr result (state.new ≡ state.old) }
 {
     let shape = struct_shape(state, shape);
@@ -91,6 +94,7 @@ fn start(state: &mut State, call: Result<Call, Refusal>) -> Result<Reply, NoMemo
     ensures quiet { IfOk result (λ reply. IsQuiet reply → state.new ≡ state.old) }
     ensures trace { OnOk result
         (RunsOrKeeps (situation state.old) call None (situation state.new)) }
+    ensures cost { OnOk result (CostOfCall state.old.engine state.new.engine) }
     ensures err { OnErr result
         (IsAfterNoMemoryOf (situation state.old) call (situation state.new)) }
 {
@@ -117,6 +121,7 @@ fn start_first(
         (RunsOrKeeps (situation state.old)
         (call_of_run state.old.state (function_named state.old.state function.now)
         (map (sense_of_value state.old.state) args.now)) None (situation state.new)) }
+    ensures cost { OnOk result (CostOfCall state.old.engine state.new.engine) }
     ensures err { OnErr result
         (IsAfterNoMemoryOf (situation state.old)
         (call_of_run state.old.state (function_named state.old.state function.now)
@@ -138,6 +143,7 @@ fn start_again(state: &mut State, reads: Option<u32>) -> Result<Reply, NoMemory>
     ensures trace { OnOk result
         (RunsOrKeeps (situation state.old) (call_again state.old.state.call) reads
         (situation state.new)) }
+    ensures cost { OnOk result (CostOfCall state.old.engine state.new.engine) }
     ensures err { OnErr result
         (IsAfterNoMemoryOf (situation state.old) (call_again state.old.state.call)
         (situation state.new)) }
@@ -160,6 +166,7 @@ pub fn reply_to(alloc: Global, state: &mut State, command: &Command) -> Result<R
         (RunsOrKeeps (situation state.old) (call_of state.old.state command.now)
         (reads_of command.now)
         (situation state.new)) }
+    ensures cost { OnOk result (CostOfCall state.old.engine state.new.engine) }
     ensures err { OnErr result
         (IsAfterNoMemoryOf (situation state.old) (call_of state.old.state command.now)
         (situation state.new)) }

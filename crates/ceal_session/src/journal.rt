@@ -102,6 +102,7 @@ impl Journal {
         }
     }
 
+    /// How many edits there are.
     pub fn len(&self) -> usize
         ensures { result ≡ length self.now.since }
     {
@@ -149,6 +150,7 @@ impl Journal {
         drop(mem::replace(&mut self.bounding, Bounding::Number(bound)));
     }
 
+    /// The last bound, or the edits that it is computed from.
     pub fn bounding(&self) -> &Bounding
         ensures { measure_of result.now ≡ self.now.measure }
     {

@@ -6,6 +6,7 @@ ghost use Rattle.std.specs.Prelude.{IsErrOf};
 ghost use Rattle.std.specs.Prelude.{IsTrue, MatchOption};
 ghost use Rattle.ceal_base.specs.declared.word.Word.TheVariants.{Num};
 ghost use Rattle.ceal_compile.specs.Compiled.{IsCompiled};
+ghost use Rattle.ceal_engine.specs.Cost.{CostOfCall};
 ghost use Rattle.ceal_script.specs.declared.command.Command.{Command as CommandOf};
 ghost use Rattle.ceal_session.specs.LineReply.{HasReply};
 ghost use Rattle.ceal_session.specs.Questions.{CanTell, IsReady};
@@ -114,6 +115,7 @@ fn answer_of(alloc: Global, state: &mut State, reply: Reply) -> Result<Answer, N
         (λ answer. IsText state.old.state (numbers_in (situation state.old)) reply answer) }
     ensures long { IfOk result (λ answer. 12 < length answer → state.new ≡ state.old) }
     ensures kept { situation state.new ≡ situation state.old }
+    ensures engine { state.new.engine ≡ state.old.engine }
     ensures err { OnErr result (IsQuiet reply) }
 {
     match reply {
@@ -136,6 +138,7 @@ fn reply_of(alloc: Global, state: &mut State, line: &[u8]) -> Result<Reply, NoMe
     ensures tells { IfOk result (λ reply. CanTell state.new.state reply) }
     ensures trace { OnOk result
         (IsAfterLine (situation state.old) line.now (situation state.new)) }
+    ensures cost { OnOk result (CostOfCall state.old.engine state.new.engine) }
     ensures bounded { OnOk result
         (Bounds (situation state.old) line.now (situation state.new)) }
     ensures left { OnErr result
@@ -164,6 +167,7 @@ fn answer_line(alloc: Global, state: &mut State, line: &[u8]) -> Result<Answer, 
     ensures long { IfOk result (λ answer. 12 < length answer → state.new ≡ state.old) }
     ensures trace { OnOk result
         (IsAfterLine (situation state.old) line.now (situation state.new)) }
+    ensures cost { OnOk result (CostOfCall state.old.engine state.new.engine) }
     ensures bounded { OnOk result
         (Bounds (situation state.old) line.now (situation state.new)) }
     ensures left { OnErr result
@@ -213,6 +217,7 @@ impl Session {
         ensures long { IfOk result (λ answer. 12 < length answer → self.new ≡ self.old) }
         ensures trace { OnOk result
             (IsAfterLine (situation self.old) line.now (situation self.new)) }
+        ensures cost { OnOk result (CostOfCall self.old.engine self.new.engine) }
         ensures bounded { OnOk result
             (Bounds (situation self.old) line.now (situation self.new)) }
         ensures left { OnErr result
@@ -229,6 +234,7 @@ impl Session {
             line.now text self.new.state) }
         ensures trace { OnOk result
             (IsAfterLine (situation self.old) line.now (situation self.new)) }
+        ensures cost { OnOk result (CostOfCall self.old.engine self.new.engine) }
         ensures bounded { OnOk result
             (Bounds (situation self.old) line.now (situation self.new)) }
         ensures left { OnErr result
@@ -282,6 +288,7 @@ impl Session {
             ≡ step_of_set self.old.state (sense_of_handle self.old.state handle)
             (IsWord (Num number))) }
         ensures trace { OnOk result (KeepsRuns (situation self.old) (situation self.new)) }
+        ensures cost { OnOk result (CostOfCall self.old.engine self.new.engine) }
         ensures err { OnErr result (self.new ≡ self.old) }
     {
         set_number(&mut self.state, handle, number)

@@ -5,6 +5,7 @@ ghost use Rattle.std.specs.Prelude.{IfOk, IfSome, OnOk, OnErr};
 ghost use Rattle.std.specs.List.{list_any};
 ghost use Rattle.ceal_base.specs.Fitting.{block_fits, kind_at};
 ghost use Rattle.ceal_compile.specs.Compiled.{IsCompiled};
+ghost use Rattle.ceal_engine.specs.Cost.{CostOfCall};
 ghost use Rattle.ceal_script.specs.Spelling.{IsName};
 ghost use Rattle.ceal_session.specs.Questions.{IsCellOf};
 ghost use Rattle.ceal_base.specs.declared.call.Call.{Call as CallOf};
@@ -20,7 +21,7 @@ ghost use Rattle.ceal_session.specs.Steps.{call_again};
 ghost use Rattle.ceal_session.specs.Consistency.{HasTrace};
 ghost use Rattle.ceal_theory.specs.Pasts.{goes};
 
-use crate::advance::{advanced, first_advanced, goes_on, reply_to, settle};
+use crate::advance::{first_run, goes_on, reply_to, settle};
 use crate::journal::{Journal, base_of};
 use crate::reply::Reply;
 use ceal_base::call::Call;
@@ -126,12 +127,14 @@ impl State {
         self.engine.fuel()
     }
 
+    /// The structs of the program.
     pub fn structs(&self) -> &[StructInfo]
         ensures { result.now ≡ self.now.state.program.structs }
     {
         self.program.structs()
     }
 
+    /// The functions of the program.
     pub fn functions(&self) -> &[TypedFunction]
         ensures { result.now ≡ self.now.state.program.functions }
     {
@@ -152,6 +155,7 @@ impl State {
         self.program.function_number(name)
     }
 
+    /// The inputs, with their present bases.
     pub fn inputs(&self) -> &Inputs
         ensures { result.now ≡ self.now.state.inputs }
     {
@@ -209,6 +213,7 @@ impl State {
         }
     }
 
+    /// Whether an edit waits for a propagate.
     pub fn is_pending(&self) -> bool
         ensures { result ≡ self.now.state.pending }
     {
@@ -224,6 +229,7 @@ impl State {
         ensures ok { OnOk result
             (self.new.state ≡ with_input self.old.state name.now (block_of shape words.now)) }
         ensures trace { OnOk result (KeepsRuns (situation self.old) (situation self.new)) }
+        ensures cost { OnOk result (CostOfCall self.old.engine self.new.engine) }
         ensures err { OnErr result (self.new ≡ self.old) }
     {
         let count = self.names.len();
@@ -247,6 +253,7 @@ impl State {
             (kind_at self.old.state.program.structs (memory_of self.old.state) place) word ≡ true }
         ensures ok { OnOk result (self.new.state ≡ with_base self.old.state place word) }
         ensures trace { OnOk result (KeepsRuns (situation self.old) (situation self.new)) }
+        ensures cost { OnOk result (CostOfCall self.old.engine self.new.engine) }
         ensures err { OnErr result (self.new ≡ self.old) }
     {
         let count = self.journal.len();
@@ -267,12 +274,13 @@ impl State {
     /// The first run, and its outcome.
     fn start(&mut self, call: &Call) -> Result<Came, RunError>
         requires { IsFirst self.old.state call.now }
-        ensures { SituationAfterOutcome (situation self.old) call.now None result
+        ensures outcome { SituationAfterOutcome (situation self.old) call.now None result
             (situation self.new) }
+        ensures cost { CostOfCall self.old.engine self.new.engine }
     {
         // for the proof: it is an engine before and after, by the clause `whole`
         let _before = self.engine.phase();
-        let came = first_advanced(&mut self.engine, call);
+        let came = first_run(&mut self.engine, call);
         let _after = self.engine.phase();
         settle(&mut self.journal, &self.engine, &came);
         self.pending = goes_on(&came);
@@ -284,12 +292,13 @@ impl State {
     fn advance(&mut self, reads: Option<u32>) -> Result<Came, RunError>
         requires called { is_some self.old.state.call ≡ true }
         requires some { reads ≢ Some 0 }
-        ensures { (call : CallOf) → self.old.state.call ≡ Some call
+        ensures outcome { (call : CallOf) → self.old.state.call ≡ Some call
             → SituationAfterOutcome (situation self.old) call reads result (situation self.new) }
+        ensures cost { CostOfCall self.old.engine self.new.engine }
     {
         // for the proof: it is an engine before and after, by the clause `whole`
         let _before = self.engine.phase();
-        let came = advanced(&mut self.engine, reads);
+        let came = self.engine.advance(reads);
         let _after = self.engine.phase();
         settle(&mut self.journal, &self.engine, &came);
         self.pending = goes_on(&came);
@@ -304,6 +313,7 @@ impl State {
             ≡ runs self.old.state None (goes (situation self.new).past) (OkOf call.now)) }
         ensures trace { OnOk result
             (RunsOrKeeps (situation self.old) (OkOf call.now) None (situation self.new)) }
+        ensures cost { OnOk result (CostOfCall self.old.engine self.new.engine) }
         ensures err { OnErr result
             (IsAfterNoMemoryOf (situation self.old) (OkOf call.now) (situation self.new)) }
     {
@@ -323,6 +333,7 @@ impl State {
         ensures trace { OnOk result
             (RunsOrKeeps (situation self.old) (call_again self.old.state.call) reads
             (situation self.new)) }
+        ensures cost { OnOk result (CostOfCall self.old.engine self.new.engine) }
         ensures err { OnErr result
             (IsAfterNoMemoryOf (situation self.old) (call_again self.old.state.call)
             (situation self.new)) }

@@ -3,6 +3,7 @@
 ghost use Rattle.std.specs.Prelude.{◌≡◌, Some, false, slice_get, IfOk, OnOk, OnErr, bytes_eq};
 ghost use Rattle.std.specs.List.{list_any};
 ghost use Rattle.ceal_base.specs.Fitting.{kind_at};
+ghost use Rattle.ceal_engine.specs.Cost.{CostOfCall};
 ghost use Rattle.ceal_script.specs.Spelling.{IsName};
 ghost use Rattle.ceal_session.specs.Questions.{IsCellOf, IsCellSense};
 ghost use Rattle.ceal_session.specs.AfterLine.{KeepsRuns};
@@ -39,6 +40,7 @@ fn make_if(state: &mut State, name: &Text, shape: Shape, words: &[Word]) -> Resu
         ≡ step_of_words state.old.state name.now shape (Some words.now)) }
     ensures quiet { IfOk result (λ reply. IsQuiet reply → state.new ≡ state.old) }
     ensures trace { OnOk result (KeepsRuns (situation state.old) (situation state.new)) }
+    ensures cost { OnOk result (CostOfCall state.old.engine state.new.engine) }
     ensures err { OnErr result (state.new ≡ state.old) }
 {
     if !new_block_fits(state.structs(), state.inputs(), shape, words) {
@@ -61,6 +63,7 @@ fn make_with(
         ≡ step_of_input state.old.state name.now shape senses.now) }
     ensures quiet { IfOk result (λ reply. IsQuiet reply → state.new ≡ state.old) }
     ensures trace { OnOk result (KeepsRuns (situation state.old) (situation state.new)) }
+    ensures cost { OnOk result (CostOfCall state.old.engine state.new.engine) }
     ensures err { OnErr result (state.new ≡ state.old) }
 {
     let unknown = has_unknown(senses);
@@ -90,6 +93,7 @@ pub fn make(
         ≡ step_of_shape state.old.state name.now shape senses.now) }
     ensures quiet { IfOk result (λ reply. IsQuiet reply → state.new ≡ state.old) }
     ensures trace { OnOk result (KeepsRuns (situation state.old) (situation state.new)) }
+    ensures cost { OnOk result (CostOfCall state.old.engine state.new.engine) }
     ensures err { OnErr result (state.new ≡ state.old) }
 {
     match shape {
@@ -128,6 +132,7 @@ fn set_base(state: &mut State, place: Place, word: Word) -> Result<Reply, NoMemo
         ≡ based state.old.state place word) }
     ensures quiet { IfOk result (λ reply. IsQuiet reply → state.new ≡ state.old) }
     ensures trace { OnOk result (KeepsRuns (situation state.old) (situation state.new)) }
+    ensures cost { OnOk result (CostOfCall state.old.engine state.new.engine) }
     ensures err { OnErr result (state.new ≡ state.old) }
 {
     if !fits_place(state, place, word) {
@@ -138,6 +143,7 @@ fn set_base(state: &mut State, place: Place, word: Word) -> Result<Reply, NoMemo
 }
 
 /// `set`: another base, unless it is refused.
+#[tactic(auto, using(crate::proofs::Costs::no_cost))]
 pub fn set(state: &mut State, place: Sense, value: Sense) -> Result<Reply, NoMemory>
     requires { IsCellSense state.old.state place }
     ensures step { IfOk result
@@ -145,6 +151,7 @@ pub fn set(state: &mut State, place: Sense, value: Sense) -> Result<Reply, NoMem
         ≡ set_of state.old.state place value) }
     ensures quiet { IfOk result (λ reply. IsQuiet reply → state.new ≡ state.old) }
     ensures trace { OnOk result (KeepsRuns (situation state.old) (situation state.new)) }
+    ensures cost { OnOk result (CostOfCall state.old.engine state.new.engine) }
     ensures err { OnErr result (state.new ≡ state.old) }
 {
     if is_unknown(place) || is_unknown(value) {

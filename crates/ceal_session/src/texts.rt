@@ -72,6 +72,7 @@ fn bound_line(alloc: Global, state: &mut State) -> Result<Answer, NoMemory>
         (present_run state.old.state) answer) }
     ensures short { IfOk result (λ answer. length answer ≤ 12) }
     ensures kept { situation state.new ≡ situation state.old }
+    ensures engine { state.new.engine ≡ state.old.engine }
 {
     let bound = state.bound(alloc)?;
     state.keep_bound(bound);
@@ -87,6 +88,7 @@ pub fn answer(alloc: Global, state: &mut State, query: Query) -> Result<Answer, 
         (present_run state.old.state) answer) }
     ensures long { IfOk result (λ answer. 12 < length answer → state.new ≡ state.old) }
     ensures kept { situation state.new ≡ situation state.old }
+    ensures engine { state.new.engine ≡ state.old.engine }
 {
     match query {
         Query::Get(place) => word_line(alloc, state, state.content(place)),

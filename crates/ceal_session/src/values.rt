@@ -5,6 +5,7 @@ ghost use Rattle.std.specs.Fmt.{signed_decimal};
 ghost use Rattle.ceal_base.specs.Fitting.{kind_at};
 ghost use Rattle.ceal_base.specs.declared.word.Word.TheVariants.{Num};
 ghost use Rattle.ceal_code.specs.Value.{is_cell};
+ghost use Rattle.ceal_engine.specs.Cost.{CostOfCall};
 ghost use Rattle.ceal_script.specs.declared.command.Command.{Command as CommandOf};
 ghost use Rattle.ceal_session.specs.AfterLine.{KeepsRuns};
 ghost use Rattle.ceal_session.specs.SessionState.{situation};
@@ -176,6 +177,7 @@ pub fn set_number(state: &mut State, handle: Handle, number: i64) -> Result<(), 
         ≡ step_of_set state.old.state (sense_of_handle state.old.state handle)
         (IsWord (Num number))) }
     ensures trace { OnOk result (KeepsRuns (situation state.old) (situation state.new)) }
+    ensures cost { OnOk result (CostOfCall state.old.engine state.new.engine) }
     ensures err { OnErr result (state.new ≡ state.old) }
 {
     if !has_modifiable(state, handle.place) {

@@ -33,6 +33,7 @@ impl Model for Met {
 }
 
 impl Met {
+    /// No block was met.
     pub fn new(alloc: Global) -> Met
         ensures value { result ≡ [] }
     {

@@ -5,6 +5,7 @@ pub mod CarriedLaws
 pub mod Soundness
 pub mod DoneReplays
 pub mod AddedBlocks
+pub mod Progress
 -- what only this crate cites
 pub mod PastLaws
 pub mod SliceFunction

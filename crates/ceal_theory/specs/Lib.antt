@@ -23,6 +23,7 @@ pub mod MoreInputs
 -- repairs in slices, and their queue
 pub mod Slices
 pub mod SliceLaws
+pub mod Progress
 pub mod Carried
 pub mod Pasts
 pub mod Cover

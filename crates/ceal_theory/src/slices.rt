@@ -1,6 +1,7 @@
 // Laws of repairs in slices, each the contract of a function that does nothing.
 
 ghost use Rattle.ceal_theory.specs.Listed.{ListedLaw};
+ghost use Rattle.ceal_theory.specs.Progress.{UnrepairedLaw, ProgressLaw, SlicesEndLaw};
 ghost use Rattle.ceal_theory.specs.SliceLaws.{StartLaw, OtherNamesLaw, NamedBeginningLaw, BeginLaw, MoreLaw, SliceLaw};
 ghost use Rattle.ceal_theory.specs.SliceLaws.{DoneLaw, IsDoneLaw, WholeLaw, StaysLaw, BegunLaw, BegunAdjustedLaw};
 ghost use Rattle.ceal_theory.specs.SliceLaws.{SlicesLaw, FollowLaw, SplitLaw, BasesLaw, TurnLaw, ReadyLaw, TurnsLaw};
@@ -64,6 +65,21 @@ pub fn follow_law()
 /// A slice is its first part and then a further slice.
 pub fn split_law()
     ensures law { SplitLaw }
+{}
+
+/// The reads from the first stale one on are reads of the trace, and there are none exactly when it is honest.
+pub fn unrepaired_law()
+    ensures law { UnrepairedLaw }
+{}
+
+/// A slice of k reads that does not end the repair leaves fewer reads from the first stale one on, by k at least.
+pub fn progress_law()
+    ensures law { ProgressLaw }
+{}
+
+/// So slices of k reads end the repair: n of them that do not have n times k of those reads at most.
+pub fn slices_end_law()
+    ensures law { SlicesEndLaw }
 {}
 
 /// The defaults of known blocks before their allocation do not matter.

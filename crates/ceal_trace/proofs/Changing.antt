@@ -110,7 +110,7 @@ module _ (order : Listing) (t t' : Table) (s steps steps' : ℕ) (change : Entry
   changed_as sum node = record {
     sound = record {
       is_order = sound.is_order;
-      is_trace = subst (λ (l : List Entry). IsTrace (record { nodes = l; spare = order.spare })) (sym nodes_changed)
+      is_trace = subst (λ (l : List Entry). IsTrace (record { nodes = l; spare = order.spare; touched = 0 })) (sym nodes_changed)
           (changed_trace es (changed_at s change es) order.spare s sound.is_trace but node);
       has_nodes = has;
       knows_ends = subst (λ (l : List Entry). KnowsEnds t' l) (sym nodes_changed) (knows_still s change stamp_is ends_are t t' es long same_ends sound.knows_ends);
@@ -272,7 +272,7 @@ widened order order' t t' steps sound stamps whole wider rows =
           let long = wider.long in
           (omega arith, ap (λ (r : Row). r.end) (wider.rows read) ∙ was.1);
     } in
-    let trace : IsTrace (record { nodes = es; spare = order'.spare }) = record {
+    let trace : IsTrace (record { nodes = es; spare = order'.spare; touched = 0 }) = record {
       order = order_es;
       first_root = sound.is_trace.first_root;
       only_root = sound.is_trace.only_root;
@@ -283,7 +283,7 @@ widened order order' t t' steps sound stamps whole wider rows =
     } in (
       record {
         is_order = whole;
-        is_trace = subst (λ (l : List Entry). IsTrace (record { nodes = l; spare = order'.spare })) (sym nodes) trace;
+        is_trace = subst (λ (l : List Entry). IsTrace (record { nodes = l; spare = order'.spare; touched = 0 })) (sym nodes) trace;
         has_nodes = has;
         knows_ends = subst (λ (l : List Entry). KnowsEnds t' l) (sym nodes) knows;
         sum = sound.sum ∙ ap steps_sum (sym nodes);

@@ -122,7 +122,7 @@ module _ (order order' : Listing) (t t' : Table) (s f steps : ℕ) (node : Node)
     plain_grew = record {
       sound = record {
         is_order = whole;
-        is_trace = subst (λ (l : List Entry). IsTrace (record { nodes = l; spare = order'.spare })) (sym nodes_are)
+        is_trace = subst (λ (l : List Entry). IsTrace (record { nodes = l; spare = order'.spare; touched = 0 })) (sym nodes_are)
             (plain_trace es order.spare order'.spare s f node sound.is_trace here_es one_es order_es closed plain);
         has_nodes = has;
         knows_ends = subst (λ (l : List Entry). KnowsEnds t' l) (sym nodes_are) (record {
@@ -172,7 +172,7 @@ module _ (order order' : Listing) (t t' : Table) (s f steps : ℕ) (node : Node)
     end_grew = record {
       sound = record {
         is_order = whole;
-        is_trace = subst (λ (l : List Entry). IsTrace (record { nodes = l; spare = order'.spare })) (sym nodes_set)
+        is_trace = subst (λ (l : List Entry). IsTrace (record { nodes = l; spare = order'.spare; touched = 0 })) (sym nodes_set)
             (end_trace es order.spare order'.spare s f node sound.is_trace here_es one_es order_es closed read is reads unfinished up after_es);
         has_nodes = has_set;
         knows_ends = subst (λ (l : List Entry). KnowsEnds t'' l) (sym nodes_set) (record {

@@ -3,7 +3,7 @@ use Rattle.std.proofs.Common.{◌≡◌, ◌≢◌, ℕ, suc, inl, inr, ◌+◌,
 use Rattle.std.proofs.lemmas.Bool.Decides.{eqb_tells}
 use Rattle.ceal_order.specs.Stamps.{Listing, IsOrder, OneMore, is_in, with_after}
 use Rattle.ceal_trace.specs.declared.node.Node.{Node}
-use Rattle.ceal_trace.specs.Nodes.{Entry, stamps_in, has_node, entry_at, with_entry_after, new_entry}
+use Rattle.ceal_trace.specs.Nodes.{Entry, Timeline, IsTrace, stamps_in, has_node, entry_at, with_entry_after, new_entry}
 use Rattle.ceal_trace.specs.Rows.{Row, Table, row_of, no_stamp}
 use Rattle.ceal_trace.specs.Keeping.{held_at, steps_of, node_of, entry_of, listed, timeline, noted, HasNodes, PutAt}
 use Rattle.ceal_trace.proofs.Stamped.{apart, below_of, length-after}
@@ -108,3 +108,15 @@ module _ (order order' : Listing) (t t' : Table) (s f : ℕ) (node : Node)
           omega arith
     ];
   }
+
+-- how often nodes were touched is no matter
+pub trace-touched : (n : ℕ) (t : Timeline) → IsTrace t → IsTrace (record t { touched = n })
+trace-touched n t h = record {
+  order = h.order;
+  first_root = h.first_root;
+  only_root = h.only_root;
+  one_end = h.one_end;
+  end_node = h.end_node;
+  of_read = h.of_read;
+  behind = h.behind;
+}

@@ -118,7 +118,7 @@ module _ (order order' : Listing) (t t' : Table) (s steps : ℕ) (node : Node)
   shrank = record {
     sound = record {
       is_order = whole;
-      is_trace = subst (λ (l : List Entry). IsTrace (record { nodes = l; spare = order'.spare })) (sym nodes_are)
+      is_trace = subst (λ (l : List Entry). IsTrace (record { nodes = l; spare = order'.spare; touched = 0 })) (sym nodes_are)
           (less_trace es order.spare order'.spare s node sound.is_trace held one_es order_es not_root);
       has_nodes = has;
       knows_ends = subst (λ (l : List Entry). KnowsEnds t' l) (sym nodes_are) knows;

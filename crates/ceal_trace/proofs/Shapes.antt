@@ -16,7 +16,7 @@ use Rattle.ceal_trace.proofs.Entries.{end-new, stamps-without, entry-left, sum-w
 -- ---- a node more
 
 module _ (es : List Entry) (spare more s f : ℕ) (node : Node)
-    (old : IsTrace (record { nodes = es; spare = spare }))
+    (old : IsTrace (record { nodes = es; spare = spare; touched = 0 }))
     (here : has_node s es ≡ true)
     (one : OneMore f (stamps_in es) (stamps_in (with_entry_after s (new_entry f node) es)))
     (order : IsOrder (record { stamps = stamps_in (with_entry_after s (new_entry f node) es); spare = more }))
@@ -99,7 +99,7 @@ module _ (es : List Entry) (spare more s f : ℕ) (node : Node)
     pub ends_same : (read : ℕ) → end_in read (with_entry_after s (new_entry f node) es) ≡ end_in read es
     ends_same read = ends-after s (new_entry f node) read es (plain_ends read node plain)
 
-    pub plain_trace : IsTrace (record { nodes = with_entry_after s (new_entry f node) es; spare = more })
+    pub plain_trace : IsTrace (record { nodes = with_entry_after s (new_entry f node) es; spare = more; touched = 0 })
     plain_trace = record {
       order = order;
       first_root = root_first;
@@ -131,7 +131,7 @@ module _ (es : List Entry) (spare more s f : ℕ) (node : Node)
     read_there : has_node read.0 es ≡ true
     read_there = has-read read.0 es reads
 
-    pub end_trace : IsTrace (record { nodes = with_entry_after s (new_entry f node) es; spare = more })
+    pub end_trace : IsTrace (record { nodes = with_entry_after s (new_entry f node) es; spare = more; touched = 0 })
     end_trace = record {
       order = order;
       first_root = root_first;
@@ -173,7 +173,7 @@ module _ (es : List Entry) (spare more s f : ℕ) (node : Node)
 -- ---- a node less
 
 module _ (es : List Entry) (spare more s : ℕ) (node : Node)
-    (old : IsTrace (record { nodes = es; spare = spare }))
+    (old : IsTrace (record { nodes = es; spare = spare; touched = 0 }))
     (held : node_at s es ≡ Some node)
     (one : OneMore s (stamps_in (without_entry s es)) (stamps_in es))
     (order : IsOrder (record { stamps = stamps_in (without_entry s es); spare = more })) where
@@ -235,7 +235,7 @@ module _ (es : List Entry) (spare more s : ℕ) (node : Node)
       sum = sum-without s es one.there;
     }
 
-    pub less_trace : IsTrace (record { nodes = without_entry s es; spare = more })
+    pub less_trace : IsTrace (record { nodes = without_entry s es; spare = more; touched = 0 })
     less_trace = record {
       order = order;
       first_root = λ u h. ap held_by (entry_left u (head_in u (stamps_in rest) h)) ∙ old.first_root u (sym first_left ∙ h);
@@ -296,7 +296,7 @@ module _ (es : List Entry) (spare more s : ℕ) (node : Node)
 
 -- ---- a node changed
 
-module _ (es es' : List Entry) (spare s : ℕ) (old : IsTrace (record { nodes = es; spare = spare })) (same : SameBut s es es') where
+module _ (es es' : List Entry) (spare s : ℕ) (old : IsTrace (record { nodes = es; spare = spare; touched = 0 })) (same : SameBut s es es') where
   pub changed_closed : NoLooseEnd es → NoLooseEnd es'
   changed_closed closed = record {
     read_there = λ read some. ap (λ (l : List ℕ). is_in read l) same.stamps ∙ closed.read_there read (subst (λ (o : Option ℕ). IsSome o) (same.ends read) some);
@@ -316,7 +316,7 @@ module _ (es es' : List Entry) (spare s : ℕ) (old : IsTrace (record { nodes = 
     no_end : (o : Option Node) (r : Stamp) → is_read o ≡ true → o ≢ Some (End r)
     no_end o r reads is = let no : is_read (Some (End r)) ≡ true = subst (λ (x : Option Node). is_read x ≡ true) is reads in absurd (cc)
 
-    pub changed_trace : IsTrace (record { nodes = es'; spare = spare })
+    pub changed_trace : IsTrace (record { nodes = es'; spare = spare; touched = 0 })
     changed_trace =
         let stamps = same.stamps in
         let order : IsOrder (record { stamps = stamps_in es'; spare = spare }) = subst (λ (l : List ℕ). IsOrder (record { stamps = l; spare = spare })) (sym stamps) old.order in

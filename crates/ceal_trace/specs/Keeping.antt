@@ -29,9 +29,13 @@ abbrev pub listed : (ℕ → Entry) → List ℕ → List Entry
 listed entry [] = []
 listed entry (s ∷ ss) = entry s ∷ listed entry ss
 
--- the trace that an order and a table keep
+-- the trace that an order and a table keep, where none of its nodes was touched
 abbrev pub timeline : Listing → Table → Timeline
-timeline order t = record { nodes = listed (entry_of t) order.stamps; spare = order.spare }
+timeline order t = record { nodes = listed (entry_of t) order.stamps; spare = order.spare; touched = 0 }
+
+-- the same, where they were touched so often
+abbrev pub touched_timeline : ℕ → Listing → Table → Timeline
+touched_timeline n order t = record (timeline order t) { touched = n }
 
 -- a stamp, or None
 abbrev pub noted : ℕ → Option ℕ

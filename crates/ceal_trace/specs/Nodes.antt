@@ -1,6 +1,6 @@
 -- The nodes of a trace in the order of time, and what its calls do to them.
-use Rattle.std.specs.Prelude.{◌≡◌, ◌≢◌, ◌<◌, ℕ, ◌+◌, List, [], ◌∷◌, Option, None, Some, IsSome, Bool, true, false, ◌==◌}
-use Rattle.std.specs.Prelude.{if◌then◌else◌, length}
+use Rattle.std.specs.Prelude.{◌≡◌, ◌≢◌, ◌<◌, ◌≤◌, ℕ, ◌+◌, ◌-◌, ◌^◌, List, [], ◌∷◌, Option, None, Some, IsSome, Bool}
+use Rattle.std.specs.Prelude.{true, false, ◌==◌, if◌then◌else◌, length, min}
 use Rattle.ceal_base.specs.declared.word.Word.{Word}
 use Rattle.ceal_order.specs.Stamps.{Listing, IsOrder, OneMore, is_in, head_of, place}
 use Rattle.ceal_order.specs.declared.stamp.Stamp.{Stamp}
@@ -16,11 +16,17 @@ pub record Entry : Type 0 where
   pub node : Node
   pub steps : ℕ
 
--- what a caller sees of a trace: its nodes in the order of time, the root first, and how many may be inserted without
--- taking memory
+-- what a caller sees of a trace: its nodes in the order of time, the root first; how many may be inserted without
+-- taking memory; and how often a node was put in, taken out or changed
 pub record Timeline : Type 0 where
   pub nodes : List Entry
   pub spare : ℕ
+  pub touched : ℕ
+
+-- a node was put in, taken out or changed; the count stays at the end of its type
+pub record TouchesOne (old new : Timeline) : Type 0 where
+  pub counted : new.touched ≡ min (old.touched + 1) (2 ^ 64 - 1)
+  pub no_fewer : old.touched ≤ new.touched
 
 -- the stamps of nodes
 abbrev pub stamps_in : List Entry → List ℕ

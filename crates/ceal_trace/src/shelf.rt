@@ -29,6 +29,7 @@ pub struct Shelf {
 }
 
 impl Shelf {
+    /// A shelf with nothing on it.
     pub fn new(alloc: Global) -> Shelf
         ensures empty { (key : ℕ) → at result key ≡ None }
         ensures count { count_of result ≡ 0 }

@@ -19,6 +19,7 @@ pub struct Slot {
     pub end: u32,
 }
 
+/// The slot of a stamp.
 pub fn slot_at(slots: &[Slot], at: u32) -> Slot
     requires { at < length slots.now }
     ensures { result ≡ slot_of slots.now at }
@@ -50,6 +51,7 @@ pub fn take_key(slots: &mut Vec<Slot>, at: u32) -> Slot
     was
 }
 
+/// Changes the steps that are counted at a stamp.
 pub fn set_steps(slots: &mut Vec<Slot>, at: u32, steps: u32)
     requires { at < length slots.old.items }
     ensures { StepsPut slots.old.items slots.new.items at steps }
@@ -58,6 +60,7 @@ pub fn set_steps(slots: &mut Vec<Slot>, at: u32, steps: u32)
     slot.steps = steps;
 }
 
+/// Tells where the read at a stamp ends.
 pub fn set_end(slots: &mut Vec<Slot>, at: u32, end: u32)
     requires { at < length slots.old.items }
     ensures { EndPut slots.old.items slots.new.items at end }

@@ -37,6 +37,7 @@ impl Model for Table {
 }
 
 impl Table {
+    /// A table of no nodes.
     pub fn new(alloc: Global) -> Table
         ensures rows { result.rows ≡ [] }
         ensures nodes { result.count ≡ 0 }
@@ -112,6 +113,7 @@ impl Table {
         slot.steps
     }
 
+    /// The node at a stamp.
     #[inline(always)]
     pub fn node(&self, at: Stamp) -> Seen<'_>
         requires { IsTrue (held_at self.now at.0) }
@@ -130,6 +132,7 @@ impl Table {
         self.shelf.set_value(slot.key, value);
     }
 
+    /// The steps that are counted at a stamp.
     pub fn steps(&self, at: Stamp) -> u32
         requires { at.0 < length self.now.rows }
         ensures { result ≡ steps_of self.now at.0 }
@@ -137,6 +140,7 @@ impl Table {
         slot_at(&self.slots, at.0).steps
     }
 
+    /// Changes the steps that are counted at a stamp.
     pub fn set_steps(&mut self, at: Stamp, steps: u32)
         requires { at.0 < length self.old.rows }
         ensures { StepsSet at.0 steps self.old self.new }
@@ -158,6 +162,7 @@ impl Table {
         }
     }
 
+    /// Tells where a read ends.
     pub fn set_end(&mut self, read: Stamp, end: Stamp)
         requires { read.0 < length self.old.rows }
         ensures { EndSet read.0 end.0 self.old self.new }

@@ -1,9 +1,9 @@
 // The nodes of a trace in the order of time.
 
-ghost use Rattle.std.specs.Prelude.{◌≡◌, ◌≢◌, ◌+◌, ◌<◌, ◌≤◌, ℕ, [], ◌∷◌, false, Some, None, IfSome, IfNone, IfOk, OnOk};
-ghost use Rattle.std.specs.Prelude.{OnErr, IsTrue, option_map};
+ghost use Rattle.std.specs.Prelude.{◌≡◌, ◌≢◌, ◌+◌, ◌<◌, ◌≤◌, max, ℕ, [], ◌∷◌, false, Some, None, IfSome, IfNone, IfOk};
+ghost use Rattle.std.specs.Prelude.{OnOk, OnErr, IsTrue, option_map};
 ghost use Rattle.ceal_base.specs.Trace.{steps_in};
-ghost use Rattle.ceal_order.specs.Stamps.{head_of};
+ghost use Rattle.ceal_order.specs.Stamps.{head_of, room_beyond};
 ghost use Rattle.ceal_base.specs.declared.forest.Key.{Key as KeyOf};
 ghost use Rattle.ceal_base.specs.declared.word.BlockId.{BlockId as BlockOf};
 ghost use Rattle.ceal_base.specs.declared.word.Place.{Place as PlaceOf};
@@ -13,7 +13,7 @@ ghost use Rattle.ceal_trace.specs.declared.node.Node.TheVariants.{Root, Alloc, W
 ghost use Rattle.ceal_trace.specs.Nodes.{order_of, stamps_in, has_node, position, new_entry, node_at, steps_at};
 ghost use Rattle.ceal_trace.specs.Nodes.{steps_sum, is_read, ends, end_in, with_entry_after, without_entry, valued};
 ghost use Rattle.ceal_trace.specs.Nodes.{with_value, with_steps, IsTrace, NoLooseEnd, LooseEndOf, OneMoreNode};
-ghost use Rattle.ceal_trace.specs.Nodes.{Inserted, SameBut, is_plain, seen, seen_read};
+ghost use Rattle.ceal_trace.specs.Nodes.{Inserted, SameBut, TouchesOne, is_plain, seen, seen_read};
 ghost use Rattle.ceal_trace.specs.Items.{forest_of};
 
 use crate::new_node::{NewAlloc, NewEnd, NewNode, NewRead, NewRoot, NewWrite};
@@ -29,7 +29,8 @@ use std::alloc::Global;
 use std::marker::Model;
 
 /// The nodes of a run in the order of time, and room for more. Contracts see `nodes`, the list of the nodes with their
-/// stamps and steps, and `spare`, how many may be inserted without taking memory.
+/// stamps and steps, `spare`, how many may be inserted without taking memory, and `touched`, how often a node was put
+/// in, taken out or changed. Every call that does so counts it, and no other.
 ///
 /// Each stamp that is given must be a node's. A read and its end go together: where a finished read is removed
 /// before its end, no other finished read is removed and nothing is inserted until the end is removed too. Its stamp is
@@ -39,6 +40,7 @@ pub struct Trace {
     order: Order,
     table: Table,
     steps: u64,
+    touched: u64,
 }
 
 impl Model for Trace {
@@ -46,9 +48,9 @@ impl Model for Trace {
 
     ghost Value = { Timeline };
 
-    ghost use Rattle.ceal_trace.specs.Keeping.{timeline, Sound};
+    ghost use Rattle.ceal_trace.specs.Keeping.{touched_timeline, Sound};
 
-    ghost view = { λ a. timeline a.order a.table };
+    ghost view = { λ a. touched_timeline a.touched a.order a.table };
 
     ghost invariant = { λ a. Sound a.order a.table a.steps };
 }
@@ -58,6 +60,7 @@ impl Trace {
     pub fn new(alloc: Global) -> Result<Trace, NoMemory>
         ensures nodes { IfOk result (λ trace. trace.nodes ≡ new_entry 0 Root ∷ []) }
         ensures spare { IfOk result (λ trace. trace.spare ≡ 0) }
+        ensures untouched { IfOk result (λ trace. trace.touched ≡ 0) }
         ensures whole { IfOk result IsTrace }
         ensures closed { IfOk result (λ trace. NoLooseEnd trace.nodes) }
     {
@@ -70,6 +73,7 @@ impl Trace {
             order,
             table,
             steps: 0,
+            touched: 0,
         })
     }
 
@@ -94,13 +98,15 @@ impl Trace {
     /// Makes room for `nodes` insertions, which then take no memory. `NoMemory` also comes when there would be 2^32 - 1
     /// nodes or more, the spare ones counted.
     ///
-    /// How many insertions there is room for beyond those is not told, as the order does not tell it: else a trace that
-    /// is thrown away and built again would provably have the stamps of the one before, as if it had been kept.
+    /// For how many more insertions there is room then is told as a bound only, as of the order, since the numbers of
+    /// the next stamps would follow from it.
     #[inline]
     pub fn reserve(&mut self, nodes: u32) -> Result<(), NoMemory>
         ensures nodes { self.new.nodes ≡ self.old.nodes }
         ensures room { OnOk result (nodes ≤ self.new.spare) }
+        ensures few { OnOk result (self.new.spare ≤ max self.old.spare (nodes + room_beyond)) }
         ensures kept { self.old.spare ≤ self.new.spare }
+        ensures untouched { self.new.touched ≡ self.old.touched }
         ensures err { OnErr result (self.new ≡ self.old) }
         ensures whole { IsTrace self.new }
     {
@@ -115,7 +121,9 @@ impl Trace {
     fn widen(&mut self, nodes: u32) -> Result<(), NoMemory>
         ensures nodes { self.new.nodes ≡ self.old.nodes }
         ensures room { OnOk result (nodes ≤ self.new.spare) }
+        ensures few { OnOk result (self.new.spare ≤ max self.old.spare (nodes + room_beyond)) }
         ensures kept { self.old.spare ≤ self.new.spare }
+        ensures untouched { self.new.touched ≡ self.old.touched }
         ensures err { OnErr result (self.new ≡ self.old) }
         ensures whole { IsTrace self.new }
     {
@@ -134,6 +142,7 @@ impl Trace {
         ensures inserted { Inserted after.0 result.0
             (Alloc block key) self.old.nodes self.new.nodes }
         ensures spare { self.new.spare + 1 ≡ self.old.spare }
+        ensures touches { TouchesOne self.old self.new }
         ensures ends { (read : ℕ) → end_in read self.new.nodes ≡ end_in read self.old.nodes }
         ensures closed { NoLooseEnd self.new.nodes }
         ensures whole { IsTrace self.new }
@@ -151,6 +160,7 @@ impl Trace {
         ensures inserted { Inserted after.0 result.0
             (Write place value) self.old.nodes self.new.nodes }
         ensures spare { self.new.spare + 1 ≡ self.old.spare }
+        ensures touches { TouchesOne self.old self.new }
         ensures ends { (read : ℕ) → end_in read self.new.nodes ≡ end_in read self.old.nodes }
         ensures closed { NoLooseEnd self.new.nodes }
         ensures whole { IsTrace self.new }
@@ -177,6 +187,7 @@ impl Trace {
         ensures inserted { Inserted after.0 result.0
             (Read place value unit var args) self.old.nodes self.new.nodes }
         ensures spare { self.new.spare + 1 ≡ self.old.spare }
+        ensures touches { TouchesOne self.old self.new }
         ensures open { end_in result.0 self.new.nodes ≡ None }
         ensures ends { (read : ℕ) → end_in read self.new.nodes ≡ end_in read self.old.nodes }
         ensures closed { NoLooseEnd self.new.nodes }
@@ -203,6 +214,7 @@ impl Trace {
             ≡ with_entry_after after.0 (new_entry result.0 (N.node node)) self.old.nodes }
         ensures inserted { Inserted after.0 result.0 (N.node node) self.old.nodes self.new.nodes }
         ensures spare { self.new.spare + 1 ≡ self.old.spare }
+        ensures touches { TouchesOne self.old self.new }
         ensures open { end_in result.0 self.new.nodes ≡ None }
         ensures ends { (read : ℕ) → end_in read self.new.nodes ≡ end_in read self.old.nodes }
         ensures closed { NoLooseEnd self.new.nodes }
@@ -210,6 +222,7 @@ impl Trace {
     {
         let new = self.order.insert_after(after);
         self.table.put(new, node);
+        self.touched = self.touched.saturating_add(1);
         new
     }
 
@@ -225,6 +238,7 @@ impl Trace {
             ≡ with_entry_after after.0 (new_entry result.0 (End read)) self.old.nodes }
         ensures inserted { Inserted after.0 result.0 (End read) self.old.nodes self.new.nodes }
         ensures spare { self.new.spare + 1 ≡ self.old.spare }
+        ensures touches { TouchesOne self.old self.new }
         ensures finished { end_in read.0 self.new.nodes ≡ Some result.0 }
         ensures ends { (other : ℕ) → other ≢ read.0
             → end_in other self.new.nodes ≡ end_in other self.old.nodes }
@@ -234,6 +248,7 @@ impl Trace {
         let end = self.order.insert_after(after);
         self.table.put(end, NewEnd { read });
         self.table.set_end(read, end);
+        self.touched = self.touched.saturating_add(1);
         end
     }
 
@@ -247,10 +262,12 @@ impl Trace {
         ensures others { SameBut read.0 self.old.nodes self.new.nodes }
         ensures sum { steps_sum self.new.nodes ≡ steps_sum self.old.nodes }
         ensures spare { self.new.spare ≡ self.old.spare }
+        ensures touches { TouchesOne self.old self.new }
         ensures closed { NoLooseEnd self.old.nodes → NoLooseEnd self.new.nodes }
         ensures whole { IsTrace self.new }
     {
         self.table.set_value(read, value);
+        self.touched = self.touched.saturating_add(1);
     }
 
     /// Sets the steps between a node and the next one.
@@ -263,14 +280,17 @@ impl Trace {
         ensures sum { steps_sum self.new.nodes + steps_at node.0 self.old.nodes
             ≡ steps_sum self.old.nodes + steps }
         ensures spare { self.new.spare ≡ self.old.spare }
+        ensures touches { TouchesOne self.old self.new }
         ensures closed { NoLooseEnd self.old.nodes → NoLooseEnd self.new.nodes }
         ensures whole { IsTrace self.new }
     {
         let old = self.table.steps(node);
         self.table.set_steps(node, steps);
         self.steps = self.steps - u64::from(old) + u64::from(steps);
+        self.touched = self.touched.saturating_add(1);
     }
 
+    /// The node at a stamp.
     #[inline(always)]
     pub fn node(&self, stamp: Stamp) -> Seen<'_>
         requires here { IsTrue (has_node stamp.0 self.now.nodes) }
@@ -361,6 +381,7 @@ impl Trace {
         ensures steps { result.steps ≡ steps_at stamp.0 self.old.nodes }
         ensures others { OneMoreNode stamp.0 self.new.nodes self.old.nodes }
         ensures spare { self.new.spare ≡ self.old.spare + 1 }
+        ensures touches { TouchesOne self.old self.new }
         ensures opened { (read : ℕ) → IsTrue (ends read result.node)
             → end_in read self.new.nodes ≡ None }
         ensures ends { (read : ℕ) → ends read result.node ≡ false
@@ -378,6 +399,7 @@ impl Trace {
         let gone = self.table.take(stamp);
         self.order.delete(stamp);
         self.steps -= u64::from(gone.steps);
+        self.touched = self.touched.saturating_add(1);
         gone
     }
 
@@ -388,6 +410,7 @@ impl Trace {
         ensures nodes { self.new.nodes ≡ without_entry stamp.0 self.old.nodes }
         ensures others { OneMoreNode stamp.0 self.new.nodes self.old.nodes }
         ensures spare { self.new.spare ≡ self.old.spare + 1 }
+        ensures touches { TouchesOne self.old self.new }
         ensures opened { (node : NodeOf) (read : ℕ) → node_at stamp.0 self.old.nodes ≡ Some node
             → IsTrue (ends read node) → end_in read self.new.nodes ≡ None }
         ensures ends { (node : NodeOf) (read : ℕ) → node_at stamp.0 self.old.nodes ≡ Some node
@@ -408,6 +431,14 @@ impl Trace {
         let steps = self.table.release(stamp);
         self.order.delete(stamp);
         self.steps -= u64::from(steps);
+        self.touched = self.touched.saturating_add(1);
+    }
+
+    /// How often a node was put in, taken out or changed, at most 2^64 - 1.
+    pub fn touched(&self) -> u64
+        ensures { result ≡ self.now.touched }
+    {
+        self.touched
     }
 
     /// The steps between a node and the next one.

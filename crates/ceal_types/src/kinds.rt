@@ -7,6 +7,7 @@ ghost use Rattle.ceal_types.specs.Kinds as spec;
 
 use ceal_base::kind::Kind;
 
+/// Whether two kinds are one.
 pub fn same_kind(a: Kind, b: Kind) -> bool
     ensures value { result ≡ base.same_kind a b }
 {

@@ -29,6 +29,7 @@ impl Model for Names {
 }
 
 impl Names {
+    /// No names, under a seed that everybody knows.
     pub fn new(alloc: Global) -> Names
         ensures empty { result ≡ [] }
     {
@@ -75,6 +76,7 @@ impl Names {
         self.table.number(name)
     }
 
+    /// How many names there are.
     pub fn len(&self) -> usize
         ensures count { result ≡ length self.now }
     {
@@ -89,6 +91,7 @@ impl Names {
         self.table.truncate(len);
     }
 
+    /// Whether a name is there.
     #[tactic(auto, using(crate::proofs::NameNumbers::NumberOfName::name_steps))]
     pub fn has(&self, name: &Text) -> bool
         ensures there { result ≡ list_any (bytes_eq name.now) self.now }

@@ -90,6 +90,7 @@ fn function_numbers(alloc: Global, functions: &[TypedFunction]) -> Result<Table<
 }
 
 impl Numbered {
+    /// A program with tables of the names of its structs and functions.
     pub fn new(alloc: Global, program: Typed) -> Result<Numbered, NoMemory>
         ensures program { IfOk result (λ numbered. numbered ≡ program) }
     {
@@ -102,12 +103,14 @@ impl Numbered {
         })
     }
 
+    /// The structs, in the order of their numbers.
     pub fn structs(&self) -> &[StructInfo]
         ensures structs { result.now ≡ self.now.structs }
     {
         self.program.structs.items()
     }
 
+    /// The functions, in the order of their numbers.
     pub fn functions(&self) -> &[TypedFunction]
         ensures functions { result.now ≡ self.now.functions }
     {

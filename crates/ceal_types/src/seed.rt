@@ -30,6 +30,7 @@ pub struct Fed {
 }
 
 impl Fed {
+    /// Nothing was fed yet.
     pub fn new() -> Fed {
         Fed {
             all: DefaultHasher::new(),

@@ -46,6 +46,7 @@ fn place<V>(few: &[(Text, V)], name: &Text) -> Option<usize>
 }
 
 impl<V> Table<V> {
+    /// No names, under this seed.
     pub fn new(alloc: Global, seed: Seed) -> Table<V>
         ensures empty { result ≡ [] }
     {
@@ -55,6 +56,7 @@ impl<V> Table<V> {
         }
     }
 
+    /// How many names there are.
     pub fn len(&self) -> usize
         ensures count { result ≡ length self.now }
     {
@@ -84,6 +86,7 @@ impl<V> Table<V> {
         Some(number as u32)
     }
 
+    /// Whether a name is there.
     pub fn has(&self, name: &Text) -> bool
         ensures there { result ≡ has self.now name.now }
     {

@@ -216,10 +216,13 @@ module _ (region : List SizeClass) (k n : ℕ) (old : SizeClass) (inside_ : k < 
   pub grown_words : KeepsAll region (set region k (grown n old))
   grown_words = keeps_all region k old (grown n old) there_ (λ at len. ap (of_length len) (words_grown n old.pieces at))
 
+  pub spare_there : (len : ℕ) → size_class len ≡ k → spare region len ≡ old.spare
+  spare_there len e = ap (λ (j : ℕ). spare_in (slice_get region j)) e ∙ ap spare_in there_
+
   pub grown_spare : (len : ℕ) → size_class len ≡ k → spare (set region k (grown n old)) len ≡ spare region len + n
   grown_spare len e = ap (λ (j : ℕ). spare_in (slice_get (set region k (grown n old)) j)) e
       ∙ ap spare_in (new_here region k old (grown n old) there_)
-      ∙ ap (λ (m : ℕ). m + n) (sym (ap (λ (j : ℕ). spare_in (slice_get region j)) e ∙ ap spare_in there_))
+      ∙ ap (λ (m : ℕ). m + n) (sym (spare_there len e))
 
   pub grown_others : (len : ℕ) → size_class len ≡ k → KeepsOtherSpares len region (set region k (grown n old))
   grown_others len e = keeps_other_spares region k old (grown n old) there_ len e

@@ -1,6 +1,6 @@
 // One size class: its chunk, its pieces and its free list.
 
-ghost use Rattle.std.specs.Prelude.{◌≡◌, ◌<◌, ◌≤◌, ℕ, ◌+◌, ◌-◌, ◌*◌, ◌^◌, List, [], Some, None, length, replicate};
+ghost use Rattle.std.specs.Prelude.{◌≡◌, ◌<◌, ◌≤◌, ℕ, ◌+◌, ◌-◌, ◌*◌, ◌^◌, max, List, [], Some, None, length, replicate};
 ghost use Rattle.std.specs.Prelude.{slice_get, IsSome, IfSome, IfOk, OnOk, OnErr};
 ghost use Rattle.ceal_words.specs.Lengths.{RoundsTo};
 ghost use Rattle.ceal_words.specs.Layout.{IsLaidOut, class_of};
@@ -88,10 +88,12 @@ impl Pool {
         })
     }
 
-    /// Makes sure that `n` pieces are free. Where there was no memory, all is as before.
+    /// Makes sure that `n` pieces are free, and makes no more than it takes. Where there was no memory, all is as
+    /// before.
     pub(crate) fn reserve(&mut self, n: u32) -> Result<(), NoMemory>
         ensures kept { self.new ≡ grown (self.new.spare - self.old.spare) self.old }
         ensures lowers_none { self.old.spare ≤ self.new.spare }
+        ensures few { self.new.spare ≤ max self.old.spare n }
         ensures ok { OnOk result (n ≤ self.new.spare) }
         ensures err { OnErr result (self.new ≡ self.old) }
     {

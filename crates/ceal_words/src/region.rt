@@ -1,6 +1,6 @@
 // The region: a size class for each power of two.
 
-ghost use Rattle.std.specs.Prelude.{◌≡◌, ◌<◌, ◌≤◌, ◌+◌, ◌-◌, Some, None, replicate, IsSome, IfOk, OnOk, OnErr};
+ghost use Rattle.std.specs.Prelude.{◌≡◌, ◌<◌, ◌≤◌, ◌+◌, ◌-◌, max, Some, None, replicate, IsSome, IfOk, OnOk, OnErr};
 ghost use Rattle.ceal_words.specs.SizeClass.{changed};
 ghost use Rattle.ceal_words.specs.Region.{words_of, word_of, slot_len, spare, KeepsOthers, KeepsAll, KeepsOtherSpares};
 ghost use Rattle.ceal_words.specs.Region.{KeepsSpares, IsEmpty};
@@ -34,6 +34,7 @@ impl Model for Region {
 }
 
 impl Region {
+    /// A region of no pieces.
     pub fn new(alloc: Global) -> Result<Region, NoMemory>
         ensures { IfOk result (λ r. IsEmpty r) }
     {
@@ -45,13 +46,15 @@ impl Region {
         Ok(Region { pools })
     }
 
-    /// Makes sure that `n` slots of this length can be taken. Where there was no memory, all is as before.
+    /// Makes sure that `n` slots of this length can be taken, and makes no more than it takes. Where there was no
+    /// memory, all is as before.
     pub fn reserve(&mut self, len: u32, n: u32) -> Result<(), NoMemory>
         requires length { (1 ≤ len) × (len ≤ 65536) }
         ensures ok { OnOk result (n ≤ spare self.new len) }
         ensures err { OnErr result (self.new ≡ self.old) }
         ensures words { KeepsAll self.old self.new }
         ensures raises { spare self.old len ≤ spare self.new len }
+        ensures few { spare self.new len ≤ max (spare self.old len) n }
         ensures others { KeepsOtherSpares len self.old self.new }
     {
         let pool = &mut self.pools[size_class(len) as usize];

@@ -116,6 +116,8 @@ impl Engine {
         ensures tabled { IsSomeAnd self.now.timeline (λ t. IsTabled t.nodes result.now) }
         ensures bases { IsSomeAnd self.now.heap
             (λ heap. HasBases self.now.code.structs self.now.inputs heap result.now) }
+        ensures looked { result.now.looked ≡ self.now.looked }
+        ensures differed { result.now.differed ≡ self.now.differed }
     {
         &self.run.finished().tables.mods
     }
@@ -131,6 +133,7 @@ impl Engine {
         }
     }
 
+    /// The code that the engine runs.
     pub fn code(&self) -> &Code
         ensures value { result.now ≡ self.now.code }
     {
@@ -151,6 +154,7 @@ impl Engine {
         self.inputs.copy()
     }
 
+    /// The most steps of a run.
     pub fn fuel(&self) -> u32
         ensures value { result ≡ self.now.fuel }
     {

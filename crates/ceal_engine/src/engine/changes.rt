@@ -58,7 +58,7 @@ impl Engine {
         ensures modifiables { IfOk result (λ places. (p : PlaceOf)
             → is_modifiable self.now p ≡ false → times p places.items ≡ 0) }
     {
-        let told = self.run.finished().tables.mods.changed()?;
+        let told = self.run.finished().tables.changed()?;
         let mut places = Vec::new(self.alloc);
         for place in told.as_slice() {
             if self.has_value(*place) {

@@ -16,7 +16,7 @@ use Rattle.ceal_repair.proofs.Nodes.AroundRead.{spot-items}
 use Rattle.ceal_repair.proofs.TableCalls.CutKeepsTables.{unqueued-honest}
 use Rattle.ceal_repair.proofs.Propagation.TurnCourse.{turn-over}
 use Rattle.ceal_repair.proofs.Propagation.UpToDateHonest.{come-now, up-to-date}
-use Rattle.ceal_repair.proofs.Runs.Paid.{stays}
+use Rattle.ceal_repair.proofs.Runs.Paid.{pays-self}
 use Rattle.ceal_repair.specs.Looks.{PaysBut}
 use Rattle.ceal_repair.specs.Entries.{entry, entries, end_entry}
 use Rattle.ceal_repair.specs.Kept.{Kept, IsStale, IsHonestRecord, QueuedAfter, Records, contents_at}
@@ -24,7 +24,7 @@ use Rattle.ceal_repair.proofs.TableCalls.BaseEdit.{queue-empty, stale-same}
 use Rattle.ceal_repair.proofs.Propagation.StaleNotDone.{still-stale}
 use Rattle.ceal_repair.specs.Propagation.{Concludes, Propagated, HasCome, IsUpToDate, IsUnderWay, IsSpent, IsLess, IsWithin, TurnMade, KeepsFront, steps_of_run}
 use Rattle.std.proofs.lemmas.Bool.{cases_order}
-use Rattle.ceal_repair.specs.Repairs.{code_of, inputs_of, view, Runs, SameCall}
+use Rattle.ceal_repair.specs.Repairs.{account, code_of, inputs_of, view, Runs, SameCall}
 use Rattle.ceal_repair.specs.Turning.{Since, turns_more, later, FoundStale, ReadAt, TurnBegan, TurnEnded, TurnedSoFar, TurnRuns, IsOrigin}
 use Rattle.ceal_repair.specs.declared.advance.Progress.{Progress}
 use Rattle.ceal_repair.specs.declared.advance.Progress.TheVariants.{More, Done as Ends, Spent, OutOfFuel}
@@ -155,10 +155,12 @@ pub record TurningIn (old now : Repair) (turns : ℕ) (reads : Option ℕ) (fuel
   pub turning : Turning old now turns
   pub few : IsWithin turns reads
   pub within : old.running.now.spent ≤ fuel → now.running.now.spent ≤ fuel
-  pub pays : PaysBut turns old.running.now now.running.now
+  pub pays : PaysBut turns (account old) (account now)
+  pub begun : turns ≡ 0 → now.running.now ≡ old.running.now
+  pub late : QueuedAfter now.cursor.0 now.running.now.tables
 
-pub no-turns-in : (r : Repair) → r.frames.now.items ≡ [] → (reads : Option ℕ) (fuel : ℕ) → TurningIn r r 0 reads fuel
-no-turns-in r idle reads fuel = record { turning = no-turns r idle; few = of reads; within = λ h. h; pays = stays r.running.now r.running.now (omega arith) refl refl }
+pub no-turns-in : (r : Repair) → r.frames.now.items ≡ [] → QueuedAfter r.cursor.0 r.running.now.tables → (reads : Option ℕ) (fuel : ℕ) → TurningIn r r 0 reads fuel
+no-turns-in r idle late reads fuel = record { turning = no-turns r idle; few = of reads; within = λ h. h; pays = pays-self (account r); late = late; begun = λ none. refl }
   where
     of : (reads : Option ℕ) → IsWithin 0 reads
     of None = tt

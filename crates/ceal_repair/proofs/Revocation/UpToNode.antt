@@ -4,12 +4,13 @@ use Rattle.ceal_base.specs.Block.{Block}
 use Rattle.ceal_base.specs.declared.word.Place.{Place}
 use Rattle.ceal_code.specs.Program.{Code}
 use Rattle.ceal_order.specs.Stamps.{is_in, successor}
+use Rattle.ceal_repair.proofs.TableCalls.FewLooks.{counts-then}
 use Rattle.ceal_repair.proofs.Revocation.FirstNode.{LeftOf, until-still, is-first, cut-more, cut-there, cut-all, not-none, cursor-there}
 use Rattle.ceal_repair.specs.Blocks.{HasBlocks, KeepsReadable}
 use Rattle.ceal_repair.specs.Entries.{first_stamp, first_in, starts, CutTo, IsNoneOr, IsUntil, Lies}
 use Rattle.ceal_repair.specs.declared.running.Running.{Running}
 use Rattle.ceal_repair.specs.Kept.{Kept, base_in}
-use Rattle.ceal_repair.specs.Looks.{due, NoneDiffers, KeepsMarks}
+use Rattle.ceal_repair.specs.Looks.{due, touched_owed, CountsOn, NoneDiffers, KeepsMarks}
 use Rattle.ceal_theory.specs.Groves.{Grove, Bare, cut}
 use Rattle.ceal_trace.specs.Nodes.{Entry, stamps_in, has_node}
 
@@ -22,6 +23,8 @@ pub record Revoking (cursor until : ℕ) (old now : Running) : Type 0 where
   pub spent : now.spent ≡ old.spent
   pub looks : due now.tables ≤ due old.tables
   pub differed : NoneDiffers old.tables now.tables
+  pub touched : touched_owed now.tables ≤ touched_owed old.tables
+  pub counts : CountsOn old.tables now.tables
   pub marks : KeepsMarks old.tables now.tables
 
 module _ (cursor until : ℕ) (old now : Running) (r : Revoking cursor until old now) where
@@ -38,9 +41,9 @@ module _ (cursor until : ℕ) (old now : Running) (r : Revoking cursor until old
       → ((front : List Entry) (left : Grove) (tail : List Entry) → Lies cursor front left tail now.tables → first_stamp left ≡ Some s → Lies cursor front (cut left) tail new.tables)
       → ((p : Place) → base_in new.tables.mods p ≡ base_in now.tables.mods p) → KeepsReadable now.heap new.heap
       → ((code : Code) (inputs : List Block) → HasBlocks code inputs now.heap now.tables → HasBlocks code inputs new.heap new.tables) → new.spent ≡ now.spent → due new.tables ≤ due now.tables
-      → NoneDiffers now.tables new.tables → KeepsMarks now.tables new.tables → Kept new.tables
+      → NoneDiffers now.tables new.tables → touched_owed new.tables ≤ touched_owed now.tables → CountsOn now.tables new.tables → KeepsMarks now.tables new.tables → Kept new.tables
       → Revoking cursor until old new
-  one-revoked s new n other lies bases blocks has spent looks differed marks kept = record {
+  one-revoked s new n other lies bases blocks has spent looks differed touched counts marks kept = record {
     kept = kept;
     left = λ front left tail l u.
         let k = r.left front left tail l u in
@@ -52,6 +55,8 @@ module _ (cursor until : ℕ) (old now : Running) (r : Revoking cursor until old
     spent = spent ∙ r.spent;
     looks = omega (arith, looks, r.looks);
     differed = differed ∙ r.differed;
+    touched = omega (arith, touched, r.touched);
+    counts = counts-then old.tables now.tables new.tables r.counts counts;
     marks = marks ∙ r.marks;
   }
 

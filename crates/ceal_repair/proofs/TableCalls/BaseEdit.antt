@@ -8,8 +8,11 @@ use Rattle.ceal_base.specs.declared.word.Place.{Place}
 use Rattle.ceal_base.specs.declared.word.Word.{Word}
 use Rattle.ceal_code.proofs.Words.SameIsEqual.{some-same, place-same}
 use Rattle.ceal_code.specs.Replay.{stored}
-use Rattle.ceal_mods.specs.Cell.{with_base}
-use Rattle.ceal_mods.specs.Mods.{Contents, cell_of, Changes, Follows as Mods_follow}
+use Rattle.ceal_base.specs.declared.word.Word.TheVariants.{Num}
+use Rattle.ceal_mods.specs.Cell.{untouched, with_base}
+use Rattle.ceal_mods.specs.Mods.{Contents, cell_of, HasCell, Changes, Follows as Mods_follow}
+use Rattle.std.proofs.Common.{pos}
+use Rattle.std.specs.Prelude.{IsSome, unwrap_or}
 use Rattle.ceal_mods.specs.declared.cell.Cell.{Cell}
 use Rattle.ceal_order.proofs.Places.{in_head, place_below, place_tells}
 use Rattle.ceal_order.proofs.RisingLemmas.{in_order}
@@ -27,10 +30,25 @@ use Rattle.ceal_repair.proofs.Lists.ListsOfNodes.{other-place}
 use Rattle.ceal_repair.specs.Covered.{queue_of, and_one}
 use Rattle.ceal_repair.specs.Kept.{InStep, Kept, ChainedBy, IsAwake, IsStale, IsHonestRecord, QueuedAfter, Records, base_in, contents_at}
 use Rattle.ceal_repair.specs.Lists.{IsTabled}
-use Rattle.ceal_repair.specs.Looks.{looks_owed, NoneDiffers, KeepsMarks}
+use Rattle.ceal_repair.proofs.TableCalls.FewLooks.{counts-still, counts-then}
+use Rattle.ceal_repair.specs.Looks.{looks_owed, CountsOn, NoneDiffers, KeepsMarks}
 use Rattle.ceal_repair.specs.declared.tables.Tables.{Tables}
 use Rattle.ceal_trace.specs.Nodes.{Entry, Timeline, stamps_in, node_at, position, is_read, with_value}
 use Rattle.ceal_trace.specs.declared.node.Node.TheVariants.{Root}
+
+-- ---- a place that was never touched holds 0
+
+none-holds : (o : Option Cell) → ¬ IsSome o → (unwrap_or o untouched).base ≡ Num (pos 0)
+none-holds None bare = refl
+none-holds (Some cell) bare = absurd (bare refl)
+
+pub zero-base : (mods : Contents) (p : Place) (v : Word) → v ≡ Num (pos 0) → ¬ HasCell mods p → (q : Place) → base_in mods q ≡ stored (base_in mods) p v q
+unfolding stored
+zero-base mods p v is_0 bare q = go (same_place q p) refl
+  where
+    go : (b : Bool) → same_place q p ≡ b → (cell_of mods q).base ≡ (if b then v else (cell_of mods q).base)
+    go true e = rw (place-same q p e, is_0) (none-holds _ bare)
+    go false e = refl
 
 -- ---- a base is edited
 
@@ -101,11 +119,24 @@ pub record Looking (old t : Tables) (n : ℕ) : Type 0 where
   pub memo : t.memo ≡ old.memo
   pub late : (s : ℕ) → is_in s t.stale.stamps ≡ true → n ≤ position s t.trace.nodes
   pub looks : looks_owed t ≤ looks_owed old
+  pub queued : t.mods.looked + length t.stale.stamps ≤ old.mods.looked + length old.stale.stamps
   pub differed : NoneDiffers old t
+  pub counts : CountsOn old t
   pub marks : KeepsMarks old t
 
 pub looking-first : (old : Tables) → Kept old → Looking old old 0
-looking-first old k = record { kept = k; trace = refl; cells = refl; memo = refl; late = λ s i. omega arith; looks = omega arith; differed = refl; marks = refl }
+looking-first old k = record {
+  kept = k;
+  trace = refl;
+  cells = refl;
+  memo = refl;
+  late = λ s i. omega arith;
+  looks = omega arith;
+  queued = omega arith;
+  differed = refl;
+  counts = counts-still old old refl refl;
+  marks = refl;
+}
 
 -- no place is that far on
 pub none-late : (old t : Tables) (n : ℕ) → Looking old t n → 2 ^ 32 ≤ n → (s : ℕ) → is_in s t.stale.stamps ≡ true → ⊥
@@ -145,15 +176,17 @@ module _ (t : Tables) (k : Kept t) (s : ℕ) (stale : Waiting) (first : IsEarlie
 
 -- one that was not stale
 pub looked-more : (old t t' : Tables) (n s : ℕ) → Looking old t n → is_in s t.stale.stamps ≡ true → Kept t' → t'.trace ≡ t.trace → t'.mods.cells ≡ t.mods.cells → t'.memo ≡ t.memo → QueuedAfter s t'
-    → looks_owed t' ≤ looks_owed t → NoneDiffers t t' → KeepsMarks t t' → Looking old t' (n + 1)
-looked-more old t t' n s l i kept trace cells memo behind looks differed marks = record {
+    → looks_owed t' ≤ looks_owed t → t'.mods.looked + length t'.stale.stamps ≤ t.mods.looked + length t.stale.stamps → NoneDiffers t t' → CountsOn t t' → KeepsMarks t t' → Looking old t' (n + 1)
+looked-more old t t' n s l i kept trace cells memo behind looks queued differed counts marks = record {
   kept = kept;
   trace = trace ∙ l.trace;
   cells = cells ∙ l.cells;
   memo = memo ∙ l.memo;
   late = λ z j. let a = behind z j in let b = l.late s i in omega (arith, a, b, ap (λ (w : Timeline). position s w.nodes) trace);
   looks = omega (arith, looks, l.looks);
+  queued = omega (arith, queued, l.queued);
   differed = differed ∙ l.differed;
+  counts = counts-then old t t' l.counts counts;
   marks = marks ∙ l.marks;
 }
 

@@ -1,5 +1,5 @@
 -- How many contents are looked at.
-use Rattle.std.proofs.Common.{◌≡◌, ◌≤◌, ◌+◌, ℕ, inl, inr, List, [], ◌∷◌, Some, None, true, false, ap, arith}
+use Rattle.std.proofs.Common.{◌≡◌, ◌≤◌, ◌+◌, ℕ, inl, inr, List, [], ◌∷◌, length, Some, None, true, false, refl, ap, arith}
 use Rattle.std.proofs.Math.Nat.{min-le_left}
 use Rattle.std.proofs.lemmas.Bool.Decides.{eqb_tells}
 use Rattle.std.specs.Prelude.{min, ◌-◌, ◌^◌, Option, IfSome, IfNone}
@@ -8,9 +8,9 @@ use Rattle.ceal_base.specs.declared.word.Place.{Place}
 use Rattle.ceal_base.specs.declared.word.Word.{Word}
 use Rattle.ceal_code.proofs.Words.SameIsEqual.{some-same, none-some}
 use Rattle.ceal_mods.specs.Mods.{Contents}
-use Rattle.ceal_repair.specs.Looks.{looks_owed, due, writes_at, write_count}
+use Rattle.ceal_repair.specs.Looks.{looks_owed, touched_owed, due, writes_at, write_count, CountsOn, NoneDiffers}
 use Rattle.ceal_repair.specs.declared.tables.Tables.{Tables}
-use Rattle.ceal_trace.specs.Nodes.{Entry, node_at, without_entry}
+use Rattle.ceal_trace.specs.Nodes.{Entry, Timeline, TouchesOne, OneMoreNode, SameBut, stamps_in, node_at, without_entry}
 use Rattle.ceal_trace.specs.declared.node.Node.TheVariants.{Write}
 
 -- a node is taken out
@@ -31,6 +31,67 @@ count-write s p v (e ∷ es) h = elim (eqb_tells e.stamp s) [
   where
     own : e.node ≡ Write p v → write_count es + 1 ≤ writes_at e.node + write_count es
     own k = rw k (omega arith)
+
+-- ---- what was counted
+
+pub counts-as : (a b : Tables) → b.mods.looked ≡ a.mods.looked → NoneDiffers a b → a.trace.touched ≤ b.trace.touched → CountsOn a b
+counts-as a b l d t = record { looked = omega (arith, l); differed = omega (arith, d); touched = t }
+
+pub counts-same : (a b : Tables) → b.mods ≡ a.mods → a.trace.touched ≤ b.trace.touched → CountsOn a b
+counts-same a b e t = counts-as a b (ap (λ (m : Contents). m.looked) e) (ap (λ (m : Contents). m.differed) e) t
+
+pub counts-still : (a b : Tables) → b.mods ≡ a.mods → b.trace ≡ a.trace → CountsOn a b
+counts-still a b e f = counts-same a b e (let t = ap (λ (x : Timeline). x.touched) f in omega (arith, t))
+
+pub counts-then : (a b c : Tables) → CountsOn a b → CountsOn b c → CountsOn a c
+counts-then a b c p q =
+    let l = p.looked in
+    let m = q.looked in
+    let d = p.differed in
+    let e = q.differed in
+    let t = p.touched in
+    let u = q.touched in record { looked = omega (arith, l, m); differed = omega (arith, d, e); touched = omega (arith, t, u) }
+
+-- ---- what was touched
+
+stamps-long : (es : List Entry) → length (stamps_in es) ≡ length es
+stamps-long [] = refl
+stamps-long (e ∷ es) = let n = stamps-long es in omega (arith, n)
+
+-- a node was put in, after room was made
+pub touched-more : (s : ℕ) (a r b : Timeline) → r.nodes ≡ a.nodes → r.touched ≡ a.touched → TouchesOne r b → OneMoreNode s r.nodes b.nodes → b.touched + length b.nodes ≤ a.touched + length a.nodes + 2
+touched-more s a r b e t one more =
+    let c = one.counted in
+    let m = min-le_left (r.touched + 1) (2 ^ 64 - 1) in
+    let l = more.long in
+    let x = stamps-long b.nodes in
+    let y = stamps-long r.nodes in
+    let z = ap (λ (es : List Entry). length es) e in omega (arith, t, c, m, l, x, y, z)
+
+pub touched-on : (a r b : Timeline) → r.touched ≡ a.touched → TouchesOne r b → a.touched ≤ b.touched
+touched-on a r b t one = let n = one.no_fewer in omega (arith, t, n)
+
+-- a node was taken out
+pub touched-less : (s : ℕ) (a b : Timeline) → TouchesOne a b → OneMoreNode s b.nodes a.nodes → b.touched + length b.nodes ≤ a.touched + length a.nodes
+touched-less s a b one more =
+    let c = one.counted in
+    let m = min-le_left (a.touched + 1) (2 ^ 64 - 1) in
+    let l = more.long in
+    let x = stamps-long b.nodes in
+    let y = stamps-long a.nodes in omega (arith, c, m, l, x, y)
+
+-- a node was changed
+pub touched-same : (s : ℕ) (a b : Timeline) → TouchesOne a b → SameBut s a.nodes b.nodes → b.touched + length b.nodes ≤ a.touched + length a.nodes + 1
+touched-same s a b one same =
+    let c = one.counted in
+    let m = min-le_left (a.touched + 1) (2 ^ 64 - 1) in
+    let l = ap (λ (ns : List ℕ). length ns) same.stamps in
+    let x = stamps-long b.nodes in
+    let y = stamps-long a.nodes in omega (arith, c, m, l, x, y)
+
+-- nothing was touched
+pub touched-still : (a b : Tables) → b.trace ≡ a.trace → touched_owed b ≤ touched_owed a
+touched-still a b e = let t = ap (λ (x : Timeline). x.touched + length x.nodes) e in omega (arith, t)
 
 -- ---- what is owed
 

@@ -2,9 +2,11 @@
 
 ghost use Rattle.std.specs.Prelude.{◌≡◌, [], ℕ, List, OnOk};
 ghost use Rattle.ceal_base.specs.declared.word.Word.{Word};
+ghost use Rattle.ceal_repair.specs.Kept.{QueuedAfter};
 ghost use Rattle.ceal_repair.specs.Moment.{Start};
 ghost use Rattle.ceal_repair.specs.Looks.{Pays};
 ghost use Rattle.ceal_repair.specs.Repairs.{code_of, inputs_of, running_of, frames_of, IsOver, SameCall};
+ghost use Rattle.ceal_repair.specs.Repairs.{account};
 ghost use Rattle.ceal_repair.specs.Turning.{Since, TurnBegan, TurnEnded};
 ghost use Rattle.ceal_repair.specs.declared.running.Running.{Running};
 
@@ -19,8 +21,9 @@ impl<'a> Repair<'a> {
             × TurnBegan (code_of self.old) (inputs_of self.old) f args o before start
             × IsOver start self.old }
         ensures call { OnOk result (SameCall self.old self.new) }
-        ensures pays { OnOk result (Pays (running_of self.old) (running_of self.new)) }
+        ensures pays { OnOk result (Pays (account self.old) (account self.new)) }
         ensures idle { OnOk result (frames_of self.new ≡ []) }
+        ensures late { OnOk result (QueuedAfter self.new.cursor.0 (running_of self.new).tables) }
         ensures spent { OnOk result ((running_of self.new).spent ≡ (running_of self.old).spent) }
         ensures ends { OnOk result
             ((f : ℕ) (args : List Word) (o : Since) (before : Running) (start : Start)

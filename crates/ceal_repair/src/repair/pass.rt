@@ -4,8 +4,9 @@ ghost use Rattle.std.specs.Prelude.{OnOk};
 ghost use Rattle.ceal_repair.specs.Moment.{Start};
 ghost use Rattle.ceal_repair.specs.Passing.{NoneStale, StaleInside};
 ghost use Rattle.ceal_repair.specs.Reads.{EndsKept};
-ghost use Rattle.ceal_repair.specs.Looks.{Pays};
-ghost use Rattle.ceal_repair.specs.Repairs.{Runs, PassesOn, SameCall, running_of};
+ghost use Rattle.ceal_repair.specs.Looks.{Pays, found};
+ghost use Rattle.ceal_repair.specs.Repairs.{Runs, PassesOn, SameCall, StaysAnew, running_of};
+ghost use Rattle.ceal_repair.specs.Repairs.{account};
 
 use super::Repair;
 use super::turn::unit_at;
@@ -20,7 +21,8 @@ impl<'a> Repair<'a> {
     pub fn pass(&mut self) -> Result<(), NoMemory>
         requires passes { (start : Start) × PassesOn start self.old }
         ensures call { OnOk result (SameCall self.old self.new) }
-        ensures pays { OnOk result (Pays (running_of self.old) (running_of self.new)) }
+        ensures pays { OnOk result (Pays (account self.old) (account self.new)) }
+        ensures anew { OnOk result (StaysAnew self.old self.new) }
         ensures runs { OnOk result
             ((start : Start) → PassesOn start self.old → Runs start self.new) }
     {
@@ -38,7 +40,8 @@ impl<'a> Repair<'a> {
     fn pass_all(&mut self)
         requires none { (start : Start) × NoneStale start self.old }
         ensures call { SameCall self.old self.new }
-        ensures pays { Pays (running_of self.old) (running_of self.new) }
+        ensures pays { Pays (account self.old) (account self.new) }
+        ensures anew { StaysAnew self.old self.new }
         ensures runs { (start : Start) → NoneStale start self.old → Runs start self.new }
     {
         let end = match self.limit {
@@ -63,7 +66,8 @@ impl<'a> Repair<'a> {
     fn repair_inside(&mut self, read: Stamp) -> Result<(), NoMemory>
         requires stale { (start : Start) × StaleInside start read self.old }
         ensures call { OnOk result (SameCall self.old self.new) }
-        ensures pays { OnOk result (Pays (running_of self.old) (running_of self.new)) }
+        ensures pays { OnOk result (Pays (found read.0 (account self.old)) (account self.new)) }
+        ensures anew { OnOk result (StaysAnew self.old self.new) }
         ensures runs { OnOk result
             ((start : Start) → StaleInside start read self.old → Runs start self.new) }
     {
@@ -85,7 +89,8 @@ impl<'a> Repair<'a> {
     pub fn go_on(&mut self, until: Stamp) -> Result<(), NoMemory>
         requires ends { (start : Start) × EndsKept start until self.old }
         ensures call { OnOk result (SameCall self.old self.new) }
-        ensures pays { OnOk result (Pays (running_of self.old) (running_of self.new)) }
+        ensures pays { OnOk result (Pays (account self.old) (account self.new)) }
+        ensures anew { OnOk result (StaysAnew self.old self.new) }
         ensures runs { OnOk result
             ((start : Start) → EndsKept start until self.old → Runs start self.new) }
     {

@@ -6,9 +6,10 @@ ghost use Rattle.ceal_repair.specs.Moment.{Start};
 ghost use Rattle.ceal_memo.specs.Keys.{OfRead, OfAlloc};
 ghost use Rattle.ceal_memo.specs.Memo.{IsOf};
 ghost use Rattle.ceal_order.specs.Stamps.{head_of};
-ghost use Rattle.ceal_repair.specs.Looks.{Pays};
+ghost use Rattle.ceal_repair.specs.Looks.{Pays, begun};
 ghost use Rattle.ceal_repair.specs.Repairs.{arguments_of, Runs, Acts, ActsMaking, EndsRead, SameCall, left_nodes};
-ghost use Rattle.ceal_repair.specs.Repairs.{running_of};
+ghost use Rattle.ceal_repair.specs.Repairs.{running_of, StaysAnew};
+ghost use Rattle.ceal_repair.specs.Repairs.{account};
 ghost use Rattle.ceal_repair.specs.Lists.{allocates, recalls, stamps_where};
 ghost use Rattle.ceal_repair.specs.Reads.{key_in, closure_in};
 
@@ -30,7 +31,8 @@ impl<'a> Repair<'a> {
     pub fn quiet(&mut self) -> Result<(), NoMemory>
         requires acts { (start : Start) × Acts start does.Quiet self.old }
         ensures call { OnOk result (SameCall self.old self.new) }
-        ensures pays { OnOk result (Pays (running_of self.old) (running_of self.new)) }
+        ensures pays { OnOk result (Pays (account self.old) (account self.new)) }
+        ensures anew { OnOk result (StaysAnew self.old self.new) }
         ensures runs { OnOk result
             ((start : Start) → Acts start does.Quiet self.old → Runs start self.new) }
     {
@@ -42,7 +44,8 @@ impl<'a> Repair<'a> {
     pub fn write(&mut self, place: Place, value: Word) -> Result<(), NoMemory>
         requires acts { (start : Start) × Acts start (does.Writes place value) self.old }
         ensures call { OnOk result (SameCall self.old self.new) }
-        ensures pays { OnOk result (Pays (running_of self.old) (running_of self.new)) }
+        ensures pays { OnOk result (Pays (account self.old) (account self.new)) }
+        ensures anew { OnOk result (StaysAnew self.old self.new) }
         ensures runs { OnOk result
             ((start : Start) → Acts start (does.Writes place value) self.old
             → Runs start self.new) }
@@ -57,7 +60,8 @@ impl<'a> Repair<'a> {
     pub fn make(&mut self, key: Key, var: u32) -> Result<(), NoMemory>
         requires acts { (start : Start) × ActsMaking start key var self.old }
         ensures call { OnOk result (SameCall self.old self.new) }
-        ensures pays { OnOk result (Pays (running_of self.old) (running_of self.new)) }
+        ensures pays { OnOk result (Pays (account self.old) (account self.new)) }
+        ensures anew { OnOk result (StaysAnew self.old self.new) }
         ensures runs { OnOk result
             ((start : Start) → ActsMaking start key var self.old → Runs start self.new) }
     {
@@ -75,7 +79,8 @@ impl<'a> Repair<'a> {
         requires absent { head_of (stamps_where (allocates key) (left_nodes self.old)) ≡ None }
         requires hashed { IsOf (running_of self.old).tables.memo (OfAlloc key) hashed }
         ensures call { OnOk result (SameCall self.old self.new) }
-        ensures pays { OnOk result (Pays (running_of self.old) (running_of self.new)) }
+        ensures pays { OnOk result (Pays (account self.old) (account self.new)) }
+        ensures anew { OnOk result (StaysAnew self.old self.new) }
         ensures runs { OnOk result
             ((start : Start) → ActsMaking start key var self.old → Runs start self.new) }
     {
@@ -101,7 +106,8 @@ impl<'a> Repair<'a> {
         requires hashed { IsOf (running_of self.old).tables.memo
             (OfRead (key_in (closure_in reading (arguments_of self.old)))) hashed }
         ensures call { OnOk result (SameCall self.old self.new) }
-        ensures pays { OnOk result (Pays (running_of self.old) (running_of self.new)) }
+        ensures pays { OnOk result (Pays (account self.old) (account self.new)) }
+        ensures anew { OnOk result (StaysAnew self.old self.new) }
         ensures runs { OnOk result ((start : Start)
             → Acts start (does.Reads (closure_in reading.entry (arguments_of self.old))) self.old
             → Runs start self.new) }
@@ -135,7 +141,8 @@ impl<'a> Repair<'a> {
     pub fn finish(&mut self, below: Floor, read: Stamp) -> Result<(), NoMemory>
         requires ends { (start : Start) × EndsRead start below read self.old }
         ensures call { OnOk result (SameCall self.old self.new) }
-        ensures pays { OnOk result (Pays (running_of self.old) (running_of self.new)) }
+        ensures pays { OnOk result (Pays (begun (account self.old)) (account self.new)) }
+        ensures anew { OnOk result (StaysAnew self.old self.new) }
         ensures runs { OnOk result
             ((start : Start) → EndsRead start below read self.old → Runs start self.new) }
     {

@@ -9,9 +9,10 @@ ghost use Rattle.ceal_memo.specs.Memo.{IsOf};
 ghost use Rattle.ceal_order.specs.Stamps.{head_of};
 ghost use Rattle.ceal_repair.specs.Moment.{Start};
 ghost use Rattle.ceal_repair.specs.Reads.{closure_in, key_in, Entered, EndsTaken};
-ghost use Rattle.ceal_repair.specs.Looks.{Pays};
+ghost use Rattle.ceal_repair.specs.Looks.{Pays, owing};
 ghost use Rattle.ceal_repair.specs.Repairs.{running_of, arguments_of, frames_of, Runs, RunsAt, Acts, SameCall};
-ghost use Rattle.ceal_repair.specs.Repairs.{left_nodes};
+ghost use Rattle.ceal_repair.specs.Repairs.{left_nodes, StaysAnew};
+ghost use Rattle.ceal_repair.specs.Repairs.{account};
 ghost use Rattle.ceal_repair.specs.declared.frame.Frame.TheVariants.{Taken};
 ghost use Rattle.ceal_repair.specs.Kept.{Records};
 ghost use Rattle.ceal_repair.specs.Lists.{recalls, stamps_where};
@@ -44,7 +45,8 @@ impl<'a> Repair<'a> {
         requires acts { (start : Start)
             × Acts start (does.Reads (closure_in reading (arguments_of self.old))) self.old }
         ensures call { OnOk result (SameCall self.old self.new) }
-        ensures pays { OnOk result (Pays (running_of self.old) (running_of self.new)) }
+        ensures pays { OnOk result (Pays (account self.old) (account self.new)) }
+        ensures anew { OnOk result (StaysAnew self.old self.new) }
         ensures runs { OnOk result ((start : Start)
             → Acts start (does.Reads (closure_in reading.entry (arguments_of self.old))) self.old
             → Runs start self.new) }
@@ -111,7 +113,8 @@ impl<'a> Repair<'a> {
             (recalls (key_in (closure_in reading (arguments_of self.old))))
             (left_nodes self.old)) ≡ Some found.0 }
         ensures call { OnOk result (SameCall self.old self.new) }
-        ensures pays { OnOk result (Pays (running_of self.old) (running_of self.new)) }
+        ensures pays { OnOk result (Pays (account self.old) (account self.new)) }
+        ensures anew { OnOk result (StaysAnew self.old self.new) }
         ensures runs { IfOk result (λ anew. (start : Start)
             → Acts start (does.Reads (closure_in reading.entry (arguments_of self.old))) self.old
             → Entered anew start self.new) }
@@ -165,7 +168,8 @@ impl<'a> Repair<'a> {
     pub fn leave(&mut self, below: Floor, until: Stamp) -> Result<(), NoMemory>
         requires ends { (start : Start) × EndsTaken start below until self.old }
         ensures call { OnOk result (SameCall self.old self.new) }
-        ensures pays { OnOk result (Pays (running_of self.old) (running_of self.new)) }
+        ensures pays { OnOk result (Pays (owing (account self.old)) (account self.new)) }
+        ensures anew { OnOk result (StaysAnew self.old self.new) }
         ensures runs { OnOk result
             ((start : Start) → EndsTaken start below until self.old → Runs start self.new) }
     {

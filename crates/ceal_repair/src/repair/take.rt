@@ -7,7 +7,8 @@ ghost use Rattle.ceal_memo.specs.Memo.{IsOf};
 ghost use Rattle.ceal_order.specs.Stamps.{head_of};
 ghost use Rattle.ceal_repair.specs.Moment.{Start};
 ghost use Rattle.ceal_repair.specs.Looks.{Pays};
-ghost use Rattle.ceal_repair.specs.Repairs.{Runs, RunsAt, ActsMaking, SameCall, left_nodes, running_of};
+ghost use Rattle.ceal_repair.specs.Repairs.{Runs, RunsAt, ActsMaking, SameCall, left_nodes, running_of, StaysAnew};
+ghost use Rattle.ceal_repair.specs.Repairs.{account};
 ghost use Rattle.ceal_repair.specs.Lists.{allocates, stamps_where};
 
 use super::Repair;
@@ -40,7 +41,8 @@ impl<'a> Repair<'a> {
         requires found { head_of (stamps_where (allocates key) (left_nodes self.old))
             ≡ Some found.0 }
         ensures call { OnOk result (SameCall self.old self.new) }
-        ensures pays { OnOk result (Pays (running_of self.old) (running_of self.new)) }
+        ensures pays { OnOk result (Pays (account self.old) (account self.new)) }
+        ensures anew { OnOk result (StaysAnew self.old self.new) }
         ensures runs { OnOk result
             ((start : Start) → ActsMaking start key var self.old → Runs start self.new) }
     {

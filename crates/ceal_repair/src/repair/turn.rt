@@ -5,8 +5,9 @@ ghost use Rattle.ceal_base.specs.declared.forest.UnitId.{UnitId as UnitOf};
 ghost use Rattle.ceal_base.specs.declared.word.Place.{Place as PlaceOf};
 ghost use Rattle.ceal_base.specs.declared.word.Word.{Word as WordOf};
 ghost use Rattle.ceal_code.specs.Stacks.{stack_in, aside_in};
-ghost use Rattle.ceal_repair.specs.Looks.{Pays};
+ghost use Rattle.ceal_repair.specs.Looks.{Pays, found};
 ghost use Rattle.ceal_repair.specs.Repairs.{code_of, inputs_of, running_of, frames_of, SameCall};
+ghost use Rattle.ceal_repair.specs.Repairs.{account};
 ghost use Rattle.ceal_repair.specs.Turning.{Since as SinceOf, FoundStale, TurnRuns};
 ghost use Rattle.ceal_theory.specs.Repair.{resumed};
 ghost use Rattle.ceal_trace.specs.Nodes.{node_at, is_read};
@@ -50,7 +51,7 @@ impl<'a> Repair<'a> {
             f args o read.0 (running_of self.old) }
         requires idle { frames_of self.old ≡ [] }
         ensures call { OnOk result (SameCall self.old self.new) }
-        ensures pays { OnOk result (Pays (running_of self.old) (running_of self.new)) }
+        ensures pays { OnOk result (Pays (found read.0 (account self.old)) (account self.new)) }
         ensures begins { OnOk result ((f : ℕ) (args : List WordOf) (o : SinceOf)
             → (found : FoundStale (code_of self.old) (inputs_of self.old)
             f args o read.0 (running_of self.old))

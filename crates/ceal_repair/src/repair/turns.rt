@@ -3,9 +3,11 @@
 ghost use Rattle.std.specs.Prelude.{◌≡◌, ◌≢◌, ◌≤◌, [], ℕ, List, true, false, Some, IfOk, IfSome, IsOk, IsTrue, OnOk};
 ghost use Rattle.ceal_base.specs.declared.word.Word.{Word};
 ghost use Rattle.ceal_code.specs.Replay.{IsHonest};
+ghost use Rattle.ceal_repair.specs.Kept.{QueuedAfter};
 ghost use Rattle.ceal_repair.specs.Propagation.{HasCome, Propagated, AfterTurn};
-ghost use Rattle.ceal_repair.specs.Looks.{Pays};
+ghost use Rattle.ceal_repair.specs.Looks.{Pays, LooksAtQueued, found};
 ghost use Rattle.ceal_repair.specs.Repairs.{code_of, inputs_of, running_of, frames_of, SameCall};
+ghost use Rattle.ceal_repair.specs.Repairs.{account};
 ghost use Rattle.ceal_repair.specs.Turning.{Since, FoundStale};
 ghost use Rattle.ceal_repair.specs.declared.advance.Progress.TheVariants.{Spent};
 ghost use Rattle.ceal_repair.specs.declared.running.Running.{Running};
@@ -36,8 +38,9 @@ impl<'a> Repair<'a> {
             f args o before (running_of self.old) }
         requires idle { frames_of self.old ≡ [] }
         requires some { reads ≢ Some 0 }
+        requires late { QueuedAfter self.old.cursor.0 (running_of self.old).tables }
         ensures call { OnOk result (SameCall self.old self.new) }
-        ensures pays { OnOk result (Pays (running_of self.old) (running_of self.new)) }
+        ensures pays { OnOk result (Pays (account self.old) (account self.new)) }
         ensures ended { IfOk result
             (λ p. (f : ℕ) (args : List Word) (o : Since) (before : Running)
             → HasCome (code_of self.old) (inputs_of self.old) f args o before (running_of self.old)
@@ -45,6 +48,10 @@ impl<'a> Repair<'a> {
             f args reads fuel o before (running_of self.new)) }
         ensures within { IfOk result (λ p. p ≢ Spent → (running_of self.old).spent ≤ fuel
             → (running_of self.new).spent ≤ fuel) }
+        ensures idle { OnOk result ((f : ℕ) (args : List Word) (o : Since) (before : Running)
+            → HasCome (code_of self.old) (inputs_of self.old) f args o before (running_of self.old)
+            → IsHonest (code_of self.old) (inputs_of self.old) o.repair.items
+            → LooksAtQueued (running_of self.old).tables (running_of self.new).tables) }
         ensures sure { (f : ℕ) (args : List Word) (o : Since) (before : Running)
             → HasCome (code_of self.old) (inputs_of self.old) f args o before (running_of self.old)
             → IsHonest (code_of self.old) (inputs_of self.old) o.repair.items → IsOk result }
@@ -76,9 +83,11 @@ impl<'a> Repair<'a> {
             f args o read.0 (running_of self.old) }
         requires idle { frames_of self.old ≡ [] }
         ensures call { OnOk result (SameCall self.old self.new) }
-        ensures pays { OnOk result (Pays (running_of self.old) (running_of self.new)) }
+        ensures pays { OnOk result (Pays (found read.0 (account self.old)) (account self.new)) }
         ensures idle { IfOk result (λ more. more ≡ true → frames_of self.new ≡ []) }
         ensures within { IfOk result (λ more. more ≡ true → (running_of self.new).spent ≤ fuel) }
+        ensures late { IfOk result (λ more. more ≡ true
+            → QueuedAfter self.new.cursor.0 (running_of self.new).tables) }
         ensures turn { IfOk result (λ more. (f : ℕ) (args : List Word) (o : Since)
             → (found : FoundStale (code_of self.old) (inputs_of self.old)
             f args o read.0 (running_of self.old))

@@ -6,7 +6,7 @@ ghost use Rattle.ceal_base.specs.declared.word.BlockId.{BlockId as Block};
 ghost use Rattle.ceal_base.specs.declared.word.Place.{Place as PlaceOf};
 ghost use Rattle.ceal_base.specs.declared.word.Word.{Word as WordOf};
 ghost use Rattle.ceal_repair.specs.Kept.{Kept, QueuedAfter, QueuedFrom, base_in};
-ghost use Rattle.ceal_repair.specs.Looks.{looks_owed, NoneDiffers, KeepsMarks};
+ghost use Rattle.ceal_repair.specs.Looks.{looks_owed, touched_owed, CountsOn, NoneDiffers, KeepsMarks};
 ghost use Rattle.ceal_trace.specs.Nodes.{node_at, position, is_read, end_in, without_entry};
 ghost use Rattle.ceal_trace.specs.declared.node.Node.TheVariants.{Alloc, Write};
 
@@ -25,6 +25,8 @@ impl Tables {
         ensures nodes { self.new.trace.nodes ≡ without_entry alloc.0 self.old.trace.nodes }
         ensures mods { self.new.mods ≡ self.old.mods }
         ensures queue { self.new.stale ≡ self.old.stale }
+        ensures touched { touched_owed self.new ≤ touched_owed self.old }
+        ensures counts { CountsOn self.old self.new }
         ensures kept { Kept self.new }
     {
         self.memo.remove(self.trace.order(), alloc);
@@ -47,13 +49,15 @@ impl Tables {
             → QueuedAfter s self.old → QueuedAfter s self.new) }
         ensures looks { OnOk result (looks_owed self.new ≤ looks_owed self.old + 3) }
         ensures differed { OnOk result (NoneDiffers self.old self.new) }
+        ensures touched { OnOk result (touched_owed self.new ≤ touched_owed self.old) }
+        ensures counts { OnOk result (CountsOn self.old self.new) }
         ensures marks { OnOk result (KeepsMarks self.old self.new) }
         ensures kept { OnOk result (Kept self.new) }
     {
         self.stale.reserve(1)?;
         let needless = self.is_needless(write, place);
-        self.mods.remove_write(self.trace.order(), place, write);
-        self.wake_unless(needless, place, write);
+        let at = self.mods.remove_write(self.trace.order(), place, write);
+        self.wake_unless(needless, at, place, write);
         self.trace.discard(write);
         Ok(())
     }
@@ -73,6 +77,8 @@ impl Tables {
             → QueuedAfter s self.new }
         ensures looks { looks_owed self.new ≤ looks_owed self.old }
         ensures differed { NoneDiffers self.old self.new }
+        ensures touched { touched_owed self.new ≤ touched_owed self.old }
+        ensures counts { CountsOn self.old self.new }
         ensures marks { KeepsMarks self.old self.new }
         ensures kept { Kept self.new }
     {

@@ -5,19 +5,21 @@ ghost use Rattle.std.specs.Prelude.{IfNone, IsTrue};
 ghost use Rattle.std.specs.Option.{ForSome};
 ghost use Rattle.ceal_base.specs.declared.word.Place.{Place as PlaceOf};
 ghost use Rattle.ceal_base.specs.declared.word.Word.{Word as WordOf};
-ghost use Rattle.ceal_mods.specs.Mods.{cell_of, Follows as Mods_follow};
+ghost use Rattle.ceal_mods.specs.Mods.{cell_of, cell_slot, Follows as Mods_follow};
 ghost use Rattle.ceal_order.specs.Stamps.{is_in};
 ghost use Rattle.ceal_queue.specs.Queue.{IsBefore, IsWithout, Follows as Queue_follows};
 ghost use Rattle.ceal_repair.specs.Covered.{and_one};
 ghost use Rattle.ceal_repair.specs.Kept.{InStep, Kept, ChainedBy, QueuedAfter, QueuedFrom, Records, IsStale};
 ghost use Rattle.ceal_repair.specs.Kept.{IsHonestRecord, IsAwake, contents_at};
-ghost use Rattle.ceal_repair.specs.Looks.{looks_owed, NoneDiffers, OneDiffers, KeepsMarks};
+ghost use Rattle.ceal_repair.specs.Looks.{looks_owed, touched_owed, CountsOn, NoneDiffers, OneDiffers, KeepsMarks};
+ghost use Rattle.ceal_repair.specs.Looks.{LooksAtQueued};
 ghost use Rattle.ceal_repair.specs.Woken.{KeepsQueued, QueuesReadsOf, QueuesAfter};
 ghost use Rattle.ceal_trace.specs.Nodes.{stamps_in, has_node, node_at, is_read, with_value};
 ghost use Rattle.ceal_trace.specs.declared.node.Node.TheVariants.{Write};
 
 use super::Tables;
 use crate::recorded::{is_same, recorded};
+use crate::written_in::WrittenIn;
 use ceal_base::word::Place;
 use ceal_order::stamp::Stamp;
 
@@ -42,6 +44,8 @@ impl Tables {
         ensures idle { result ≡ false → looks_owed self.new ≤ looks_owed self.old }
         ensures differs { IsTrue result → OneDiffers self.old self.new }
         ensures none_differs { result ≡ false → NoneDiffers self.old self.new }
+        ensures touched { touched_owed self.new ≤ touched_owed self.old + 1 }
+        ensures counts { CountsOn self.old self.new }
         ensures marks { KeepsMarks self.old self.new }
         ensures kept { Kept self.new }
     {
@@ -71,6 +75,9 @@ impl Tables {
         ensures idle { IfNone result (looks_owed self.new ≤ looks_owed self.old) }
         ensures differs { IfSome result (λ s. OneDiffers self.old self.new) }
         ensures none_differs { IfNone result (NoneDiffers self.old self.new) }
+        ensures queued { IfNone result (LooksAtQueued self.old self.new) }
+        ensures touched { touched_owed self.new ≤ touched_owed self.old + 1 }
+        ensures counts { CountsOn self.old self.new }
         ensures marks { KeepsMarks self.old self.new }
         ensures cells { self.new.mods.cells ≡ self.old.mods.cells }
         ensures memo { self.new.memo ≡ self.old.memo }
@@ -95,6 +102,7 @@ impl Tables {
         ensures looks { looks_owed self.new ≤ looks_owed self.old + 1 }
         ensures idle { result ≡ false → looks_owed self.new ≤ looks_owed self.old }
         ensures differed { NoneDiffers self.old self.new }
+        ensures counts { CountsOn self.old self.new }
         ensures marks { KeepsMarks self.old self.new }
         ensures trace { self.new.trace ≡ self.old.trace }
         ensures cells { self.new.mods.cells ≡ self.old.mods.cells }
@@ -115,7 +123,7 @@ impl Tables {
         false
     }
 
-    // Whether a read does not have the content of its moment.
+    /// Whether a read does not have the content of its moment.
     #[inline]
     pub fn differs(&mut self, read: Stamp) -> bool
         requires kept { Kept self.old }
@@ -128,15 +136,19 @@ impl Tables {
         ensures queue { self.new.stale ≡ self.old.stale }
         ensures looks { looks_owed self.new ≤ looks_owed self.old + 1 }
         ensures differed { NoneDiffers self.old self.new }
+        ensures counts { CountsOn self.old self.new }
         ensures marks { KeepsMarks self.old self.new }
         ensures kept { Kept self.new }
     {
         let (place, value) = recorded(&self.trace, read);
-        let now = self.mods.value_at(self.trace.order(), place, read);
+        let written = WrittenIn { trace: &self.trace };
+        let now = self
+            .mods
+            .value_at(self.trace.order(), &written, place, read);
         !is_same(value, now)
     }
 
-    // Takes a read out of the queue that has the content of its moment and has none queued before it.
+    /// Takes a read out of the queue that has the content of its moment and has none queued before it.
     pub fn dismiss(&mut self, read: Stamp)
         requires kept { Kept self.old }
         requires here { IsTrue (is_read (node_at read.0 self.old.trace.nodes)) }
@@ -153,7 +165,7 @@ impl Tables {
         let _was = self.unqueue(read);
     }
 
-    // Queues the read that a change of a place after a node affects; there is room for it.
+    /// Queues the read that a change of a place after a node affects; there is room for it.
     pub fn wake(&mut self, place: Place, after: Stamp)
         requires here { IsTrue (has_node after.0 self.old.trace.nodes) }
         requires mods { Mods_follow (stamps_in self.old.trace.nodes) self.old.mods }
@@ -170,12 +182,38 @@ impl Tables {
         ensures woken { IsAwake (stamps_in self.old.trace.nodes)
             (cell_of self.old.mods place) after.0 self.new.stale.stamps }
     {
-        if let Some(read) = self.mods.affected(self.trace.order(), place, after) {
+        let at = self.mods.slot(place);
+        self.wake_in(at, place, after);
+    }
+
+    /// The same, of a place whose cell is at a slot.
+    #[inline]
+    pub fn wake_in(&mut self, slot: u32, place: Place, after: Stamp)
+        requires slot { slot ≡ cell_slot self.old.mods place }
+        requires here { IsTrue (has_node after.0 self.old.trace.nodes) }
+        requires mods { Mods_follow (stamps_in self.old.trace.nodes) self.old.mods }
+        requires stale { Queue_follows (stamps_in self.old.trace.nodes) self.old.stale }
+        requires room { 0 < self.old.stale.spare }
+        ensures trace { self.new.trace ≡ self.old.trace }
+        ensures mods { self.new.mods ≡ self.old.mods }
+        ensures memo { self.new.memo ≡ self.old.memo }
+        ensures stale { Queue_follows (stamps_in self.new.trace.nodes) self.new.stale }
+        ensures more { KeepsQueued self.old self.new }
+        ensures only { QueuesReadsOf place self.old self.new }
+        ensures ahead { QueuesAfter after.0 self.old self.new }
+        ensures one { length self.new.stale.stamps ≤ length self.old.stale.stamps + 1 }
+        ensures woken { IsAwake (stamps_in self.old.trace.nodes)
+            (cell_of self.old.mods place) after.0 self.new.stale.stamps }
+    {
+        if let Some(read) = self
+            .mods
+            .affected_in(self.trace.order(), slot, place, after)
+        {
             self.stale.push(self.trace.order(), read);
         }
     }
 
-    // Whether a place holds without a write what it holds with it.
+    /// Whether a place holds without a write what it holds with it.
     #[inline]
     pub fn is_needless(&mut self, write: Stamp, place: Place) -> bool
         requires kept { Kept self.old }
@@ -189,18 +227,24 @@ impl Tables {
         ensures queue { self.new.stale ≡ self.old.stale }
         ensures looks { looks_owed self.new ≤ looks_owed self.old + 1 }
         ensures differed { NoneDiffers self.old self.new }
+        ensures counts { CountsOn self.old self.new }
         ensures marks { KeepsMarks self.old self.new }
         ensures memo { self.new.memo ≡ self.old.memo }
         ensures kept { Kept self.new }
     {
         let value = self.trace.written_at(write);
-        let held = self.mods.value_at(self.trace.order(), place, write);
+        let written = WrittenIn { trace: &self.trace };
+        let held = self
+            .mods
+            .value_at(self.trace.order(), &written, place, write);
         is_same(value, held)
     }
 
-    // Queues the read that a change of a place after a node affects, unless nothing has changed.
+    /// Queues the read that a change of a place, whose cell is at a slot, after a node affects, unless nothing has
+    /// changed.
     #[inline]
-    pub fn wake_unless(&mut self, same: bool, place: Place, after: Stamp)
+    pub fn wake_unless(&mut self, same: bool, slot: u32, place: Place, after: Stamp)
+        requires slot { slot ≡ cell_slot self.old.mods place }
         requires here { IsTrue (has_node after.0 self.old.trace.nodes) }
         requires mods { Mods_follow (stamps_in self.old.trace.nodes) self.old.mods }
         requires stale { Queue_follows (stamps_in self.old.trace.nodes) self.old.stale }
@@ -218,11 +262,11 @@ impl Tables {
             (cell_of self.old.mods place) after.0 self.new.stale.stamps }
     {
         if !same {
-            self.wake(place, after);
+            self.wake_in(slot, place, after);
         }
     }
 
-    // Takes a node out of the queue that has none before it, and says whether it was there.
+    /// Takes a node out of the queue that has none before it, and says whether it was there.
     #[inline]
     pub fn unqueue(&mut self, read: Stamp) -> bool
         requires here { IsTrue (has_node read.0 self.old.trace.nodes) }
@@ -243,7 +287,7 @@ impl Tables {
         self.stale.pop_before(self.trace.order(), next).is_some()
     }
 
-    // Takes a read out of the queue that has none before it; where it was there, the next one of its place goes in.
+    /// Takes a read out of the queue that has none before it; where it was there, the next one of its place goes in.
     #[inline]
     pub fn hand_on(&mut self, read: Stamp, place: Place)
         requires here { IsTrue (has_node read.0 self.old.trace.nodes) }
@@ -269,9 +313,9 @@ impl Tables {
         }
     }
 
-    // A read that was popped gets the content of its moment. Says whether it had another one, and hands on to the next
-    // one of its place then. Where it had that, what was recorded last of the place is as before, and the next one has
-    // nothing to fear.
+    /// A read that was popped gets the content of its moment. Says whether it had another one, and hands on to the next
+    /// one of its place then. Where it had that, what was recorded last of the place is as before, and the next one has
+    /// nothing to fear.
     pub fn settle(&mut self, popped: Stamp) -> bool
         requires step { InStep self.old }
         requires chained { ChainedBy (and_one popped.0 self.old.stale.stamps) self.old }
@@ -286,6 +330,7 @@ impl Tables {
             × (self.new.trace.nodes
             ≡ with_value popped.0 (contents_at popped.0 self.old p) self.old.trace.nodes) }
         ensures same { result ≡ false → self.new.trace ≡ self.old.trace }
+        ensures queue { result ≡ false → self.new.stale ≡ self.old.stale }
         ensures cells { self.new.mods.cells ≡ self.old.mods.cells }
         ensures memo { self.new.memo ≡ self.old.memo }
         ensures behind { QueuedAfter popped.0 self.new }
@@ -293,16 +338,22 @@ impl Tables {
         ensures idle { result ≡ false → looks_owed self.new ≤ looks_owed self.old + 1 }
         ensures differs { IsTrue result → OneDiffers self.old self.new }
         ensures none_differs { result ≡ false → NoneDiffers self.old self.new }
+        ensures touched { touched_owed self.new ≤ touched_owed self.old + 1 }
+        ensures counts { CountsOn self.old self.new }
         ensures marks { KeepsMarks self.old self.new }
         ensures kept { Kept self.new }
     {
         let (place, value) = recorded(&self.trace, popped);
-        let now = self.mods.value_at(self.trace.order(), place, popped);
+        let at = self.mods.slot(place);
+        let written = WrittenIn { trace: &self.trace };
+        let now = self
+            .mods
+            .value_in(self.trace.order(), &written, at, place, popped);
         if is_same(value, now) {
             return false;
         }
         self.mods.count_differed();
-        self.wake(place, popped);
+        self.wake_in(at, place, popped);
         self.trace.set_value(popped, now);
         true
     }

@@ -1,7 +1,7 @@
 -- What an engine makes of a run, or of what is left of a repair, is what the definition makes of each past that it had
 -- up to numbers.
-use Rattle.std.proofs.Common.{◌≡◌, ◌⊎◌, inl, inr, ℕ, Bool, true, false, if◌then◌else◌, Option, Some, None, Result, Ok, Err, IfOk, OnOk, IsSomeAnd, List, is_some, refl, sym, ap, ◌∙◌, subst, arith}
-use Rattle.std.specs.Prelude.{◌≢◌, IfSome, IsSome, OnErr}
+use Rattle.std.proofs.Common.{◌≡◌, ◌⊎◌, inl, inr, ℕ, Bool, true, false, if◌then◌else◌, Option, Some, None, Ok, Err, IsSomeAnd, List, is_some, refl, sym, ap, ◌∙◌, subst, arith}
+use Rattle.std.specs.Prelude.{IfSome, IsSome, OnErr}
 use Rattle.ceal_base.specs.Block.{Block}
 use Rattle.ceal_base.specs.Trace.{Trace, steps_of}
 use Rattle.ceal_base.specs.declared.call.Call.{Call}
@@ -11,17 +11,21 @@ use Rattle.ceal_code.proofs.Words.SameIsEqual.{some-same}
 use Rattle.ceal_code.specs.Fitting.{Fits}
 use Rattle.ceal_code.specs.Program.{Code}
 use Rattle.ceal_code.specs.Replay.{Replays, plain_of}
+use Rattle.ceal_engine.proofs.Present.{not-both}
+use Rattle.ceal_engine.specs.Advance.{AdvanceOutcome}
+use Rattle.ceal_engine.specs.Calls.{Advances, IsRunAnew}
+use Rattle.ceal_engine.specs.Cost.{CostOfCall}
 use Rattle.ceal_engine.specs.Engine.{EngineState, IsEngine, IsPresent, is_whole, IsWhole, IsHeapOf, ReplaysCall, trace, fresh_call, fresh_of, has_run, IfOutOfFuel}
-use Rattle.ceal_engine.specs.Partial.{CarriesRepair, RenamedFrom, RepairOutcome, SliceContinues, SliceEnds, IsAnew, carried_by, spent_in, words_in}
-use Rattle.ceal_engine.specs.Partial.{phase_after_repair as phase_of_came}
+use Rattle.ceal_engine.specs.Partial.{CarriesRepair, RenamedFrom, SliceContinues, SliceEnds, carried_by, spent_in, words_in}
 use Rattle.ceal_engine.specs.Repaired.{IsFirst, first_call}
+use Rattle.ceal_engine.specs.declared.phase.Came.{Came}
 use Rattle.ceal_engine.specs.declared.phase.Came.TheVariants.{More, Done, Anew}
 use Rattle.ceal_engine.specs.declared.phase.Phase.{Phase}
 use Rattle.ceal_engine.specs.declared.phase.Phase.TheVariants.{New, Finished, Pending, Partial, Dropped}
 use Rattle.ceal_engine.specs.declared.run_error.RunError.{RunError}
 use Rattle.ceal_engine.specs.declared.run_error.RunError.TheVariants.{Memory, OutOfFuel}
 use Rattle.ceal_session.proofs.Engine.RunLeavesPast.{above, is-above, has-first}
-use Rattle.ceal_session.specs.Outcomes.{Outcome, EngineAfterCall, with_came}
+use Rattle.ceal_session.specs.Outcomes.{Outcome, EngineAfterCall, IsSliceOf}
 use Rattle.ceal_session.specs.SessionState.{past_of, past_by, traced_by, going_by}
 use Rattle.ceal_theory.proofs.SlicedRepair.CarriedLaws.{carried-same-law, carried-trace-law, edited-so, own-single}
 use Rattle.ceal_theory.proofs.SlicedRepair.SliceLaws.{begin-law}
@@ -125,16 +129,10 @@ module _ {code : Code} {inputs : List Block} {f : ℕ} {args : List Word} where
   same-going (SamePast.traced r) z e = absurd (grind (arith, e))
   same-going (SamePast.going {r = r} s c) z e = record { repair = r; is = refl; sound = s; carried = subst (Carried code inputs 0 r) (cc e) c }
 
--- a repair stays in progress only where a number of reads was given
-pub some-reads : (outcome : Outcome) (reads : Option ℕ) → IfOk outcome (λ came. came ≡ More → IsSome reads) → IfOk outcome (λ came. came ≡ More → is_some reads ≡ true)
-some-reads (Ok c) None h = h
-some-reads (Ok c) (Some k) h = λ e. refl
-some-reads (Err e) reads h = tt
-
--- the run of a dropped one is a first one
-pub from-dropped : {A : Type 0} (P : Type 0) (outcome : Result A RunError) (phase : Phase) → phase ≡ Dropped → OnOk outcome (phase ≡ Dropped → P) → OnOk outcome P
-from-dropped P (Ok x) phase e h = h e
-from-dropped P (Err x) phase e h = tt
+-- a number of reads was given
+is-given : (reads : Option ℕ) → IsSome reads → is_some reads ≡ true
+is-given None h = h
+is-given (Some k) h = refl
 
 -- the repair with which the definition continues is the engine's, up to the numbers of core blocks
 pub record IsNext (e : EngineState) (p : Past) : Type 0 where
@@ -255,27 +253,45 @@ module _ (e e' : EngineState) (call : Call) (code : e'.code ≡ e.code) (fuel : 
       subst (λ (q : Past). SamePast e.code e.inputs call.function call.args (left_by e.code e.inputs first (Some r)) q) (sym (past-going e' h.items ph h.is))
       (subst (λ (b : Bool). SamePast e.code e.inputs call.function call.args (if b then done_past first r else Going r) (Going (carried_by e' h.items))) (sym more) same)
 
+-- there is a run, or there is none
+run-or-none : (there : Bool) → (there ≡ true) ⊎ (there ≡ false)
+run-or-none true = inl refl
+run-or-none false = inr refl
+
 module _ (e e' : EngineState) (k : IsEngine e) (call : Call) (fit : Fits e.code e.inputs call.function call.args) (code : e'.code ≡ e.code) (fuel : e'.fuel ≡ e.fuel) (inputs : e'.inputs ≡ e.inputs)
     (called : e'.call ≡ Some call)
     (reads : Option ℕ) where
+  abbrev IsHad : Past → Type 0
+  IsHad p = SamePast e.code e.inputs call.function call.args p (past_of e)
+
+  abbrev slice_at : Past → Option Repair
+  slice_at p = slice_of e.code e.inputs e.fuel reads (next_repair e.code e.inputs p)
+
+  -- where there was no run, there is no slice of one
+  no-slice : has_run e.phase ≡ false → (p : Past) → IsHad p → slice_at p ≡ None
+  no-slice none p same = ap slice_at (same-none same (past-none e k none))
+
   -- a run of a call of which there was none
-  pub brought-anew : {A : Type 0} (outcome : Result A RunError) → has_run e.phase ≡ false → OnOk outcome (e'.phase ≡ Finished) → OnOk outcome (IsPresent e')
-      → OnOk outcome (IsSomeAnd (trace e') (IsFirst e'))
-      → IfOutOfFuel outcome (fresh_of e' ≡ None) → OnErr outcome (e'.phase ≡ Dropped) → EngineAfterCall e call reads (with_came Anew outcome) e'
-  brought-anew (Ok x) none phase present one out dropped = record {
+  pub ran-first : ¬ IsWhole e.phase → has_run e.phase ≡ false → IsRunAnew e' → EngineAfterCall e call reads (Ok Anew) e'
+  ran-first part none anew = record {
     code = code;
     fuel = fuel;
     inputs = inputs;
     called = called;
-    phase = phase;
-    completes = present;
+    phase = anew.phase;
+    completes = anew.present;
     began = tt;
-    slice = λ p of same. ap (λ q. slice_of e.code e.inputs e.fuel reads (next_repair e.code e.inputs q)) (same-none same (past-none e k none));
+    slice = λ p of same. no-slice none p same;
     makes = λ p of same. subst (λ q. SamePast e.code e.inputs call.function call.args (past_after e.code e.inputs e.fuel (first_of e.code e.inputs e.fuel call.function call.args) reads q)
         (past_of e')) (sym (same-none same (past-none e k none)))
-        (after-first e e' call code fuel inputs called fit (ap is_whole phase) present one);
+        (after-first e e' call code fuel inputs called fit (ap is_whole anew.phase) anew.present anew.first);
+    cost = CostOfCall.run part anew.first anew.cost;
   }
-  brought-anew (Err OutOfFuel) none phase present one out dropped = record {
+
+  -- an error, after which there is no run
+  failed : (error : RunError) → ((p : Past) → IsPastOf e.code e.inputs call.function call.args p → IsHad p → IsSliceOf (Err error) e.code e.inputs (slice_at p))
+      → IfOutOfFuel {A = Came} (Err error) (fresh_of e' ≡ None) → e'.phase ≡ Dropped → EngineAfterCall e call reads (Err error) e'
+  failed OutOfFuel slice out dropped = record {
     code = code;
     fuel = fuel;
     inputs = inputs;
@@ -283,10 +299,11 @@ module _ (e e' : EngineState) (k : IsEngine e) (call : Call) (fit : Fits e.code 
     phase = dropped;
     completes = out;
     began = tt;
-    slice = λ p of same. inl (ap (λ q. slice_of e.code e.inputs e.fuel reads (next_repair e.code e.inputs q)) (same-none same (past-none e k none)));
+    slice = slice;
     makes = λ p of same. tt;
+    cost = CostOfCall.given_up dropped;
   }
-  brought-anew (Err Memory) none phase present one out dropped = record {
+  failed Memory slice out dropped = record {
     code = code;
     fuel = fuel;
     inputs = inputs;
@@ -294,82 +311,100 @@ module _ (e e' : EngineState) (k : IsEngine e) (call : Call) (fit : Fits e.code 
     phase = dropped;
     completes = tt;
     began = tt;
-    slice = λ p of same. tt;
+    slice = slice;
     makes = λ p of same. tt;
+    cost = CostOfCall.given_up dropped;
   }
 
+  no-slice-of : has_run e.phase ≡ false → (error : RunError) → (p : Past) → IsPastOf e.code e.inputs call.function call.args p → IsHad p → IsSliceOf (Err error) e.code e.inputs (slice_at p)
+  no-slice-of none OutOfFuel p of same = inl (no-slice none p same)
+  no-slice-of none Memory p of same = tt
+
+  pub failed-first : has_run e.phase ≡ false → (error : RunError) → IfOutOfFuel {A = Came} (Err error) (fresh_of e' ≡ None) → e'.phase ≡ Dropped → EngineAfterCall e call reads (Err error) e'
+  failed-first none error out dropped = failed error (no-slice-of none error) out dropped
+
   -- what is left of a repair, or a part of it
-  module _ (runs : has_run e.phase ≡ true) (again : e.call ≡ Some call) where
-    next : (p : Past) → IsPastOf e.code e.inputs call.function call.args p → SamePast e.code e.inputs call.function call.args p (past_of e) → IsNext e p
-    next p of same = next-of e k call again runs p of same
+  module _ (again : e.call ≡ Some call) where
+    module _ (runs : has_run e.phase ≡ true) where
+      next : (p : Past) → IsPastOf e.code e.inputs call.function call.args p → IsHad p → IsNext e p
+      next p of same = next-of e k call again runs p of same
 
-    slice-is : (p : Past) (n : IsNext e p) → slice_of e.code e.inputs e.fuel reads (next_repair e.code e.inputs p) ≡ sliced e.code own e.inputs reads e.fuel n.repair
-    slice-is p n = ap (slice_of e.code e.inputs e.fuel reads) n.is
+      slice-is : (p : Past) (n : IsNext e p) → slice_at p ≡ sliced e.code own e.inputs reads e.fuel n.repair
+      slice-is p n = ap (slice_of e.code e.inputs e.fuel reads) n.is
 
-    abbrev left : Option Repair → Past
-    left o = left_by e.code e.inputs (first_of e.code e.inputs e.fuel call.function call.args) o
+      abbrev left : Option Repair → Past
+      left o = left_by e.code e.inputs (first_of e.code e.inputs e.fuel call.function call.args) o
 
-    pub brought-on : (outcome : Outcome) → IfOk outcome (λ came. e'.phase ≡ phase_of_came came) → IfOk outcome (λ came. came ≢ More → IsPresent e')
-        → ((next : ℕ) (r : Repair) → CarriesRepair e next r → RepairOutcome e e' reads next r outcome) → IfOk outcome (λ came. came ≡ More → is_some reads ≡ true)
-        → IfOutOfFuel outcome (fresh_of e' ≡ None) → OnErr outcome (e'.phase ≡ Dropped) → EngineAfterCall e call reads outcome e'
-    brought-on (Ok More) phase present comes more out dropped = record {
-      code = code;
-      fuel = fuel;
-      inputs = inputs;
-      called = called;
-      phase = phase;
-      completes = tt;
-      began = (runs, more refl, again);
-      slice = λ p of same. let n = next p of same in let g : SliceContinues e e' reads 0 n.repair = comes 0 n.repair n.carries in (g.repair, slice-is p n ∙ g.is, g.more);
-      makes = λ p of same. let n = next p of same in let g : SliceContinues e e' reads 0 n.repair = comes 0 n.repair n.carries in
-          subst (λ o. SamePast e.code e.inputs call.function call.args (left o) (past_of e')) (sym (slice-is p n ∙ g.is))
-          (after-part e e' call code fuel inputs called fit g.repair phase g.more g.carries);
-    }
-    brought-on (Ok Done) phase present comes more out dropped = record {
-      code = code;
-      fuel = fuel;
-      inputs = inputs;
-      called = called;
-      phase = phase;
-      completes = present (λ i. absurd (grind (arith, i)));
-      began = (runs, again);
-      slice = λ p of same. let n = next p of same in let g : SliceEnds e e' reads 0 n.repair = comes 0 n.repair n.carries in (g.repair, slice-is p n ∙ g.is, g.done);
-      makes = λ p of same. let n = next p of same in let g : SliceEnds e e' reads 0 n.repair = comes 0 n.repair n.carries in
-          subst (λ o. SamePast e.code e.inputs call.function call.args (left o) (past_of e')) (sym (slice-is p n ∙ g.is))
-          (after-done e e' call code fuel inputs called fit reads n.repair (ap is_whole phase) (present (λ i. absurd (grind (arith, i)))) g);
-    }
-    brought-on (Ok Anew) phase present comes more out dropped = record {
-      code = code;
-      fuel = fuel;
-      inputs = inputs;
-      called = called;
-      phase = phase;
-      completes = present (λ i. absurd (grind (arith, i)));
-      began = tt;
-      slice = λ p of same. let n = next p of same in let g : IsAnew e e' reads n.repair = comes 0 n.repair n.carries in slice-is p n ∙ g.none;
-      makes = λ p of same. let n = next p of same in let g : IsAnew e e' reads n.repair = comes 0 n.repair n.carries in
-          subst (λ o. SamePast e.code e.inputs call.function call.args (left o) (past_of e')) (sym (slice-is p n ∙ g.none))
-          (after-first e e' call code fuel inputs called fit (ap is_whole phase) (present (λ i. absurd (grind (arith, i)))) g.first);
-    }
-    brought-on (Err OutOfFuel) phase present comes more out dropped = record {
-      code = code;
-      fuel = fuel;
-      inputs = inputs;
-      called = called;
-      phase = dropped;
-      completes = out;
-      began = tt;
-      slice = λ p of same. let n = next p of same in elim (comes 0 n.repair n.carries) [ inl none ↦ inl (slice-is p n ∙ none) | inr r ↦ inr (r.0, slice-is p n ∙ r.1, r.2) ];
-      makes = λ p of same. tt;
-    }
-    brought-on (Err Memory) phase present comes more out dropped = record {
-      code = code;
-      fuel = fuel;
-      inputs = inputs;
-      called = called;
-      phase = dropped;
-      completes = tt;
-      began = tt;
-      slice = λ p of same. tt;
-      makes = λ p of same. tt;
-    }
+      -- a run in place of a repair in progress
+      ran-again : ¬ IsWhole e.phase → ((next : ℕ) (r : Repair) → CarriesRepair e next r → sliced e.code own e.inputs reads e.fuel r ≡ None) → IsRunAnew e' → EngineAfterCall e call reads (Ok Anew) e'
+      ran-again part none anew = record {
+        code = code;
+        fuel = fuel;
+        inputs = inputs;
+        called = called;
+        phase = anew.phase;
+        completes = anew.present;
+        began = tt;
+        slice = λ p of same. let n = next p of same in slice-is p n ∙ none 0 n.repair n.carries;
+        makes = λ p of same. let n = next p of same in
+            subst (λ o. SamePast e.code e.inputs call.function call.args (left o) (past_of e')) (sym (slice-is p n ∙ none 0 n.repair n.carries))
+            (after-first e e' call code fuel inputs called fit (ap is_whole anew.phase) anew.present anew.first);
+        cost = CostOfCall.run part anew.first anew.cost;
+      }
+
+      slice-out : (error : RunError) → AdvanceOutcome e e' reads (Err error) → (p : Past) → IsPastOf e.code e.inputs call.function call.args p → IsHad p
+          → IsSliceOf (Err error) e.code e.inputs (slice_at p)
+      slice-out OutOfFuel comes p of same =
+          let n = next p of same in elim (comes 0 n.repair n.carries) [ inl none ↦ inl (slice-is p n ∙ none) | inr r ↦ inr (r.0, slice-is p n ∙ r.1, r.2) ]
+      slice-out Memory comes p of same = tt
+
+    pub brought : (outcome : Outcome) → AdvanceOutcome e e' reads outcome → IfOutOfFuel outcome (fresh_of e' ≡ None) → OnErr outcome (e'.phase ≡ Dropped) → EngineAfterCall e call reads outcome e'
+    brought (Ok More) o out dropped =
+        let runs = o.repairs.run in
+        record {
+          code = code;
+          fuel = fuel;
+          inputs = inputs;
+          called = called;
+          phase = o.phase;
+          completes = tt;
+          began = (runs, is-given reads o.given, again);
+          slice = λ p of same. let n = next runs p of same in let g : SliceContinues e e' reads 0 n.repair = o.slice 0 n.repair n.carries in (g.repair, slice-is runs p n ∙ g.is, g.more);
+          makes = λ p of same. let n = next runs p of same in let g : SliceContinues e e' reads 0 n.repair = o.slice 0 n.repair n.carries in
+              subst (λ o. SamePast e.code e.inputs call.function call.args (left runs o) (past_of e')) (sym (slice-is runs p n ∙ g.is))
+              (after-part e e' call code fuel inputs called fit g.repair o.phase g.more g.carries);
+          cost = CostOfCall.repair o.repairs.cost;
+        }
+    brought (Ok Done) o out dropped =
+        let runs = o.repairs.run in
+        record {
+          code = code;
+          fuel = fuel;
+          inputs = inputs;
+          called = called;
+          phase = o.phase;
+          completes = o.present;
+          began = (runs, again);
+          slice = λ p of same. let n = next runs p of same in let g : SliceEnds e e' reads 0 n.repair = o.slice 0 n.repair n.carries in (g.repair, slice-is runs p n ∙ g.is, g.done);
+          makes = λ p of same. let n = next runs p of same in let g : SliceEnds e e' reads 0 n.repair = o.slice 0 n.repair n.carries in
+              subst (λ o. SamePast e.code e.inputs call.function call.args (left runs o) (past_of e')) (sym (slice-is runs p n ∙ g.is))
+              (after-done e e' call code fuel inputs called fit reads n.repair (ap is_whole o.phase) o.present g);
+          cost = CostOfCall.repair o.repairs.cost;
+        }
+    brought (Ok Anew) o out dropped =
+        elim o.from [
+          | inl part ↦ ran-again (ap has_run part) (not-both e.phase part) o.slice o.anew
+          | inr none ↦ ran-first (λ w. absurd (let p = ap is_whole none in grind (arith, p, w))) (ap has_run none) o.anew
+        ]
+    brought (Err error) o out dropped =
+        elim (run-or-none (has_run e.phase)) [
+          | inl runs ↦ failed error (slice-out runs error o) out dropped
+          | inr none ↦ failed error (no-slice-of none error) out dropped
+        ]
+
+-- the accepted call after `advance`
+pub after-advance : (e e' : EngineState) → IsEngine e → (call : Call) → e.call ≡ Some call → (reads : Option ℕ) (outcome : Outcome) → Advances e e' outcome → AdvanceOutcome e e' reads outcome
+    → EngineAfterCall e call reads outcome e'
+after-advance e e' k call again reads outcome a o =
+    brought e e' k call (subst (λ o. IfSome o (λ call. Fits e.code e.inputs call.function call.args)) again k.call)
+    a.code a.fuel a.inputs (a.call ∙ again) reads again outcome o a.out_of_fuel a.dropped

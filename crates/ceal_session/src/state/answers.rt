@@ -106,6 +106,7 @@ impl State {
     pub fn keep_bound(&mut self, bound: u32)
         requires bound { bound ≡ (situation self.old).bound }
         ensures kept { situation self.new ≡ situation self.old }
+        ensures engine { self.new.engine ≡ self.old.engine }
     {
         self.journal.keep(bound);
     }

@@ -11,7 +11,7 @@ loop-link-init c =
     let heads = c.args.heads.now in
     let groups = c.args.groups.now in
     let b = bucket (length heads) c.args.hash in
-    let last = subst (IsLast (IsIn (stamped groups) (length heads) groups) b (length groups)) (sym c.first-link.ensures) (head_last heads groups c.requires.linked c.args.hash) in
+    let last = subst (IsLast (IsIn (stamped groups) (length heads) groups) b (length groups)) (sym c.first-link.ensures) (head_last heads groups c.requires.linked c.args.hash (omega arith)) in
     record {
       within = last.within;
       there = last.there;

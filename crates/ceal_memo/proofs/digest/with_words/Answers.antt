@@ -1,4 +1,4 @@
-use Rattle.std.proofs.Common.{◌≡◌, ◌<◌, ◌+◌, ℕ, pos, drop, get_or, sym, ap, ◌∙◌, length, arith}
+use Rattle.std.proofs.Common.{◌≡◌, ◌<◌, ◌+◌, pos, drop, get_or, sym, ap, ◌∙◌, length, arith}
 use Rattle.std.proofs.lemmas.List.{at_drop_more, at_drop_all}
 use Rattle.ceal_base.specs.declared.word.Word.{Word}
 use Rattle.ceal_base.specs.declared.word.Word.TheVariants.{Num}
@@ -14,8 +14,7 @@ loop-word-preserved c =
     let at = c.loop-word.word-index in
     let h : at < length words = omega arith in
     let none : Word = Num (pos 0) in
-    let e : c.with_wide-all.result ≡ with_wide seed c.loop-word.all (word_number (get_or words at none)) =
-    c.with_wide-all.ensures ∙ ap (λ (n : ℕ). with_wide seed c.loop-word.all n) c.word_number.ensures.number in
+    let e : c.with_word-all.result ≡ with_wide seed c.loop-word.all (word_number (get_or words at none)) = c.with_word-all.ensures in
     ap (λ (d : Digest). with_words seed d (drop (at + 1) words)) e
     ∙ sym (at_drop_more (with_words seed c.loop-word.all) words at none h)
     ∙ c.loop-word.invariant

@@ -6,24 +6,34 @@ use Rattle.ceal_mods.specs.Cell.{latest_value}
 use Rattle.ceal_mods.specs.Index.{cell_in}
 use Rattle.ceal_mods.proofs.MarksLemmas.{fewer}
 use Rattle.ceal_mods.proofs.RenewedMarks.{below-at, renewed, renewed-is, unlisted, unlisted-is, with_end, with-end-set}
+use Rattle.ceal_mods.proofs.ToldCells.{told-in}
 use Rattle.ceal_mods.proofs.ends.renew_ends.Goals as goal
 
 pub bounds-ends-at : goal.bounds-ends-at
-bounds-ends-at c = (let b = below-at _ c.args.slots.now c.loop-slot.slot-index 0 c.requires.watched.within (omega arith) in omega (arith, b))
+bounds-ends-at g c = (let b = below-at _ c.args.slots.now c.loop-slot.slot-index 0 c.requires.watched.within (omega arith) in omega (arith, b))
 
 pub bounds-listed-at : goal.bounds-listed-at
-bounds-listed-at c = (let b = below-at _ c.args.slots.now c.loop-slot.slot-index 0 c.requires.watched.within (omega arith) in omega (arith, b, c.requires.long))
+bounds-listed-at g c = (let b = below-at _ c.args.slots.now c.loop-slot.slot-index 0 c.requires.watched.within (omega arith) in omega (arith, b, c.requires.long))
 
 pub cell_at-requires : goal.cell_at-requires
-cell_at-requires c =
+cell_at-requires g c =
     let ends = c.args.ends.now in
     let cells = c.args.cells.now in
     let slots = c.args.slots.now in
     below-at _ slots c.loop-slot.slot-index _
     (AllBelow-more (length ends) (length cells) slots (fewer ends cells c.requires.watched.places) c.requires.watched.within) (omega arith)
 
+pub end-requires : goal.end-requires
+end-requires g c =
+    let ends = c.args.ends.now in
+    let cells = c.args.cells.now in
+    let slots = c.args.slots.now in
+    let within = below-at _ slots c.loop-slot.slot-index 0
+    (AllBelow-more (length ends) (length cells) slots (fewer ends cells c.requires.watched.places) c.requires.watched.within) (omega arith) in
+    record { values = rw c.cell_at.ensures (told-in (g.W.Written.tells c.args.written.now) cells _ within c.requires.values) }
+
 pub loop-slot-preserved : goal.loop-slot-preserved
-loop-slot-preserved c =
+loop-slot-preserved g c =
     let slots = c.args.slots.now in
     let cells = c.args.cells.now in
     let i = c.loop-slot.slot-index in
@@ -38,7 +48,7 @@ loop-slot-preserved c =
     }
 
 pub returns : goal.returns
-returns c =
+returns g c =
     let w = c.requires.watched in
     let slots = c.args.slots.now in
     let i = c.loop-slot.slot-index in

@@ -6,19 +6,25 @@ use Rattle.ceal_mods.specs.Index.{cell_in}
 use Rattle.ceal_mods.specs.Marks.{told, told_at}
 use Rattle.ceal_mods.proofs.ChangedPlaces.{told-at-is}
 use Rattle.ceal_mods.proofs.RenewedMarks.{below-at}
+use Rattle.ceal_mods.proofs.ToldCells.{told-in}
 use Rattle.ceal_mods.proofs.ends.tell_listed.Goals as goal
 
 pub bounds-ends-slot : goal.bounds-ends-slot
-bounds-ends-slot c = below-at _ c.args.slots.now c.loop-slot.slot-index 0 c.requires.ends (omega arith)
+bounds-ends-slot g c = below-at _ c.args.slots.now c.loop-slot.slot-index 0 c.requires.ends (omega arith)
 
 pub bounds-ends-slot-in-loop-slot : goal.bounds-ends-slot-in-loop-slot
-bounds-ends-slot-in-loop-slot c = below-at _ c.args.slots.now c.loop-slot.slot-index 0 c.requires.ends (omega arith)
+bounds-ends-slot-in-loop-slot g c = below-at _ c.args.slots.now c.loop-slot.slot-index 0 c.requires.ends (omega arith)
 
 pub cell_at-requires : goal.cell_at-requires
-cell_at-requires c = below-at _ c.args.slots.now c.loop-slot.slot-index _ c.requires.cells (omega arith)
+cell_at-requires g c = below-at _ c.args.slots.now c.loop-slot.slot-index _ c.requires.cells (omega arith)
+
+pub end-now-requires : goal.end-now-requires
+end-now-requires g c =
+    let within = below-at _ c.args.slots.now c.loop-slot.slot-index 0 c.requires.cells (omega arith) in
+    record { values = rw c.cell_at.ensures (told-in (g.W.Written.tells c.args.written.now) c.args.cells.now _ within c.requires.values) }
 
 pub loop-slot-preserved : goal.loop-slot-preserved
-loop-slot-preserved c =
+loop-slot-preserved g c =
     let slots = c.args.slots.now in
     let cells = c.args.cells.now in
     let ends = c.args.ends.now in

@@ -2,6 +2,7 @@ use Rattle.std.proofs.Common.{◌≡◌, ◌≤◌, ◌+◌, ◌-◌, length, in
 use Rattle.std.proofs.lemmas.Result.{on_ok_weaker}
 use Rattle.ceal_order.specs.Tree.{items_of}
 use Rattle.ceal_order.proofs.TreeLemmas.{length-parts, insert-middle, insert-last}
+use Rattle.ceal_order.proofs.Balance.{few_forks}
 use Rattle.ceal_order.proofs.chunks.+with_item.Goals as goal
 
 pub returns-then-index-before-2-clause-ok : goal.returns-then-index-before-2-clause-ok
@@ -29,3 +30,23 @@ returns-clause-ok g t c =
     (on_ok_weaker {P = items_of c.with_item-later.result.0 ≡ insert (items_of c.in-Fork.fork.value.later)
     (c.args.index - c.count-before.result - c.len-here.result) c.args.item} c.with_item-later.result.1
     (λ same. rw same refl) told)
+
+pub joined-requires-clause-few : goal.joined-requires-clause-few
+joined-requires-clause-few g t c =
+    let forks = rw c.in-Fork.is at (few_forks c.args.tree c.requires.balanced) in
+    let few = rw c.in-Fork.is at c.requires.few in
+    let more = rw (c.replace-earlier.ensures.value, c.deref_mut.ensures.value) at c.with_item-earlier.ensures.forks in
+    rw (c.replace-later.ensures.value, c.deref_mut-in-Fork.ensures.value, c.deref_mut.ensures.value) (omega (arith, forks, few, more))
+
+pub with_item_here-requires-clause-few : goal.with_item_here-requires-clause-few
+with_item_here-requires-clause-few g t c =
+    let forks = rw c.in-Fork.is at (few_forks c.args.tree c.requires.balanced) in
+    let few = rw c.in-Fork.is at c.requires.few in
+    rw (c.replace-earlier.ensures.value, c.replace-later.ensures.value, c.deref_mut-in-Fork.ensures.value, c.deref_mut.ensures.value) (omega (arith, forks, few))
+
+pub joined-requires-in-Fork-clause-few : goal.joined-requires-in-Fork-clause-few
+joined-requires-in-Fork-clause-few g t c =
+    let forks = rw c.in-Fork.is at (few_forks c.args.tree c.requires.balanced) in
+    let few = rw c.in-Fork.is at c.requires.few in
+    let more = rw (c.replace-later.ensures.value, c.deref_mut-in-Fork.ensures.value, c.deref_mut.ensures.value) at c.with_item-later.ensures.forks in
+    rw (c.replace-earlier.ensures.value, c.deref_mut.ensures.value) (omega (arith, forks, few, more))

@@ -2,7 +2,12 @@ use Rattle.std.proofs.Common.{◌≡◌, ◌≢◌, ◌≤◌, false, true, sym,
 use Rattle.ceal_heap.specs.Heap.{next}
 use Rattle.ceal_repair.proofs.Propagation.KeptRun.{has-come-in, idle-first}
 use Rattle.ceal_repair.proofs.Propagation.SlicesOfRun.{since, begun-in, is-sliced, front-stays, is-repaired}
-use Rattle.ceal_repair.proofs.Runs.Paid.{pays-as}
+use Rattle.ceal_repair.proofs.Runs.Paid.{distance-as, pays-settled, root-late}
+use Rattle.std.proofs.Common.{Some}
+use Rattle.ceal_order.specs.Stamps.{head_of}
+use Rattle.ceal_repair.specs.Kept.{Kept}
+use Rattle.ceal_repair.specs.Looks.{LooksAtQueued}
+use Rattle.ceal_trace.specs.Nodes.{stamps_in}
 use Rattle.ceal_repair.specs.Propagation.{Propagated}
 use Rattle.ceal_repair.specs.Turning.{since_begun}
 use Rattle.ceal_repair.specs.declared.advance.Progress.TheVariants.{Spent}
@@ -68,13 +73,21 @@ returns-clause-front c = λ n.
     (rw (e.code, e.inputs) at (t.ended q.0 q.1 o c.args.running.now come)) in
     front-stays code inputs q.0 q.1 c.args.reads c.args.fuel o c.args.running.now c.running-1.given.0 c.in_ok-progress.progress n ended
 
-pub returns-clause-pays : goal.returns-clause-pays
-returns-clause-pays c =
+pub returns-clause-distance : goal.returns-clause-distance
+returns-clause-distance c =
     let e = c.at_root-repair.ensures in
     let t = c.in_ok-progress.ensures in
     let same : c.turns.new.self.running.now ≡ c.running-1.given.0 = search (rules, e.place, t.call.place) in
-    pays-as c.at_root-repair.result.running.now c.args.running.now c.turns.new.self.running.now c.running-1.given.0 e.view e.spent (ap (λ (z : Running). z.tables) same)
-    (ap (λ (z : Running). z.spent) same) t.pays
+    let none = idle-first c.at_root-repair.result.stack.now.waits.aside c.at_root-repair.result.frames.now.items e.frames in
+    distance-as c.at_root-repair.result.running.now c.args.running.now c.turns.new.self.running.now c.running-1.given.0 e.view e.spent (ap (λ (z : Running). z.tables) same)
+    (ap (λ (z : Running). z.spent) same) (pays-settled c.at_root-repair.result c.turns.new.self (subst Kept (sym e.view) c.requires.part.3.stands.kept) none t.pays)
+
+-- what is queued is a read, and so after the root
+pub turns-requires-clause-late : goal.turns-requires-clause-late
+turns-requires-clause-late c =
+    let e = c.at_root-repair.ensures in
+    root-late c.at_root-repair.result.running.now.tables (subst Kept (sym e.view) c.requires.part.3.stands.kept) c.at_root-repair.result.cursor.0
+    (subst (λ (t : Tables). head_of (stamps_in t.trace.nodes) ≡ Some c.at_root-repair.result.cursor.0) (sym e.view) e.cursor)
 
 -- where there was memory for all, the turns have no error
 pub returns-in_err-progress-clause-sure : goal.returns-in_err-progress-clause-sure
@@ -90,3 +103,13 @@ returns-clause-marks c =
     let t = c.in_ok-progress.ensures in
     let same : c.turns.new.self.running.now ≡ c.running-1.given.0 = search (rules, e.place, t.call.place) in
     ap (λ (z : Running). z.tables.mods.marked) (sym same) ∙ (t.call.marks ∙ ap (λ (d : Tables). d.mods.marked) e.view)
+
+-- where no read is stale the queue is looked at
+pub returns-clause-idle : goal.returns-clause-idle
+returns-clause-idle c = λ f args r part honest.
+    let e = c.at_root-repair.ensures in
+    let t = c.in_ok-progress.ensures in
+    let same : c.turns.new.self.running.now ≡ c.running-1.given.0 = search (rules, e.place, t.call.place) in
+    let come = begun-in c.args.code.now c.args.inputs.now f args c.args.fuel r c.args.running.now part c.at_root-repair.result e.code e.inputs e.view e.heap e.spent in
+    let idle = t.idle f args (since c.args.code.now c.args.inputs.now f args c.args.fuel r c.args.running.now part) c.args.running.now come (rw (e.code, e.inputs) honest) in
+    subst (λ (z : Running). LooksAtQueued c.args.running.now.tables z.tables) same (subst (λ (d : Tables). LooksAtQueued d c.turns.new.self.running.now.tables) e.view idle)

@@ -1,6 +1,7 @@
 use Rattle.std.proofs.Common.{◌≡◌, false, arith}
 use Rattle.std.proofs.Common.{true, refl, ◌∙◌}
-use Rattle.ceal_repair.proofs.Runs.Paid.{stays, pays-then}
+use Rattle.ceal_repair.proofs.Runs.Paid.{pays-self, pays-then, anew-then}
+use Rattle.ceal_repair.specs.Repairs.{account}
 use Rattle.ceal_repair.proofs.complete.complete.Goals as goal
 
 pub returns-then-not-branch-clause-done : goal.returns-then-not-branch-clause-done
@@ -13,7 +14,8 @@ loop-act-init c = record {
   call = record { code = refl; inputs = refl; place = refl; marks = refl };
   some = c.requires.runs;
   runs = λ start r. r;
-  pays = stays c.args.repair.now.running.now c.args.repair.now.running.now (omega arith) refl refl;
+  pays = pays-self (account c.args.repair.now);
+  anew = λ none. (none, refl);
 }
 
 -- one act more is done, and it is paid
@@ -26,7 +28,8 @@ loop-act-preserved c =
       call = record { code = e.call.code ∙ i.call.code; inputs = e.call.inputs ∙ i.call.inputs; place = e.call.place ∙ i.call.place; marks = e.call.marks ∙ i.call.marks };
       some = (i.some.0, rw told at (e.runs i.some.0 i.some.1));
       runs = λ start r. rw told at (e.runs start (i.runs start r));
-      pays = pays-then 0 c.args.repair.now.running.now c.loop-act.repair.running.now c.act.new.self.running.now i.pays e.pays;
+      pays = pays-then 0 (account c.args.repair.now) (account c.loop-act.repair) (account c.act.new.self) i.pays e.pays;
+      anew = anew-then c.args.repair.now c.loop-act.repair c.act.new.self i.anew e.anew;
     }
 
 pub returns-then-spent-fuel-clause-pays : goal.returns-then-spent-fuel-clause-pays
@@ -34,4 +37,10 @@ returns-then-spent-fuel-clause-pays c = c.loop-act.invariant.pays
 
 pub returns-then-not-branch-clause-pays : goal.returns-then-not-branch-clause-pays
 returns-then-not-branch-clause-pays c =
-    pays-then 0 c.args.repair.now.running.now c.loop-act.repair.running.now c.act.new.self.running.now c.loop-act.invariant.pays c.in_ok-act.ensures.pays
+    pays-then 0 (account c.args.repair.now) (account c.loop-act.repair) (account c.act.new.self) c.loop-act.invariant.pays c.in_ok-act.ensures.pays
+
+pub returns-then-spent-fuel-clause-anew : goal.returns-then-spent-fuel-clause-anew
+returns-then-spent-fuel-clause-anew c = c.loop-act.invariant.anew
+
+pub returns-then-not-branch-clause-anew : goal.returns-then-not-branch-clause-anew
+returns-then-not-branch-clause-anew c = anew-then c.args.repair.now c.loop-act.repair c.act.new.self c.loop-act.invariant.anew c.in_ok-act.ensures.anew

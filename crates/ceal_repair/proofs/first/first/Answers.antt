@@ -1,6 +1,8 @@
-use Rattle.std.proofs.Common.{◌≡◌, ap, ◌∙◌, rules}
+use Rattle.std.proofs.Common.{◌≡◌, sym, subst, ap, ◌∙◌, rules}
+use Rattle.ceal_repair.specs.Kept.{Kept}
 use Rattle.ceal_repair.proofs.Runs.RunEnd.{first-done, first-out}
-use Rattle.ceal_repair.proofs.Runs.Paid.{first-pays}
+use Rattle.ceal_repair.proofs.Runs.Paid.{first-pays, pays-settled}
+use Rattle.ceal_repair.proofs.Propagation.KeptRun.{idle-first}
 use Rattle.ceal_repair.proofs.Runs.RunStart.{begun}
 use Rattle.ceal_repair.proofs.first.first.Goals as goal
 use Rattle.ceal_repair.specs.Moment.{first_start}
@@ -36,7 +38,9 @@ returns-in-Ok-true c =
           (ap (λ (run : Running). run.spent) back) (rw back at c.release_revoked.ensures.released) c.release_revoked.ensures.slots
           (first-pays c.in_ok-running.running e.nodes e.queue e.looks e.spent c.complete.new.repair.running.now
           (record { tables = c.running-3-1.given.0.tables; heap = c.release_revoked.new.self; spent = c.running-3-1.given.0.spent }) c.at_root-repair.result.running.now r.view r.spent
-          (ap (λ (run : Running). run.tables) back) (ap (λ (run : Running). run.spent) back) c.in-Ok-true.ensures.pays)
+          (ap (λ (run : Running). run.tables) back) (ap (λ (run : Running). run.spent) back) (pays-settled c.at_root-repair.result c.complete.new.repair (subst Kept (sym r.view) e.kept)
+          (idle-first c.at_root-repair.result.stack.now.waits.aside c.at_root-repair.result.frames.now.items r.frames)
+          c.in-Ok-true.ensures.pays) (c.in-Ok-true.ensures.anew r.limit).1)
           (ap (λ (run : Running). run.tables.mods.marked) back ∙ (same.marks ∙ (ap (λ (t : Tables). t.mods.marked) r.view ∙ e.unmarked)));
     }
 

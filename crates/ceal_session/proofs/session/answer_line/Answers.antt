@@ -1,4 +1,5 @@
-use Rattle.std.proofs.Common.{◌∙◌}
+use Rattle.std.proofs.Common.{◌∙◌, sym, subst}
+use Rattle.ceal_engine.specs.Cost.{CostOfCall}
 use Rattle.ceal_session.proofs.Replies.KeptBound.{answers-kept, bounds-kept, left-kept, repairs-kept}
 use Rattle.ceal_session.proofs.Replies.TextOfReply.{answers, long-quiet, if-both-ok, if-ok, on-err, on-ok}
 use Rattle.ceal_session.specs.SessionState.{situation}
@@ -34,3 +35,8 @@ pub returns-clause-left : goal.returns-clause-left
 returns-clause-left c =
     on-err c.answer_of.result
     (λ h. left-kept c.args.state.now c.reply_of.new.state c.answer_of.new.state c.answer_of.ensures.kept c.args.line.now (c.in_ok-reply.ensures.quiet h)) c.answer_of.ensures.err
+
+-- a text of the reply leaves the engine as it is
+pub returns-clause-cost : goal.returns-clause-cost
+returns-clause-cost c =
+    on-ok c.answer_of.result (subst (λ e. CostOfCall c.args.state.now.engine e) (sym c.answer_of.ensures.engine) c.in_ok-reply.ensures.cost)

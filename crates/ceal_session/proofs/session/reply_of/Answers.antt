@@ -1,4 +1,5 @@
 use Rattle.std.proofs.Common.{inl, inr, None, Some, Err, ap, refl}
+use Rattle.ceal_engine.specs.Cost.{CostOfCall}
 use Rattle.ceal_session.proofs.Replies.QuestionsAnswered.{has-reads}
 use Rattle.ceal_session.proofs.Engine.WorkWithinBound.{line-bounded}
 use Rattle.ceal_session.proofs.Replies.TextOfReply.{told, if-ok, on-ok-of, on-err}
@@ -57,3 +58,7 @@ returns-in-Err-Unreadable-clause-trace c =
 pub returns-in-Err-Unreadable-clause-bounded : goal.returns-in-Err-Unreadable-clause-bounded
 returns-in-Err-Unreadable-clause-bounded c =
     record { command = None; reads = c.in-Err-Unreadable.ensures.unreadable (ap Err c.in-Err-Unreadable.field-0-is); bounded = tt }
+
+-- what cannot be read leaves the engine as it is
+pub returns-in-Err-Unreadable-clause-cost : goal.returns-in-Err-Unreadable-clause-cost
+returns-in-Err-Unreadable-clause-cost c = CostOfCall.same

@@ -7,9 +7,12 @@ use Rattle.ceal_code.proofs.evaluate.Scope.evaluate.Goals as goal
 pub loop-e-preserved : goal.loop-e-preserved
 loop-e-preserved g c =
     let within : c.loop-e.e-index < length c.args.es.now = omega arith in
-    rw (
-      values-take c.args.self.now.structs.now (g.P.PlainWords.plain c.args.self.now.plain.now) (arguments c.args.self.now.env.now) c.args.es.now c.loop-e.e-index c.e-item.result within,
-      ← c.e-item.is,
-      ← c.loop-e.invariant,
-      ← c.value.ensures.value,
-    ) c.in_ok-push.ensures.items
+    record {
+      values = rw (
+        values-take c.args.self.now.structs.now (g.P.PlainWords.plain c.args.self.now.plain.now) (arguments c.args.self.now.env.now) c.args.es.now c.loop-e.e-index c.e-item.result within,
+        ← c.e-item.is,
+        ← c.loop-e.invariant.values,
+        ← c.value.ensures.value,
+      ) c.push_reserved.ensures.items;
+      room = omega (arith, c.loop-e.invariant.room, c.push_reserved.ensures.capacity, c.push_reserved.ensures.len, within);
+    }

@@ -5,9 +5,9 @@ use Rattle.ceal_engine.proofs.Keeping.{on-err, sound-left, state-left}
 use Rattle.ceal_engine.proofs.NewInput.{run-unread, sound-longer}
 use Rattle.ceal_engine.proofs.EngineLaws.{carries-still, same-input}
 use Rattle.ceal_engine.proofs.Inputs.{extended-longer}
-use Rattle.ceal_engine.proofs.LooksOfCalls.{looks-input, nothing-same}
+use Rattle.ceal_engine.proofs.CostOfCalls.{cost-input, input-same}
 use Rattle.ceal_engine.specs.Keeping.{state_of}
-use Rattle.ceal_engine.specs.Looks.{LooksAtNothing}
+use Rattle.ceal_engine.specs.Cost.{CostOfInput}
 use Rattle.ceal_engine.specs.Partial.{CarriesRepair}
 use Rattle.ceal_engine.specs.Runs.{OfRuns, SetsInput, same_stage}
 use Rattle.ceal_engine.proofs.engine.Engine.add_input.Goals as goal
@@ -50,30 +50,30 @@ invariant_of-self-2 c =
     (subst (λ e. block_fits e.code.structs (alone e.inputs) b ≡ true) (sym c.self.view_is) c.requires.fits) c.self.invariant.fit v.call c.touch.new.self c.add.new.self set
     (subst (λ e. length e.inputs + 1 < 2 ^ 32) (sym c.self.view_is) c.requires.room) sound)
 
-pub returns-in_err-from_slice-clause-looks : goal.returns-in_err-from_slice-clause-looks
-returns-in_err-from_slice-clause-looks c = nothing-same c.args.self.now _ refl
+pub returns-in_err-from_slice-clause-cost : goal.returns-in_err-from_slice-clause-cost
+returns-in_err-from_slice-clause-cost c = input-same c.args.self.now _ refl
 
-pub returns-in_err-touch-clause-looks : goal.returns-in_err-touch-clause-looks
-returns-in_err-touch-clause-looks c =
+pub returns-in_err-touch-clause-cost : goal.returns-in_err-touch-clause-cost
+returns-in_err-touch-clause-cost c =
     let v = c.self.inside in
-    nothing-same c.args.self.now _ (state-left v.code v.fuel v.inputs v.call.call v.run c.touch.new.self c.touch.ensures.same c.touch.ensures.marks ∙ c.self.view_is)
+    input-same c.args.self.now _ (state-left v.code v.fuel v.inputs v.call.call v.run c.touch.new.self c.touch.ensures.same c.touch.ensures.marks ∙ c.self.view_is)
 
-pub returns-in_err-push-clause-looks : goal.returns-in_err-push-clause-looks
-returns-in_err-push-clause-looks c =
+pub returns-in_err-push-clause-cost : goal.returns-in_err-push-clause-cost
+returns-in_err-push-clause-cost c =
     let v = c.self.inside in
-    nothing-same c.args.self.now _ (rw c.in_err-push.ensures.err (state-left v.code v.fuel v.inputs v.call.call v.run c.touch.new.self c.touch.ensures.same c.touch.ensures.marks ∙ c.self.view_is))
+    input-same c.args.self.now _ (rw c.in_err-push.ensures.err (state-left v.code v.fuel v.inputs v.call.call v.run c.touch.new.self c.touch.ensures.same c.touch.ensures.marks ∙ c.self.view_is))
 
 -- no read was looked at
-pub returns-clause-looks : goal.returns-clause-looks
-returns-clause-looks c =
+pub returns-clause-cost : goal.returns-clause-cost
+returns-clause-cost c =
     let v = c.self.inside in
     let b : Block = record { shape = c.args.shape; words = c.args.words.now } in
     let is = c.new-block.ensures.value ∙ ap (λ ws. record { shape = c.args.shape; words = ws }) c.in_ok-from_slice.ensures.items in
     let set : OfRuns (SetsInput v.code.structs (length v.inputs) c.args.shape c.args.words.now) same_stage c.touch.new.self c.add.new.self = rw c.items.ensures.value at c.add.ensures.sets in
     rw (c.in_ok-push.ensures.ok, is)
-    (subst (λ e. LooksAtNothing e (state_of v.code v.fuel (v.inputs ++ b ∷ []) v.call.call c.add.new.self))
+    (subst (λ e. CostOfInput e (state_of v.code v.fuel (v.inputs ++ b ∷ []) v.call.call c.add.new.self))
     (state-left v.code v.fuel v.inputs v.call.call v.run c.touch.new.self c.touch.ensures.same c.touch.ensures.marks ∙ c.self.view_is)
-    (looks-input v.code v.fuel v.inputs v.call.call v.code.structs (length v.inputs) c.args.shape c.args.words.now (v.inputs ++ b ∷ []) c.touch.new.self c.add.new.self set))
+    (cost-input v.code v.fuel v.inputs v.call.call v.code.structs (length v.inputs) c.args.shape c.args.words.now (v.inputs ++ b ∷ []) c.touch.new.self c.add.new.self set))
 
 -- the repair that continues has one input more, which its items do not name
 pub returns-clause-carries : goal.returns-clause-carries

@@ -1,12 +1,14 @@
 use Rattle.std.proofs.Common.{◌≡◌, ◌∙◌, ap, refl, sym, subst, arith}
 use Rattle.std.proofs.lemmas.Bool.{false≢true}
-use Rattle.std.specs.Prelude.{IsSome}
+use Rattle.std.specs.Prelude.{IsSome, IfSome}
+use Rattle.ceal_engine.proofs.Keeping.{run-kept}
 use Rattle.ceal_engine.proofs.MarkedEnds.{all-told, as-held, modifiable-told, modifiables, other-passed, times-modifiable, times-other}
 use Rattle.ceal_engine.specs.Engine.{EngineState}
 use Rattle.ceal_engine.specs.Keeping.{marked_kept}
 use Rattle.ceal_engine.specs.Marks.{IsModifiable, held_at_end, held_at_mark}
 use Rattle.ceal_engine.specs.declared.phase.Phase.TheVariants.{Finished}
 use Rattle.ceal_mods.specs.Marks.{times}
+use Rattle.ceal_repair.specs.Kept.{Kept}
 use Rattle.ceal_engine.proofs.engine.Engine.changed.Goals as goal
 use Rattle.ceal_engine.proofs.engine.Engine.changed.Goals.{then-has_value+in_ok-push, else-has_value}
 
@@ -14,7 +16,12 @@ pub finished-requires : goal.finished-requires
 finished-requires c = subst (λ (e : EngineState). e.phase ≡ Finished) (sym c.self.view_is) c.requires.finished
 
 pub changed-requires : goal.changed-requires
-changed-requires c = record { marked = subst (λ o. IsSome (marked_kept o)) c.finished.ensures (subst (λ (e : EngineState). IsSome e.marked) (sym c.self.view_is) c.requires.marked) }
+changed-requires c =
+    let v = c.self.inside in
+    record {
+      kept = subst (λ o. IfSome o (λ r. Kept r.tables)) c.finished.ensures (run-kept v.code v.fuel v.inputs v.call.call v.run c.self.invariant.keeps);
+      marked = subst (λ o. IsSome (marked_kept o)) c.finished.ensures (subst (λ (e : EngineState). IsSome e.marked) (sym c.self.view_is) c.requires.marked);
+    }
 
 pub loop-place-init : goal.loop-place-init
 loop-place-init c = rw c.new-places.ensures.items refl

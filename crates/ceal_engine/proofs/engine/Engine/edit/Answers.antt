@@ -6,10 +6,10 @@ use Rattle.ceal_code.proofs.Words.SameIsEqual.{both}
 use Rattle.ceal_code.specs.Value.{is_cell}
 use Rattle.ceal_engine.proofs.EngineLaws.{carries-still, same-base}
 use Rattle.ceal_engine.proofs.Inputs.{extended-edit}
-use Rattle.ceal_engine.proofs.LooksOfCalls.{looks-edit, looks-same, spent-edited}
+use Rattle.ceal_engine.proofs.CostOfCalls.{cost-edit, cost-same, spent-edited}
 use Rattle.ceal_engine.specs.Engine.{fits_in, takes, with_base}
 use Rattle.ceal_engine.specs.Keeping.{state_of}
-use Rattle.ceal_engine.specs.Looks.{LooksOfEdit}
+use Rattle.ceal_engine.specs.Cost.{CostOfEdit}
 use Rattle.ceal_engine.specs.Partial.{CarriesRepair}
 use Rattle.ceal_engine.specs.Runs.{edited_at}
 use Rattle.ceal_engine.proofs.engine.Engine.edit.Goals as goal
@@ -33,18 +33,18 @@ returns-in_err-edit-clause-err c =
     let v = c.self.inside in
     on-err c.from_residual.result _ (state-left v.code v.fuel v.inputs v.call.call v.run c.edit.new.self c.in_err-edit.ensures.err c.edit.ensures.marks ∙ c.self.view_is)
 
-pub returns-in_err-edit-clause-looks : goal.returns-in_err-edit-clause-looks
-returns-in_err-edit-clause-looks c =
+pub returns-in_err-edit-clause-cost : goal.returns-in_err-edit-clause-cost
+returns-in_err-edit-clause-cost c =
     let v = c.self.inside in
-    looks-same c.args.self.now _ (state-left v.code v.fuel v.inputs v.call.call v.run c.edit.new.self c.in_err-edit.ensures.err c.edit.ensures.marks ∙ c.self.view_is)
+    cost-same c.args.self.now _ (state-left v.code v.fuel v.inputs v.call.call v.run c.edit.new.self c.in_err-edit.ensures.err c.edit.ensures.marks ∙ c.self.view_is)
 
 -- no read was looked at, and at most the reads of one place can differ now
-pub returns-clause-looks : goal.returns-clause-looks
-returns-clause-looks c =
+pub returns-clause-cost : goal.returns-clause-cost
+returns-clause-cost c =
     let v = c.self.inside in
     rw c.set_base.ensures
-    (subst (λ e. LooksOfEdit e (state_of v.code v.fuel (with_base v.inputs c.args.place c.args.value) v.call.call c.edit.new.self)) c.self.view_is
-    (looks-edit v.code v.fuel v.inputs v.call.call c.args.place c.args.value (with_base v.inputs c.args.place c.args.value) v.run c.edit.new.self c.in_ok-edit.ensures.ok))
+    (subst (λ e. CostOfEdit e (state_of v.code v.fuel (with_base v.inputs c.args.place c.args.value) v.call.call c.edit.new.self)) c.self.view_is
+    (cost-edit v.code v.fuel v.inputs v.call.call c.args.place c.args.value (with_base v.inputs c.args.place c.args.value) v.run c.edit.new.self c.in_ok-edit.ensures.ok))
 
 -- the repair that continues is one on the edited inputs
 pub returns-clause-carries : goal.returns-clause-carries

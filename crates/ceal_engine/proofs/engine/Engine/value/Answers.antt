@@ -3,12 +3,16 @@ use Rattle.ceal_base.specs.Access.{word_in}
 use Rattle.ceal_base.specs.Fitting.{kind_in}
 use Rattle.ceal_base.specs.declared.word.Word.TheVariants.{Null}
 use Rattle.ceal_code.specs.Value.{is_cell}
+use Rattle.ceal_engine.proofs.Keeping.{run-kept}
 use Rattle.ceal_engine.proofs.ReadRun.{value-read}
 use Rattle.ceal_engine.specs.Engine.{block_in, stored_at}
 use Rattle.ceal_engine.specs.Keeping.{running_in}
 use Rattle.ceal_engine.specs.Reading.{content_at}
 use Rattle.ceal_engine.specs.declared.phase.Phase.TheVariants.{Finished}
 use Rattle.ceal_engine.proofs.engine.Engine.value.Goals as goal
+
+pub content-requires : goal.content-requires
+content-requires c = let v = c.self.inside in record { kept = run-kept v.code v.fuel v.inputs v.call.call v.run c.self.invariant.keeps }
 
 -- the content is the last write of the place, or its base
 pub returns : goal.returns

@@ -4,45 +4,49 @@ use Rattle.std.specs.Prelude.{vec_capacity}
 use Rattle.ceal_mods.specs.Marks.{Watches, ends_of}
 use Rattle.ceal_mods.proofs.MarksLemmas.{fewer}
 use Rattle.ceal_mods.proofs.RenewedMarks.{ends-split, length-first-ends, none-listed-of-all}
+use Rattle.ceal_mods.proofs.ToldCells.{told-from}
 use Rattle.ceal_mods.proofs.marks.Marks.renew.Goals as goal
 
 pub overflow_sub-more : goal.overflow_sub-more
-overflow_sub-more c =
+overflow_sub-more g c =
     let v = c.self.inside in
-    let w = rw (← c.self.view_is) at c.requires in
+    let w = rw (← c.self.view_is) at c.requires.watched in
     let few = fewer v.ends.items c.args.cells.now w.places in
     omega (arith, few, c.len-marked.ensures, v.ends.ok.0)
 
 pub invariant_of-self : goal.invariant_of-self
-invariant_of-self c = rw c.in_err-make_room.ensures.same c.self.invariant
+invariant_of-self g c = rw c.in_err-make_room.ensures.same c.self.invariant
 
 pub renew_ends-requires-clause-watched : goal.renew_ends-requires-clause-watched
-renew_ends-requires-clause-watched c =
+renew_ends-requires-clause-watched g c =
     let v = c.self.inside in
-    let w : Watches (record { ends = v.ends.items; slots = v.slots.items }) c.args.cells.now = rw (← c.self.view_is) at c.requires in
+    let w : Watches (record { ends = v.ends.items; slots = v.slots.items }) c.args.cells.now = rw (← c.self.view_is) at c.requires.watched in
     rw (c.deref.ensures.value, c.in_ok-make_room-3.ensures.same, c.deref_mut.ensures.value, c.in_ok-make_room.ensures.same) w
 
 pub renew_ends-requires-clause-long : goal.renew_ends-requires-clause-long
-renew_ends-requires-clause-long c =
+renew_ends-requires-clause-long g c =
     rw (c.deref_mut.ensures.value, c.in_ok-make_room.ensures.same, c.deref_mut-2.ensures.value, c.in_ok-make_room-2.ensures.same) c.self.invariant.long
 
 pub renew_ends-requires-clause-flags : goal.renew_ends-requires-clause-flags
-renew_ends-requires-clause-flags c =
+renew_ends-requires-clause-flags g c =
     rw (c.deref.ensures.value, c.in_ok-make_room-3.ensures.same, c.deref_mut-2.ensures.value, c.in_ok-make_room-2.ensures.same) c.self.invariant.flags
 
 pub cells_from-requires : goal.cells_from-requires
-cells_from-requires c =
+cells_from-requires g c =
     let v = c.self.inside in
-    let w = rw (← c.self.view_is) at c.requires in
+    let w = rw (← c.self.view_is) at c.requires.watched in
     let few = fewer v.ends.items c.args.cells.now w.places in
     omega (arith, few, c.len-marked.ensures, v.ends.ok.0)
 
+pub add_ends-requires-clause-values : goal.add_ends-requires-clause-values
+add_ends-requires-clause-values g c = rw c.cells_from.ensures (told-from (g.W.Written.tells c.args.written.now) _ c.args.cells.now c.requires.values)
+
 pub invariant_of-self-2 : goal.invariant_of-self-2
-invariant_of-self-2 c =
+invariant_of-self-2 g c =
     let v = c.self.inside in
     let cells = c.args.cells.now in
     let n = length v.ends.items in
-    let w = rw (← c.self.view_is) at c.requires in
+    let w = rw (← c.self.view_is) at c.requires.watched in
     let few = fewer v.ends.items cells w.places in
     let same_ends : c.deref_mut.result.now ≡ v.ends.items = rw (c.deref_mut.ensures.value, c.in_ok-make_room.ensures.same) refl in
     let same_listed : c.deref_mut-2.result.now ≡ v.listed.items = rw (c.deref_mut-2.ensures.value, c.in_ok-make_room-2.ensures.same) refl in
@@ -62,11 +66,11 @@ invariant_of-self-2 c =
     rw (ends, listed, c.clear.ensures.items, c.clear.ensures.capacity) (none-listed-of-all cells n (vec_capacity c.make_room-3.new.items) few enough)
 
 pub returns : goal.returns
-returns c =
+returns g c =
     let v = c.self.inside in
     let cells = c.args.cells.now in
     let n = length v.ends.items in
-    let w = rw (← c.self.view_is) at c.requires in
+    let w = rw (← c.self.view_is) at c.requires.watched in
     let same_ends : c.deref_mut.result.now ≡ v.ends.items = rw (c.deref_mut.ensures.value, c.in_ok-make_room.ensures.same) refl in
     let ws : c.renew_ends.new.ends ≡ ends_of (take n cells) = c.renew_ends.ensures.ends ∙ rw same_ends refl in
     let long : length c.renew_ends.new.ends ≡ n = ap length ws ∙ length-first-ends n cells (fewer v.ends.items cells w.places) in

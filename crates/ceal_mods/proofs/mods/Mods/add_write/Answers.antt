@@ -1,6 +1,6 @@
-use Rattle.std.proofs.Common.{◌≡◌, length, ap, sym, ◌∙◌}
+use Rattle.std.proofs.Common.{◌≡◌, length, ap, sym, ◌∙◌, arith}
 use Rattle.std.proofs.lemmas.List.{with_items_is}
-use Rattle.ceal_mods.proofs.IndexLemmas.{length-with, cell_with}
+use Rattle.ceal_mods.proofs.IndexLemmas.{length-with, cell_with, where_with, where_pushed, none_held}
 use Rattle.ceal_mods.proofs.ModsLemmas.{at, cell_here, rises_here, changed, follow, cell_none, no_cell, added, follow_added}
 use Rattle.ceal_mods.proofs.MarksLemmas.{whole-changed, whole-noted, ends-noted, whole-added}
 use Rattle.ceal_mods.proofs.mods.Mods.add_write.Goals as goal
@@ -76,3 +76,20 @@ invariant_of-self-2 c =
     whole-added c.self.inside.index c.self.inside.cells.items c.self.inside.marks c.self.invariant c.enter.new.index c.args.place _ c.enter.new.cells.items
     (no_cell c.self.inside.index c.self.inside.cells.items c.args.place c.find-slot.result c.self.invariant.indexes c.find-slot.ensures c.if-slot.false) c.in_ok-enter.ensures.ok
     c.enter.ensures.indexed
+
+-- the cell stays where it is
+pub returns-then-slot-clause-slot : goal.returns-then-slot-clause-slot
+returns-then-slot-clause-slot c =
+    let cell = rw c.deref_mut.ensures.value at c.in_ok-add_write_at.ensures.ok in
+    let long : length c.add_write_at.new.cells ≡ length c.self.inside.cells.items = rw cell (length-with _ _ _) in
+    let back = with_items_is c.self.inside.cells c.add_write_at.new.cells (long ∙ sym c.self.inside.cells.ok.0) in
+    rw (back ∙ cell)
+    (c.find-slot.ensures ∙ c.self.invariant.indexes.slots c.args.place ∙ sym (where_with 0 c.args.place c.find-slot.result _ c.self.inside.cells.items))
+
+-- a new cell comes after the others
+pub returns-clause-slot : goal.returns-clause-slot
+returns-clause-slot c =
+    let few = c.self.invariant.indexes.few in
+    let none = none_held c.self.inside.index c.self.inside.cells.items c.args.place c.find-slot.result c.self.invariant.indexes c.find-slot.ensures c.if-slot.false in
+    let last = where_pushed 0 c.args.place c.in_ok-cell.cell c.self.inside.cells.items (omega (arith, few)) none in
+    rw c.in_ok-enter.ensures.ok (omega (arith, last, few))

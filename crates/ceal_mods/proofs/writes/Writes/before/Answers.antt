@@ -1,24 +1,26 @@
-use Rattle.std.proofs.Common.{◌≡◌, ◌-◌, map, refl, sym, ◌∙◌, arith}
-use Rattle.ceal_order.specs.Packed.{word_of}
-use Rattle.ceal_order.specs.Rising.{count_before}
-use Rattle.ceal_mods.proofs.WritesLemmas.{stamps-written, value_after-at, last-before, packed-get, as_many-packed}
+use Rattle.std.proofs.Common.{refl}
+use Rattle.ceal_mods.proofs.WritesLemmas.{stamps-written, last-before, before-told, some-told, told-is}
 use Rattle.ceal_mods.proofs.writes.Writes.before.Goals as goal
 
-pub count_before-count-requires-clause-rising : goal.count_before-count-requires-clause-rising
-count_before-count-requires-clause-rising c = rw (stamps-written _ _ (as_many-packed _ _ c.self.invariant)) at (rw (← c.self.view_is) at c.requires.rising)
+pub last_before-requires-clause-rising : goal.last_before-requires-clause-rising
+last_before-requires-clause-rising g c = rw (stamps-written _ _ c.self.invariant) at (rw (← c.self.view_is) at c.requires.rising)
 
-pub returns-then-count-eq0 : goal.returns-then-count-eq0
-returns-then-count-eq0 c =
-    let rising = rw (stamps-written _ _ (as_many-packed _ _ c.self.invariant)) at (rw (← c.self.view_is) at c.requires.rising) in
-    let none : count_before c.args.order.now.stamps c.args.stamp.0 c.self.inside.stamps ≡ 0 = sym c.count_before-count.ensures.count ∙ c.if-count-eq0.true in
-    rw (← c.self.view_is, last-before _ _ _ _ _ (as_many-packed _ _ c.self.invariant) rising, none) refl
+pub written_at-requires : goal.written_at-requires
+written_at-requires g c =
+    let rising = rw (stamps-written _ _ c.self.invariant) at (rw (← c.self.view_is) at c.requires.rising) in
+    record {
+      there = some-told _ _ (before-told (g.W.Written.tells c.args.written.now) c.args.base _ _ c.self.invariant (rw (← c.self.view_is) at c.requires.values) _
+          c.args.order.now.stamps c.args.stamp.0 rising c.in-Some.ensures.some);
+    }
 
-pub returns-else-count-eq0 : goal.returns-else-count-eq0
-returns-else-count-eq0 c =
-    let rising = rw (stamps-written _ _ (as_many-packed _ _ c.self.invariant)) at (rw (← c.self.view_is) at c.requires.rising) in
-    let some = c.if-count-eq0.false in
-    let within = c.count_before-count.ensures.within in
-    let same = c.self.invariant in let many = as_many-packed _ _ same in
-    let value = value_after-at c.args.base c.args.base (map word_of c.self.inside.values) c.count_before-count.result (omega (arith, some)) (omega (arith, within, many)) in
-    rw (← c.self.view_is, last-before _ _ _ _ _ (as_many-packed _ _ c.self.invariant) rising, ← c.count_before-count.ensures.count)
-    (c.word.ensures ∙ sym (packed-get c.self.inside.values (c.count_before-count.result - 1) c.args.base c.get.result (omega (arith, some, within, same)) c.get.ensures) ∙ sym value)
+pub returns-in-None : goal.returns-in-None
+returns-in-None g c =
+    let rising = rw (stamps-written _ _ c.self.invariant) at (rw (← c.self.view_is) at c.requires.rising) in
+    rw (← c.self.view_is, last-before _ _ _ _ _ c.self.invariant rising, c.in-None.ensures.none) refl
+
+pub returns-in-Some : goal.returns-in-Some
+returns-in-Some g c =
+    let rising = rw (stamps-written _ _ c.self.invariant) at (rw (← c.self.view_is) at c.requires.rising) in
+    rw (← c.self.view_is) (told-is _ _ _ c.written_at.ensures
+    (before-told (g.W.Written.tells c.args.written.now) c.args.base _ _ c.self.invariant (rw (← c.self.view_is) at c.requires.values) _
+    c.args.order.now.stamps c.args.stamp.0 rising c.in-Some.ensures.some))

@@ -6,7 +6,10 @@ use Rattle.ceal_repair.specs.declared.repair.Repair.{Repair}
 use Rattle.ceal_trace.proofs.Entries.{has-held}
 use Rattle.ceal_trace.specs.Nodes.{is_read}
 use Rattle.ceal_repair.proofs.Runs.Paid.{stays, due-steps}
-use Rattle.ceal_repair.specs.declared.running.Running.{Running}
+use Rattle.ceal_repair.specs.Looks.{Account, found}
+use Rattle.ceal_repair.specs.Repairs.{account}
+use Rattle.std.proofs.Common.{arith}
+use Rattle.ceal_repair.proofs.Runs.Nearness.{came-steps}
 use Rattle.ceal_repair.proofs.repair.Repair.begin_turn.Goals as goal
 
 pub unit_at-requires : goal.unit_at-requires
@@ -45,6 +48,8 @@ returns-clause-begins c = λ f args o found.
 
 pub returns-clause-pays : goal.returns-clause-pays
 returns-clause-pays c =
-    let a : Running = c.args.self.now.running.now in
+    let a : Account = found c.args.read.0 (account c.args.self.now) in
     let g = c.set_steps.ensures in
-    stays a (record a { tables = c.set_steps.new.self }) (due-steps a.tables c.set_steps.new.self _ _ g.nodes g.mods g.queue) refl (ap (λ m. m.differed) g.mods)
+    let t = g.touched in
+    stays a (record (account c.args.self.now) { tables = c.set_steps.new.self; cursor = c.args.read.0 }) (due-steps a.tables c.set_steps.new.self _ _ g.nodes g.mods g.queue) (omega (arith, t)) refl
+    (ap (λ m. m.differed) g.mods) g.counts (omega arith) (λ o n m r. came-steps o n m c.args.read.0 0 a.tables.trace.nodes c.set_steps.new.self.trace.nodes g.nodes r)

@@ -8,6 +8,10 @@ use Rattle.ceal_repair.specs.Moment.{through}
 use Rattle.ceal_repair.specs.Repairs.{code_of, inputs_of, view}
 use Rattle.ceal_repair.specs.declared.repair.Repair.{Repair}
 use Rattle.ceal_repair.proofs.Runs.Paid.{stays}
+use Rattle.std.proofs.Common.{arith}
+use Rattle.ceal_repair.specs.Looks.{Account}
+use Rattle.ceal_repair.specs.Repairs.{account}
+use Rattle.ceal_repair.proofs.Runs.Nearness.{came-cut}
 use Rattle.ceal_repair.proofs.repair.Repair.end_turn.Goals as goal
 
 pub unreachable-requires : goal.unreachable-requires
@@ -51,5 +55,20 @@ returns-clause-ends c = λ f args o before start b z.
 
 pub returns-clause-pays : goal.returns-clause-pays
 returns-clause-pays c =
+    let a : Account = account c.args.self.now in
     let f = c.in_ok-cut_until.ensures in
-    stays c.args.self.now.running.now c.cut_until.new.self f.looks f.spent f.differed
+    let t = f.touched in
+    stays a (record a { tables = c.cut_until.new.self.tables; spent = c.cut_until.new.self.spent }) f.looks (omega (arith, t)) f.spent f.differed f.counts (omega arith)
+    (λ o n m r. came-cut o n m a.cursor a.tables.trace.nodes c.cut_until.new.self.tables.trace.nodes f.cuts.front (f.cuts.back o) r)
+
+pub returns-clause-late : goal.returns-clause-late
+returns-clause-late c =
+    let old : Repair = c.args.self.now in
+    let q = c.requires.over in
+    let now = now-there old q.0 q.1 q.2 q.3 q.4 q.5 q.6 in
+    let none = ap (λ fs. frames_in (aside_in old.stack.now) (reverse fs)) q.6.last in
+    let both : Some (stamp_of_number q.5.spot.end) ≡ Some c.in-Some.end = sym (limit-ended (code_of old) (inputs_of old) q.0 q.1 q.2 q.3 q.4 q.5 q.6.stack (view old) now none) ∙ c.in-Some.is in
+    let same : stamp_of_number q.5.spot.end ≡ c.in-Some.end = cc in
+    (c.in_ok-cut_until.ensures.all (through now.placed.done now.placed.last) now.left now.tail
+    (lies-ended (code_of old) (inputs_of old) q.0 q.1 q.2 q.3 q.4 q.5 q.6.stack (view old) now none)
+    (first-ended (code_of old) (inputs_of old) q.0 q.1 q.2 q.3 q.4 q.5 q.6.stack (view old) now none ∙ ap (λ (s : Stamp). Some s.0) same)).late

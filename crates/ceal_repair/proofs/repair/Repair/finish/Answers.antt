@@ -10,9 +10,11 @@ use Rattle.ceal_repair.specs.Frames.{Begun, frames_in}
 use Rattle.ceal_repair.specs.declared.repair.Repair.{Repair}
 use Rattle.ceal_trace.specs.declared.node.Node.TheVariants.{End}
 use Rattle.std.proofs.Common.{arith, ap}
-use Rattle.ceal_repair.proofs.Runs.Paid.{stays, due-put}
-use Rattle.ceal_repair.specs.declared.running.Running.{Running}
+use Rattle.ceal_repair.proofs.Runs.Paid.{due-put, puts}
 use Rattle.ceal_repair.proofs.TableCalls.FewLooks.{owed-same}
+use Rattle.ceal_repair.specs.Looks.{Account, begun}
+use Rattle.ceal_repair.specs.Repairs.{account}
+use Rattle.ceal_repair.proofs.Runs.Nearness.{came-put}
 use Rattle.ceal_repair.proofs.repair.Repair.finish.Goals as goal
 
 -- the read that ends is a node, since what was put in after it is inside it
@@ -64,8 +66,13 @@ returns-clause-runs c = λ start a.
 
 pub returns-clause-pays : goal.returns-clause-pays
 returns-clause-pays c =
-    let a : Running = c.args.self.now.running.now in
+    let a : Account = begun (account c.args.self.now) in
     let f = c.in_ok-self.ensures in
     let o = owed-same a.tables c.finish_read.new.self f.mods f.queue in
     let d = due-put a.tables c.finish_read.new.self c.args.self.now.cursor.0 c.in_ok-self.field-0.0 (End c.args.read) 0 f.nodes (omega (arith, o)) in
-    stays a (record a { tables = c.finish_read.new.self }) (omega (arith, d)) refl (ap (λ m. m.differed) f.mods)
+    let t = f.touched in
+    puts a (record (account c.args.self.now) { tables = c.finish_read.new.self; cursor = c.in_ok-self.field-0.0 }) (omega (arith, d)) (omega (arith, t)) refl (ap (λ m. m.differed) f.mods) f.counts
+    (omega arith) (λ o n d r. came-put o n d a.cursor c.in_ok-self.field-0.0 (End c.args.read) a.tables.trace.nodes c.finish_read.new.self.trace.nodes f.nodes f.inserted r)
+
+pub returns-clause-anew : goal.returns-clause-anew
+returns-clause-anew c = λ none. let f = c.in_ok-self.ensures in (none, ap (λ m. m.differed) f.mods)

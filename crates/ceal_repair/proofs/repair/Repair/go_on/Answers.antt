@@ -8,8 +8,11 @@ use Rattle.ceal_repair.specs.Moment.{Start, through}
 use Rattle.ceal_repair.specs.Reads.{EndsKept}
 use Rattle.ceal_repair.specs.Repairs.{code_of, inputs_of, view, Runs, PassesOn}
 use Rattle.ceal_repair.specs.declared.repair.Repair.{Repair}
-use Rattle.ceal_repair.proofs.Runs.Paid.{stays, pays-then, on-ok}
-use Rattle.ceal_repair.specs.declared.running.Running.{Running}
+use Rattle.ceal_repair.proofs.Runs.Paid.{stays, pays-then, on-ok, has-limit, if-ok}
+use Rattle.std.proofs.Common.{arith}
+use Rattle.ceal_repair.specs.Looks.{Account}
+use Rattle.ceal_repair.specs.Repairs.{account}
+use Rattle.ceal_repair.proofs.Runs.Nearness.{came-cut-to}
 use Rattle.ceal_repair.proofs.repair.Repair.go_on.Goals as goal
 
 pub cut_until-requires-clause-lies : goal.cut_until-requires-clause-lies
@@ -47,6 +50,12 @@ returns-clause-runs c =
 
 pub returns-clause-pays : goal.returns-clause-pays
 returns-clause-pays c =
-    let a : Running = c.args.self.now.running.now in
+    let a : Account = account c.args.self.now in
     let f = c.in_ok-cut_until.ensures in
-    on-ok c.pass.result (pays-then 0 a c.cut_until.new.self c.pass.new.self.running.now (stays a c.cut_until.new.self f.looks f.spent f.differed)) c.pass.ensures.pays
+    let b : Account = record a { tables = c.cut_until.new.self.tables; cursor = c.in-Some.end.0; spent = c.cut_until.new.self.spent } in
+    let t = f.touched in
+    on-ok c.pass.result (pays-then 0 a b (account c.pass.new.self) (stays a b f.looks (omega (arith, t)) f.spent f.differed f.counts (omega arith)
+    (λ o n m r. came-cut-to o n m a.cursor c.in-Some.end.0 a.tables.trace.nodes c.cut_until.new.self.tables.trace.nodes f.cuts f.first f.kept.step.whole.order.distinct r))) c.pass.ensures.pays
+
+pub returns-clause-anew : goal.returns-clause-anew
+returns-clause-anew c = if-ok c.pass.result (λ none. has-limit c.args.self.now.limit c.in-Some.end c.in-Some.is none)

@@ -11,8 +11,11 @@ use Rattle.ceal_repair.specs.declared.repair.Repair.{Repair}
 use Rattle.ceal_repair.specs.declared.tables.Tables.{Tables}
 use Rattle.ceal_trace.specs.Nodes.{has_node, with_steps}
 use Rattle.std.proofs.Common.{arith}
-use Rattle.ceal_repair.proofs.Runs.Paid.{stays, due-steps}
-use Rattle.ceal_repair.specs.declared.running.Running.{Running}
+use Rattle.ceal_repair.proofs.Runs.Paid.{stays, due-steps, has-limit}
+use Rattle.ceal_repair.proofs.TableCalls.FewLooks.{counts-then}
+use Rattle.ceal_repair.specs.Looks.{Account, owing}
+use Rattle.ceal_repair.specs.Repairs.{account}
+use Rattle.ceal_repair.proofs.Runs.Nearness.{came-steps, came-cut-to}
 use Rattle.ceal_repair.proofs.repair.Repair.leave.Goals as goal
 
 -- what is left over inside the read is between the cursor and its end
@@ -109,8 +112,17 @@ returns-clause-runs c = λ start a.
 
 pub returns-clause-pays : goal.returns-clause-pays
 returns-clause-pays c =
-    let a : Running = c.args.self.now.running.now in
+    let a : Account = owing (account c.args.self.now) in
     let f = c.in_ok-cut_until.ensures in
     let g = c.set_steps.ensures in
     let d = due-steps c.cut_until.new.self.tables c.set_steps.new.self _ _ g.nodes g.mods g.queue in
-    stays a (record c.cut_until.new.self { tables = c.set_steps.new.self }) (let l = f.looks in omega (arith, d, l)) f.spent (ap (λ m. m.differed) g.mods ∙ f.differed)
+    let t = f.touched in
+    let u = g.touched in
+    stays a (record (account c.args.self.now) { tables = c.set_steps.new.self; cursor = c.in-Some.end.0; spent = c.cut_until.new.self.spent }) (let l = f.looks in omega (arith, d, l))
+    (omega (arith, t, u)) f.spent (ap (λ m. m.differed) g.mods ∙ f.differed)
+    (counts-then a.tables c.cut_until.new.self.tables c.set_steps.new.self f.counts g.counts) (omega arith)
+    (λ o n m r. came-steps o n m c.in-Some.end.0 0 c.cut_until.new.self.tables.trace.nodes c.set_steps.new.self.trace.nodes g.nodes
+    (came-cut-to o n m a.cursor c.in-Some.end.0 a.tables.trace.nodes c.cut_until.new.self.tables.trace.nodes f.cuts f.first f.kept.step.whole.order.distinct r))
+
+pub returns-clause-anew : goal.returns-clause-anew
+returns-clause-anew c = λ none. has-limit c.args.self.now.limit c.in-Some.end c.in-Some.is none

@@ -16,11 +16,18 @@ use Rattle.ceal_trace.specs.Nodes.{has_node}
 use Rattle.ceal_trace.specs.declared.node.Node.TheVariants.{Alloc}
 use Rattle.std.proofs.Common.{arith}
 use Rattle.ceal_repair.proofs.Runs.Paid.{step-pays, spends, due-put, due-made}
-use Rattle.ceal_repair.specs.declared.running.Running.{Running}
-use Rattle.ceal_repair.proofs.TableCalls.FewLooks.{owed-same}
+use Rattle.ceal_repair.proofs.TableCalls.FewLooks.{owed-same, counts-as, counts-then, touched-still}
 use Rattle.ceal_repair.specs.Blocks.{HasBlocks}
 use Rattle.ceal_repair.proofs.Reuse.AllocReuseInCode.{has-stepped}
 use Rattle.ceal_repair.proofs.Runs.NewBlock.{none-made}
+use Rattle.ceal_repair.specs.Looks.{Account, touched_ahead, ends_ahead}
+use Rattle.ceal_repair.specs.Repairs.{account}
+use Rattle.ceal_trace.specs.Nodes.{Timeline}
+use Rattle.std.proofs.Common.{◌+◌}
+use Rattle.ceal_repair.proofs.Runs.Nearness.{came-put, came-same}
+use Rattle.std.proofs.Common.{List}
+use Rattle.ceal_repair.specs.Distance.{CameTo}
+use Rattle.ceal_trace.specs.Nodes.{Entry}
 use Rattle.ceal_repair.proofs.repair.Repair.make_new.Goals as goal
 
 pub step-requires-clause-here : goal.step-requires-clause-here
@@ -70,11 +77,20 @@ pub returns-clause-pays : goal.returns-clause-pays
 returns-clause-pays c =
     let old : Repair = c.args.self.now in
     let new : Repair = c.step.new.self in
-    let a : Running = old.running.now in
-    let b : Running = new.running.now in
+    let a : Account = account old in
     let e = c.in_ok-step.ensures in
+    let b : Account = record {
+      tables = c.step.new.self.running.now.tables;
+      cursor = c.step.new.self.cursor.0;
+      spent = c.step.new.self.running.now.spent;
+      ahead = a.ahead + 4;
+      ends = a.ends + 2;
+    } in
+    let s = e.touched in
+    let stepped = step-pays a b _ e.nodes e.mods e.queue e.spent s refl refl (ap (λ (r : Repair). r.cursor.0) e.rest) e.counts in
+    let k = ap (λ (r : Repair). touched_ahead r.frames.now.items) e.rest in
+    let l = ap (λ (r : Repair). ends_ahead r.frames.now.items) e.rest in
     let h : IsStepped old new = record { rest = e.rest; heap = e.heap; spent = e.spent; more = record { nodes = e.nodes; mods = e.mods; queue = e.queue; kept = e.kept } } in
-    let stepped = step-pays a b _ _ e.nodes e.mods e.queue e.spent in
     let f = c.in_ok-block.ensures in
     let block : BlockId = c.in_ok-block.block in
     let made : MadeBlock (code_of new) (inputs_of new) block c.args.key new.running.now.heap c.make.new.self.heap new.running.now.tables c.make.new.self.tables =
@@ -88,4 +104,26 @@ returns-clause-pays c =
     let g = c.in_ok-self.ensures in
     let o = owed-same c.make.new.self.tables c.put_alloc.new.self g.mods g.queue in
     let n = due-put c.make.new.self.tables c.put_alloc.new.self new.cursor.0 c.in_ok-self.field-0.0 (Alloc block c.args.key) 0 g.nodes (omega (arith, o)) in
-    spends 5 a b (record c.make.new.self { tables = c.put_alloc.new.self }) stepped (omega (arith, d, n)) f.spent (ap (λ m. m.differed) g.mods ∙ f.differed)
+    let t = g.touched in
+    let u = touched-still b.tables c.make.new.self.tables f.trace in
+    let same : (o : List Entry) (n m : ℕ) → CameTo o n m b.cursor b.tables.trace.nodes → CameTo o n m b.cursor c.make.new.self.tables.trace.nodes = λ o n m r.
+    came-same o n m b.cursor b.tables.trace c.make.new.self.tables.trace f.trace r in
+    spends 5 1 a b (record {
+      tables = c.put_alloc.new.self;
+      cursor = c.in_ok-self.field-0.0;
+      spent = c.make.new.self.spent;
+      ahead = touched_ahead new.frames.now.items;
+      ends = ends_ahead new.frames.now.items;
+    }) stepped
+    (omega (arith, d, n)) (omega (arith, t, u, k)) f.spent
+    (ap (λ m. m.differed) g.mods ∙ f.differed)
+    (counts-then b.tables c.make.new.self.tables c.put_alloc.new.self
+    (counts-as b.tables c.make.new.self.tables f.looked f.differed (let y = ap (λ (x : Timeline). x.touched) f.trace in omega (arith, y))) g.counts) (omega (arith, l))
+    (λ o p q r. came-put o p q b.cursor c.in_ok-self.field-0.0 (Alloc block c.args.key) c.make.new.self.tables.trace.nodes c.put_alloc.new.self.trace.nodes g.nodes g.inserted (same o p q r))
+
+pub returns-clause-anew : goal.returns-clause-anew
+returns-clause-anew c = λ none.
+    let e = c.in_ok-step.ensures in
+    let f = c.in_ok-block.ensures in
+    let g = c.in_ok-self.ensures in
+    (ap (λ (r : Repair). r.limit) e.rest ∙ none, ap (λ m. m.differed) g.mods ∙ (f.differed ∙ ap (λ m. m.differed) e.mods))

@@ -12,8 +12,14 @@ use Rattle.ceal_repair.specs.Frames.{Frame, frames_in}
 use Rattle.ceal_repair.specs.declared.repair.Repair.{Repair}
 use Rattle.ceal_repair.specs.declared.tables.Tables.{Tables}
 use Rattle.ceal_trace.specs.Nodes.{has_node, with_steps}
-use Rattle.ceal_repair.proofs.Runs.Paid.{stays, due-steps}
-use Rattle.ceal_repair.specs.declared.running.Running.{Running}
+use Rattle.ceal_repair.proofs.Runs.Paid.{stays, due-steps, has-limit, off-frames}
+use Rattle.std.proofs.Common.{arith}
+use Rattle.ceal_repair.specs.Looks.{Account, touched_ahead, ends_ahead}
+use Rattle.ceal_repair.specs.Repairs.{account}
+use Rattle.ceal_repair.proofs.Runs.Nearness.{came-steps, came-move, end-after}
+use Rattle.ceal_order.specs.Stamps.{is_in}
+use Rattle.ceal_repair.specs.Lists.{nodes_after}
+use Rattle.ceal_trace.specs.Nodes.{Timeline, stamps_in}
 use Rattle.ceal_repair.proofs.repair.Repair.pass_all.Goals as goal
 
 -- the end of the read is there, and the cursor moves to it
@@ -93,6 +99,25 @@ returns-clause-runs c = λ start a.
 
 pub returns-clause-pays : goal.returns-clause-pays
 returns-clause-pays c =
-    let a : Running = c.args.self.now.running.now in
+    let old : Repair = c.args.self.now in
+    let a : Account = account old in
+    let x : NoneStale c.requires.none.0 old = c.requires.none.1 in
+    let both : Some x.until ≡ Some c.in-Some.end = sym x.now.limit ∙ c.in-Some.is in
+    let same : x.until ≡ c.in-Some.end = cc in
+    let there = end-after (code_of old) (inputs_of old) c.requires.none.0 x.until (record (view old) { tables = x.before }) x.now in
+    let after : is_in c.in-Some.end.0 (stamps_in (nodes_after a.cursor a.tables.trace.nodes)) ≡ true = subst (λ (s : Stamp). is_in s.0 (stamps_in
+    (nodes_after a.cursor a.tables.trace.nodes)) ≡ true) same
+    (subst (λ (l : Timeline). is_in x.until.0 (stamps_in (nodes_after a.cursor l.nodes)) ≡ true) (sym x.trace) there) in
     let g = c.set_steps.ensures in
-    stays a (record a { tables = c.set_steps.new.self }) (due-steps a.tables c.set_steps.new.self _ _ g.nodes g.mods g.queue) refl (ap (λ m. m.differed) g.mods)
+    let t = g.touched in
+    let off = off-frames old.frames.now.items c.pop.new.self.items c.in-Some-Taken.field-0 _ c.in-Some-Taken.ensures.items c.in-Some-Taken.field-0-is in
+    let p = off.0 in
+    let q = off.1 in
+    stays a (record { tables = c.set_steps.new.self; cursor = c.in-Some.end.0; spent = a.spent; ahead = touched_ahead c.pop.new.self.items; ends = ends_ahead c.pop.new.self.items })
+    (due-steps a.tables c.set_steps.new.self _ _ g.nodes g.mods g.queue)
+    (omega (arith, t, p)) refl (ap (λ m. m.differed) g.mods) g.counts (omega (arith, q))
+    (λ o n m r. came-steps o n m c.in-Some.end.0 0 a.tables.trace.nodes c.set_steps.new.self.trace.nodes g.nodes
+    (came-move o n m a.cursor c.in-Some.end.0 a.tables.trace.nodes x.kept.step.whole.order.distinct after r))
+
+pub returns-clause-anew : goal.returns-clause-anew
+returns-clause-anew c = λ none. has-limit c.args.self.now.limit c.in-Some.end c.in-Some.is none

@@ -1,6 +1,7 @@
 use Rattle.std.proofs.Common.{◌≡◌, true, false, subst, arith}
 use Rattle.ceal_repair.specs.Reads.{Entered}
-use Rattle.ceal_repair.proofs.Runs.Paid.{pays-then}
+use Rattle.ceal_repair.proofs.Runs.Paid.{pays-then, anew-then}
+use Rattle.ceal_repair.specs.Repairs.{account}
 use Rattle.ceal_repair.proofs.repair.Repair.read.Goals as goal
 
 pub pass-requires : goal.pass-requires
@@ -20,4 +21,7 @@ returns-else-not-branch-clause-runs c = λ start a.
 
 pub returns-in_ok-pass-in-Some-clause-pays : goal.returns-in_ok-pass-in-Some-clause-pays
 returns-in_ok-pass-in-Some-clause-pays c =
-    pays-then 0 c.args.self.now.running.now c.take_read.new.self.running.now c.pass.new.self.running.now c.in_ok-take_read-in-Some.ensures.pays c.in_ok-pass-in-Some.ensures.pays
+    pays-then 0 (account c.args.self.now) (account c.take_read.new.self) (account c.pass.new.self) c.in_ok-take_read-in-Some.ensures.pays c.in_ok-pass-in-Some.ensures.pays
+
+pub returns-in_ok-pass-in-Some-clause-anew : goal.returns-in_ok-pass-in-Some-clause-anew
+returns-in_ok-pass-in-Some-clause-anew c = anew-then c.args.self.now c.take_read.new.self c.pass.new.self c.in_ok-take_read-in-Some.ensures.anew c.in_ok-pass-in-Some.ensures.anew

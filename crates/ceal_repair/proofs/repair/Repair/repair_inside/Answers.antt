@@ -12,8 +12,13 @@ use Rattle.ceal_repair.specs.declared.repair.Repair.{Repair}
 use Rattle.ceal_repair.specs.declared.tables.Tables.{Tables}
 use Rattle.ceal_theory.specs.Repair.{resumed}
 use Rattle.ceal_trace.specs.Nodes.{is_read}
-use Rattle.ceal_repair.proofs.Runs.Paid.{stays, due-steps}
-use Rattle.ceal_repair.specs.declared.running.Running.{Running}
+use Rattle.ceal_repair.proofs.Runs.Paid.{stays, due-steps, has-limit, ends-more}
+use Rattle.std.proofs.Common.{arith}
+use Rattle.ceal_repair.specs.Looks.{Account, found, touched_ahead, ends_ahead}
+use Rattle.ceal_repair.specs.Repairs.{account}
+use Rattle.ceal_repair.specs.declared.frame.Frame.TheVariants.{Kept as CodeKept}
+use Rattle.ceal_repair.proofs.Runs.Paid.{ahead-more}
+use Rattle.ceal_repair.proofs.Runs.Nearness.{came-steps}
 use Rattle.ceal_repair.proofs.repair.Repair.repair_inside.Goals as goal
 
 -- looking at the read changed its value at most, so its node is still there
@@ -95,6 +100,15 @@ returns-clause-runs c = λ start a.
 
 pub returns-clause-pays : goal.returns-clause-pays
 returns-clause-pays c =
-    let a : Running = c.args.self.now.running.now in
+    let a : Account = found c.args.read.0 (account c.args.self.now) in
     let g = c.set_steps.ensures in
-    stays a (record a { tables = c.set_steps.new.self }) (due-steps a.tables c.set_steps.new.self _ _ g.nodes g.mods g.queue) refl (ap (λ m. m.differed) g.mods)
+    let t = g.touched in
+    let p = ap touched_ahead c.in_ok-push.ensures.items ∙ ahead-more c.args.self.now.frames.now.items (CodeKept c.in-Some.until) in
+    let q = ap ends_ahead c.in_ok-push.ensures.items ∙ ends-more c.args.self.now.frames.now.items (CodeKept c.in-Some.until) in
+    stays a (record { tables = c.set_steps.new.self; cursor = c.args.read.0; spent = a.spent; ahead = touched_ahead c.push.new.self.items; ends = ends_ahead c.push.new.self.items })
+    (due-steps a.tables c.set_steps.new.self _ _ g.nodes g.mods g.queue)
+    (omega (arith, t, p)) refl (ap (λ m. m.differed) g.mods) g.counts (omega (arith, q))
+    (λ o n m r. came-steps o n m c.args.read.0 0 a.tables.trace.nodes c.set_steps.new.self.trace.nodes g.nodes r)
+
+pub returns-clause-anew : goal.returns-clause-anew
+returns-clause-anew c = λ none. has-limit c.args.self.now.limit c.in-Some.until c.in-Some.is none

@@ -14,8 +14,12 @@ use Rattle.ceal_repair.specs.Repairs.{code_of, inputs_of, stack_of, view}
 use Rattle.ceal_repair.specs.declared.repair.Repair.{Repair}
 use Rattle.ceal_trace.specs.declared.node.Node.TheVariants.{Alloc}
 use Rattle.std.proofs.Common.{arith}
-use Rattle.ceal_repair.proofs.Runs.Paid.{step-pays, spends, due-steps}
-use Rattle.ceal_repair.specs.declared.running.Running.{Running}
+use Rattle.ceal_repair.proofs.Runs.Paid.{step-pays, spends, due-steps, none-left, none-put}
+use Rattle.ceal_repair.proofs.TableCalls.FewLooks.{counts-then}
+use Rattle.ceal_repair.specs.Looks.{Account, touched_ahead, ends_ahead}
+use Rattle.ceal_repair.specs.Repairs.{account}
+use Rattle.std.proofs.Common.{◌+◌, refl}
+use Rattle.ceal_repair.proofs.Runs.Nearness.{came-steps, came-cut-to}
 use Rattle.ceal_repair.proofs.repair.Repair.take_alloc.Goals as goal
 
 pub step-requires-clause-here : goal.step-requires-clause-here
@@ -118,11 +122,36 @@ returns-clause-runs c = λ start a.
 -- a step was counted, and what was looked at is paid by that and by what was revoked
 pub returns-clause-pays : goal.returns-clause-pays
 returns-clause-pays c =
-    let a : Running = c.args.self.now.running.now in
-    let b : Running = c.step.new.self.running.now in
+    let a : Account = account c.args.self.now in
     let e = c.in_ok-step.ensures in
-    let stepped = step-pays a b _ _ e.nodes e.mods e.queue e.spent in
+    let b : Account = record {
+      tables = c.step.new.self.running.now.tables;
+      cursor = c.step.new.self.cursor.0;
+      spent = c.step.new.self.running.now.spent;
+      ahead = a.ahead + 4;
+      ends = a.ends + 2;
+    } in
+    let s = e.touched in
+    let stepped = step-pays a b _ e.nodes e.mods e.queue e.spent s refl refl (ap (λ (r : Repair). r.cursor.0) e.rest) e.counts in
+    let h = ap (λ (r : Repair). touched_ahead r.frames.now.items) e.rest in
+    let i = ap (λ (r : Repair). ends_ahead r.frames.now.items) e.rest in
     let f = c.in_ok-cut_until.ensures in
     let g = c.set_steps.ensures in
     let d = due-steps c.cut_until.new.self.tables c.set_steps.new.self _ _ g.nodes g.mods g.queue in
-    spends 5 a b (record c.cut_until.new.self { tables = c.set_steps.new.self }) stepped (let l = f.looks in omega (arith, d, l)) f.spent (ap (λ m. m.differed) g.mods ∙ f.differed)
+    let t = f.touched in
+    let u = g.touched in
+    let z : Account = record {
+      tables = c.set_steps.new.self;
+      cursor = c.args.found.0;
+      spent = c.cut_until.new.self.spent;
+      ahead = touched_ahead c.step.new.self.frames.now.items;
+      ends = ends_ahead c.step.new.self.frames.now.items;
+    } in
+    spends 5 0 a b z stepped
+    (let l = f.looks in omega (arith, d, l)) (omega (arith, t, u, h)) f.spent (ap (λ m. m.differed) g.mods ∙ f.differed)
+    (counts-then b.tables c.cut_until.new.self.tables c.set_steps.new.self f.counts g.counts) (omega (arith, i))
+    (none-put b z (λ o n m r. came-steps o n m c.args.found.0 0 c.cut_until.new.self.tables.trace.nodes c.set_steps.new.self.trace.nodes g.nodes
+    (came-cut-to o n m b.cursor c.args.found.0 b.tables.trace.nodes c.cut_until.new.self.tables.trace.nodes f.cuts f.first f.kept.step.whole.order.distinct r)))
+
+pub returns-clause-anew : goal.returns-clause-anew
+returns-clause-anew c = λ none. none-left c.args.self.now _ c.args.found.0 none c.requires.found

@@ -22,8 +22,15 @@ use Rattle.ceal_trace.proofs.Entries.{has-held, stamps-changed}
 use Rattle.ceal_trace.specs.Nodes.{Timeline, is_read, node_at, stamps_in, value_set}
 use Rattle.ceal_trace.specs.declared.node.Node.TheVariants.{Read}
 use Rattle.std.proofs.Common.{arith}
-use Rattle.ceal_repair.proofs.Runs.Paid.{step-pays, spends, pays-then, one-pays, stays, due-value, due-steps, due-same}
-use Rattle.ceal_repair.specs.declared.running.Running.{Running}
+use Rattle.ceal_repair.proofs.Runs.Paid.{step-pays, spends, pays-then, one-pays, stays, due-value, due-steps, due-same, none-left, none-put, found-stale, ends-more}
+use Rattle.ceal_repair.proofs.TableCalls.FewLooks.{touched-still}
+use Rattle.ceal_repair.specs.Looks.{Account, found, touched_ahead, ends_ahead}
+use Rattle.ceal_repair.specs.Repairs.{account}
+use Rattle.ceal_repair.specs.declared.frame.Frame.TheVariants.{Taken as CodeTaken}
+use Rattle.ceal_repair.proofs.Runs.Paid.{ahead-more}
+use Rattle.std.proofs.Common.{◌+◌}
+use Rattle.ceal_repair.proofs.Runs.Nearness.{came-steps, came-cut, came-cut-to, came-same, in-first}
+use Rattle.ceal_repair.specs.Lists.{nodes_after}
 use Rattle.ceal_repair.proofs.repair.Repair.take_read.Goals as goal
 
 pub step-requires-clause-here : goal.step-requires-clause-here
@@ -206,31 +213,86 @@ returns-in_ok-go_inside-2-clause-runs c = λ start a.
 -- a read was looked at, which differed, and each other act is paid by what it revoked
 pub returns-in_ok-resume-clause-pays : goal.returns-in_ok-resume-clause-pays
 returns-in_ok-resume-clause-pays c =
-    let a : Running = c.args.self.now.running.now in
-    let b : Running = c.step.new.self.running.now in
+    let a : Account = account c.args.self.now in
     let e = c.in_ok-step.ensures in
-    let stepped = step-pays a b _ _ e.nodes e.mods e.queue e.spent in
+    let b : Account = record {
+      tables = c.step.new.self.running.now.tables;
+      cursor = c.step.new.self.cursor.0;
+      spent = c.step.new.self.running.now.spent;
+      ahead = a.ahead + 4;
+      ends = a.ends + 2;
+    } in
+    let s = e.touched in
+    let stepped = step-pays a b _ e.nodes e.mods e.queue e.spent s refl refl (ap (λ (r : Repair). r.cursor.0) e.rest) e.counts in
+    let hh = ap (λ (r : Repair). touched_ahead r.frames.now.items) e.rest in
+    let ii = ap (λ (r : Repair). ends_ahead r.frames.now.items) e.rest in
     let f = c.in_ok-cut_until.ensures in
-    let t : Running = c.cut_until.new.self in
-    let u : Running = record t { tables = c.look.new.self } in
+    let i = c.in_ok-go_inside.ensures in
+    let p = ap touched_ahead i.frames ∙ ahead-more c.step.new.self.frames.now.items (CodeTaken c.in_ok-below.below c.in-Some.limit) in
+    let q = ap ends_ahead i.frames ∙ ends-more c.step.new.self.frames.now.items (CodeTaken c.in_ok-below.below c.in-Some.limit) in
+    let t : Account = record {
+      tables = c.cut_until.new.self.tables;
+      cursor = b.cursor;
+      spent = c.cut_until.new.self.spent;
+      ahead = touched_ahead c.go_inside.new.self.frames.now.items;
+      ends = ends_ahead c.go_inside.new.self.frames.now.items;
+    } in
+    let u : Account = found c.args.found.0 (record t { tables = c.look.new.self }) in
     let g = c.set_steps.ensures in
-    let w : Running = record t { tables = c.set_steps.new.self } in
+    let w : Account = record t { tables = c.set_steps.new.self; cursor = c.args.found.0 } in
     let n = c.look.ensures.nodes c.if-look.true in
-    let first = pays-then 0 a t u (spends 5 a b t stepped (let l = f.looks in omega (arith, l)) f.spent f.differed)
-    (one-pays t u (due-value t.tables c.look.new.self _ _ 1 n.3 c.look.ensures.looks) refl (c.look.ensures.differs c.if-look.true)) in
-    rw (ap running_of c.in_ok-go_inside.ensures.rest)
-    (pays-then 0 a u w first (stays u w (due-steps u.tables c.set_steps.new.self _ _ g.nodes g.mods g.queue) refl (ap (λ m. m.differed) g.mods)))
+    let x = f.touched in
+    let y = c.look.ensures.touched in
+    let z = g.touched in
+    let after = in-first c.args.found.0 (nodes_after b.cursor t.tables.trace.nodes) f.first in
+    let first = pays-then 0 a t u (spends 5 0 a b t stepped (let l = f.looks in omega (arith, l)) (omega (arith, x, hh, p)) f.spent f.differed f.counts (omega (arith, ii, q))
+    (none-put b t (λ o n m r. came-cut o n m b.cursor b.tables.trace.nodes t.tables.trace.nodes f.cuts.front (f.cuts.back o) r)))
+    (one-pays t u (due-value t.tables c.look.new.self _ _ 1 n.3 c.look.ensures.looks) (omega (arith, y)) refl (c.look.ensures.differs c.if-look.true) c.look.ensures.counts (omega arith)
+    (found-stale t c.look.new.self c.args.found.0 u.ahead u.ends f.kept (c.look.ensures.stale c.if-look.true) n.0 n.1 n.2 n.3 after)) in
+    rw (ap running_of i.rest, ap (λ (r : Repair). r.cursor) i.rest)
+    (pays-then 0 a u w first (stays u w (due-steps u.tables c.set_steps.new.self _ _ g.nodes g.mods g.queue) (omega (arith, z)) refl (ap (λ m. m.differed) g.mods) g.counts (omega arith)
+    (λ o n m r. came-steps o n m c.args.found.0 0 c.look.new.self.trace.nodes c.set_steps.new.self.trace.nodes g.nodes r)))
 
 -- a read was looked at, which did not differ, and each other act is paid by what it revoked
 pub returns-in_ok-go_inside-2-clause-pays : goal.returns-in_ok-go_inside-2-clause-pays
 returns-in_ok-go_inside-2-clause-pays c =
-    let a : Running = c.args.self.now.running.now in
-    let b : Running = c.step.new.self.running.now in
+    let a : Account = account c.args.self.now in
     let e = c.in_ok-step.ensures in
-    let stepped = step-pays a b _ _ e.nodes e.mods e.queue e.spent in
+    let b : Account = record {
+      tables = c.step.new.self.running.now.tables;
+      cursor = c.step.new.self.cursor.0;
+      spent = c.step.new.self.running.now.spent;
+      ahead = a.ahead + 4;
+      ends = a.ends + 2;
+    } in
+    let s = e.touched in
+    let stepped = step-pays a b _ e.nodes e.mods e.queue e.spent s refl refl (ap (λ (r : Repair). r.cursor.0) e.rest) e.counts in
+    let hh = ap (λ (r : Repair). touched_ahead r.frames.now.items) e.rest in
+    let ii = ap (λ (r : Repair). ends_ahead r.frames.now.items) e.rest in
     let f = c.in_ok-cut_until.ensures in
-    let t : Running = c.cut_until.new.self in
-    let u : Running = record t { tables = c.look.new.self } in
-    rw (ap running_of c.in_ok-go_inside-2.ensures.rest)
-    (pays-then 0 a t u (spends 5 a b t stepped (let l = f.looks in omega (arith, l)) f.spent f.differed)
-    (stays t u (due-same t.tables c.look.new.self (c.look.ensures.same c.if-look.false) (c.look.ensures.idle c.if-look.false)) refl (c.look.ensures.none_differs c.if-look.false)))
+    let i = c.in_ok-go_inside-2.ensures in
+    let p = ap touched_ahead i.frames ∙ ahead-more c.step.new.self.frames.now.items (CodeTaken c.in_ok-below.below c.in-Some.limit) in
+    let q = ap ends_ahead i.frames ∙ ends-more c.step.new.self.frames.now.items (CodeTaken c.in_ok-below.below c.in-Some.limit) in
+    let t : Account = record {
+      tables = c.cut_until.new.self.tables;
+      cursor = c.args.found.0;
+      spent = c.cut_until.new.self.spent;
+      ahead = touched_ahead c.go_inside-else-look.new.self.frames.now.items;
+      ends = ends_ahead c.go_inside-else-look.new.self.frames.now.items;
+    } in
+    let u : Account = record t { tables = c.look.new.self } in
+    let same = c.look.ensures.same c.if-look.false in
+    let x = f.touched in
+    let y = touched-still t.tables c.look.new.self same in
+    rw (ap running_of i.rest, ap (λ (r : Repair). r.cursor) i.rest)
+    (pays-then 0 a t u (spends 5 0 a b t stepped (let l = f.looks in omega (arith, l)) (omega (arith, x, hh, p)) f.spent f.differed f.counts (omega (arith, ii, q))
+    (none-put b t (λ o n m r. came-cut-to o n m b.cursor c.args.found.0 b.tables.trace.nodes t.tables.trace.nodes f.cuts f.first f.kept.step.whole.order.distinct r)))
+    (stays t u (due-same t.tables c.look.new.self same (c.look.ensures.idle c.if-look.false)) (omega (arith, y)) refl (c.look.ensures.none_differs c.if-look.false)
+    c.look.ensures.counts (omega arith) (λ o n m r. came-same o n m c.args.found.0 t.tables.trace c.look.new.self.trace same r)))
+
+-- without a limit no read is left over
+pub returns-in_ok-resume-clause-anew : goal.returns-in_ok-resume-clause-anew
+returns-in_ok-resume-clause-anew c = λ none. none-left c.args.self.now _ c.args.found.0 none c.requires.found
+
+pub returns-in_ok-go_inside-2-clause-anew : goal.returns-in_ok-go_inside-2-clause-anew
+returns-in_ok-go_inside-2-clause-anew c = λ none. none-left c.args.self.now _ c.args.found.0 none c.requires.found

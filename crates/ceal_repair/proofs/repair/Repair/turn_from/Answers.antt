@@ -1,6 +1,8 @@
 use Rattle.std.proofs.Common.{arith, ◌≤◌}
 use Rattle.ceal_repair.proofs.Propagation.TurnAgreement.{turn-out, began-gone, turn-made}
 use Rattle.ceal_repair.proofs.Runs.Paid.{pays-then}
+use Rattle.ceal_repair.specs.Looks.{found}
+use Rattle.ceal_repair.specs.Repairs.{account}
 use Rattle.ceal_repair.proofs.repair.Repair.turn_from.Goals as goal
 
 pub complete-requires : goal.complete-requires
@@ -51,10 +53,10 @@ returns-clause-within c = λ told.
 
 pub returns-then-not-branch-clause-pays : goal.returns-then-not-branch-clause-pays
 returns-then-not-branch-clause-pays c =
-    pays-then 0 c.args.self.now.running.now c.begin_turn.new.self.running.now c.complete.new.repair.running.now c.in_ok-begin_turn.ensures.pays c.in_ok-complete.ensures.pays
+    pays-then 0 (found c.args.read.0 (account c.args.self.now)) (account c.begin_turn.new.self) (account c.complete.new.repair) c.in_ok-begin_turn.ensures.pays c.in_ok-complete.ensures.pays
 
 pub returns-clause-pays : goal.returns-clause-pays
 returns-clause-pays c =
-    pays-then 0 c.args.self.now.running.now c.complete.new.repair.running.now c.end_turn.new.self.running.now
-    (pays-then 0 c.args.self.now.running.now c.begin_turn.new.self.running.now c.complete.new.repair.running.now c.in_ok-begin_turn.ensures.pays c.in_ok-complete.ensures.pays)
+    pays-then 0 (found c.args.read.0 (account c.args.self.now)) (account c.complete.new.repair) (account c.end_turn.new.self)
+    (pays-then 0 (found c.args.read.0 (account c.args.self.now)) (account c.begin_turn.new.self) (account c.complete.new.repair) c.in_ok-begin_turn.ensures.pays c.in_ok-complete.ensures.pays)
     c.in_ok-end_turn.ensures.pays

@@ -16,6 +16,7 @@ pub returns-in-Ok-clause-looks : goal.returns-in-Ok-clause-looks
 returns-in-Ok-clause-looks c = record {
   looked = c.set_inputs.ensures.looked ∙ c.in_ok-tables.ensures.looks.looked;
   differed = c.set_inputs.ensures.differed ∙ c.in_ok-tables.ensures.looks.differed;
+  touched = ap (λ (t : Timeline). t.touched) c.in_default.ensures.trace ∙ c.in_ok-tables.ensures.looks.touched;
 }
 
 pub returns-in-Ok-clause-unmarked : goal.returns-in-Ok-clause-unmarked

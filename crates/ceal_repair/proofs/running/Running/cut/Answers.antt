@@ -94,3 +94,6 @@ returns-in-Read-clause-blocks c = record { blocks = λ b. refl; numbers = refl }
 
 pub returns-in-Alloc-clause-marks : goal.returns-in-Alloc-clause-marks
 returns-in-Alloc-clause-marks c = ap (λ m. m.marked) c.cut_alloc.ensures.mods
+
+pub returns-in-Alloc-clause-counts : goal.returns-in-Alloc-clause-counts
+returns-in-Alloc-clause-counts c = c.cut_alloc.ensures.counts

@@ -5,6 +5,8 @@ use Rattle.ceal_trace.specs.declared.node.Node.{Node}
 use Rattle.ceal_trace.specs.declared.node.Node.TheVariants.{Alloc}
 use Rattle.ceal_repair.proofs.QueueCover.NodeChanges.{node-has}
 use Rattle.ceal_repair.proofs.TableCalls.CutKeepsTables.{alloc-cut-kept, no-end}
+use Rattle.std.proofs.Common.{arith}
+use Rattle.ceal_repair.proofs.TableCalls.FewLooks.{touched-less}
 use Rattle.ceal_repair.proofs.tables.Tables.cut_alloc.Goals as goal
 
 pub remove-requires-clause-here : goal.remove-requires-clause-here
@@ -22,3 +24,9 @@ returns-clause-kept c =
     (c.discard.ensures.closed c.requires.kept.step.closed (no-end c.args.alloc.0 (Alloc c.requires.here.0 c.requires.here.1) c.args.self.now.trace c.requires.kept.step.whole c.requires.here.2 refl))
     c.requires.here.0 c.requires.here.1 refl c.remove.new.self (c.remove.ensures.holds (entries_in c.args.self.now.trace.nodes) c.requires.kept.step.keyed.entries) c.remove.ensures.gone
     (c.remove.ensures.follows (stamps_in c.args.self.now.trace.nodes) c.requires.kept.step.memo)
+
+pub returns-clause-touched : goal.returns-clause-touched
+returns-clause-touched c = touched-less c.args.alloc.0 c.args.self.now.trace c.discard.new.self c.discard.ensures.touches c.discard.ensures.others
+
+pub returns-clause-counts : goal.returns-clause-counts
+returns-clause-counts c = record { looked = omega arith; differed = omega arith; touched = c.discard.ensures.touches.no_fewer }

@@ -2,12 +2,13 @@ use Rattle.std.proofs.Common.{refl}
 use Rattle.std.proofs.lemmas.Bool.{eq-eqb}
 use Rattle.ceal_mods.specs.Mods.{cell_of}
 use Rattle.ceal_repair.specs.Lists.{entries_in}
-use Rattle.ceal_trace.specs.Nodes.{stamps_in}
+use Rattle.ceal_trace.specs.Nodes.{Timeline, stamps_in}
 use Rattle.ceal_trace.specs.declared.node.Node.TheVariants.{End}
 use Rattle.ceal_mods.specs.Cell.{without_read}
 use Rattle.ceal_repair.proofs.TableCalls.CutKeepsTables.{read-there, read-cut-behind, read-cut-kept, end-is, stamp-of}
 use Rattle.ceal_repair.proofs.TableCalls.PutKeepsTables.{bases-same}
-use Rattle.std.proofs.Common.{arith, ap, ◌∙◌}
+use Rattle.std.proofs.Common.{arith, ap, ◌∙◌, length, ◌+◌}
+use Rattle.ceal_repair.proofs.TableCalls.FewLooks.{touched-less}
 use Rattle.ceal_mods.specs.Mods.{Contents}
 use Rattle.ceal_repair.proofs.tables.Tables.cut_read.Goals as goal
 
@@ -62,3 +63,20 @@ returns-clause-differed c = c.remove_read.ensures.cell.differed ∙ ap (λ (m : 
 
 pub returns-clause-marks : goal.returns-clause-marks
 returns-clause-marks c = c.remove_read.ensures.cell.marked ∙ ap (λ (m : Contents). m.marked) c.hand_on.ensures.mods
+
+pub returns-clause-counts : goal.returns-clause-counts
+returns-clause-counts c =
+    let a = c.remove_read.ensures.cell.looked in
+    let b = ap (λ (m : Contents). m.looked) c.hand_on.ensures.mods in
+    let d = c.remove_read.ensures.cell.differed in
+    let e = ap (λ (m : Contents). m.differed) c.hand_on.ensures.mods in
+    let f = c.discard.ensures.touches.no_fewer in
+    let g = c.discard-2.ensures.touches.no_fewer in
+    let h = ap (λ (x : Timeline). x.touched) c.hand_on.ensures.trace in
+    record { looked = omega (arith, a, b); differed = omega (arith, d, e); touched = omega (arith, f, g, h) }
+
+pub returns-clause-touched : goal.returns-clause-touched
+returns-clause-touched c =
+    let t = touched-less c.args.read.0 c.hand_on.new.self.trace c.discard.new.self c.discard.ensures.touches c.discard.ensures.others in
+    let u = touched-less c.in-Some.end.0 c.discard.new.self c.discard-2.new.self c.discard-2.ensures.touches c.discard-2.ensures.others in
+    let e = ap (λ (x : Timeline). x.touched + length x.nodes) c.hand_on.ensures.trace in omega (arith, t, u, e)

@@ -10,7 +10,8 @@ use Rattle.ceal_repair.proofs.TableCalls.CutKeepsTables.{write-there, write-cut-
 use Rattle.ceal_repair.proofs.TableCalls.PutKeepsTables.{tables}
 use Rattle.ceal_repair.proofs.TableCalls.BaseEdit.{contents-same}
 use Rattle.ceal_repair.specs.Kept.{contents_at}
-use Rattle.std.proofs.Common.{arith, length, ap}
+use Rattle.std.proofs.Common.{arith, length, ap, ◌+◌}
+use Rattle.ceal_repair.proofs.TableCalls.FewLooks.{touched-less}
 use Rattle.ceal_mods.specs.Mods.{Contents}
 use Rattle.ceal_queue.specs.Queue.{Waiting}
 use Rattle.ceal_repair.proofs.tables.Tables.cut_write.Goals as goal
@@ -23,12 +24,12 @@ pub is_needless-needless-requires-clause-kept : goal.is_needless-needless-requir
 is_needless-needless-requires-clause-kept c =
     room-kept c.args.self.now c.reserve.new.self c.requires.kept c.reserve.ensures.stamps (c.reserve.ensures.follows (stamps_in c.args.self.now.trace.nodes) c.requires.kept.step.stale)
 
-pub remove_write-requires-clause-here : goal.remove_write-requires-clause-here
-remove_write-requires-clause-here c =
+pub remove_write-at-requires-clause-here : goal.remove_write-at-requires-clause-here
+remove_write-at-requires-clause-here c =
     rw (c.order.ensures, c.is_needless-needless.ensures.trace) (node-has c.args.write.0 (Write c.args.place c.requires.here.0) c.args.self.now.trace.nodes c.requires.here.1)
 
-pub remove_write-requires-clause-there : goal.remove_write-requires-clause-there
-remove_write-requires-clause-there c =
+pub remove_write-at-requires-clause-there : goal.remove_write-at-requires-clause-there
+remove_write-at-requires-clause-there c =
     write-there c.is_needless-needless.new.self c.is_needless-needless.ensures.kept.step c.args.write.0 c.args.place c.requires.here.0
     (there c.args.write.0 c.args.place c.requires.here.0 c.is_needless-needless.new.self.trace c.args.self.now.trace c.is_needless-needless.ensures.trace c.requires.here.1)
 
@@ -53,7 +54,7 @@ returns-clause-behind c = λ s lt late r i.
     (rw c.wake_unless.ensures.trace at c.discard.ensures.nodes) (rw c.wake_unless.ensures.trace at c.discard.ensures.others)
     c.discard.ensures.whole (c.discard.ensures.closed (rw c.wake_unless.ensures.trace c.is_needless-needless.ensures.kept.step.closed)
     (rw c.wake_unless.ensures.trace (no-end c.args.write.0 (Write c.args.place c.requires.here.0) c.is_needless-needless.new.self.trace c.is_needless-needless.ensures.kept.step.whole at_it refl)))
-    c.args.place c.requires.here.0 refl c.remove_write.new.self c.remove_write.ensures.cell c.wake_unless.new.self.stale (rw c.wake_unless.ensures.trace at c.wake_unless.ensures.stale)
+    c.args.place c.requires.here.0 refl c.remove_write-at.new.self c.remove_write-at.ensures.cell c.wake_unless.new.self.stale (rw c.wake_unless.ensures.trace at c.wake_unless.ensures.stale)
     c.wake_unless.ensures.ahead s (rw c.is_needless-needless.ensures.trace lt)
     (λ z j. rw c.is_needless-needless.ensures.trace (late z (rw (c.is_needless-needless.ensures.queue, c.reserve.ensures.stamps) at j))) r i
 
@@ -69,7 +70,7 @@ returns-clause-kept c =
     (rw c.wake_unless.ensures.trace at c.discard.ensures.nodes) (rw c.wake_unless.ensures.trace at c.discard.ensures.others)
     c.discard.ensures.whole (c.discard.ensures.closed (rw c.wake_unless.ensures.trace c.is_needless-needless.ensures.kept.step.closed)
     (rw c.wake_unless.ensures.trace (no-end c.args.write.0 (Write c.args.place c.requires.here.0) c.is_needless-needless.new.self.trace c.is_needless-needless.ensures.kept.step.whole at_it refl)))
-    c.args.place c.requires.here.0 refl c.remove_write.new.self c.remove_write.ensures.cell c.wake_unless.new.self.stale
+    c.args.place c.requires.here.0 refl c.remove_write-at.new.self c.remove_write-at.ensures.cell c.wake_unless.new.self.stale
     c.wake_unless.ensures.more c.wake_unless.ensures.only
     (λ r i. rw c.is_needless-needless.ensures.trace (c.requires.first r (rw (c.is_needless-needless.ensures.queue, c.reserve.ensures.stamps) at i)))
     (either c.is_needless-needless.result
@@ -77,11 +78,11 @@ returns-clause-kept c =
     (some-same (Write c.args.place c.requires.here.0) (Write c.args.place (contents_at c.args.write.0 before c.args.place)) (sym c.requires.here.1 ∙ c.is_needless-needless.ensures.same told))).1
     ∙ sym (contents-same c.is_needless-needless.new.self before c.args.write.0 c.is_needless-needless.ensures.trace c.is_needless-needless.ensures.cells c.args.place))
     (λ told. c.wake_unless.ensures.woken told))
-    (rw c.order.ensures at c.remove_write.ensures.follows) (rw c.wake_unless.ensures.trace at c.wake_unless.ensures.stale))
+    (rw c.order.ensures at c.remove_write-at.ensures.follows) (rw c.wake_unless.ensures.trace at c.wake_unless.ensures.stale))
 
 pub returns-clause-looks : goal.returns-clause-looks
 returns-clause-looks c =
-    let a = c.remove_write.ensures.cell.looked in
+    let a = c.remove_write-at.ensures.cell.looked in
     let b = ap (λ (m : Contents). m.looked) c.wake_unless.ensures.mods in
     let d = c.wake_unless.ensures.one in
     let e = ap length c.reserve.ensures.stamps in
@@ -89,7 +90,25 @@ returns-clause-looks c =
     let g = c.is_needless-needless.ensures.looks in omega (arith, a, b, d, e, f, g)
 
 pub returns-clause-differed : goal.returns-clause-differed
-returns-clause-differed c = ap (λ (m : Contents). m.differed) c.wake_unless.ensures.mods ∙ (c.remove_write.ensures.cell.differed ∙ c.is_needless-needless.ensures.differed)
+returns-clause-differed c = ap (λ (m : Contents). m.differed) c.wake_unless.ensures.mods ∙ (c.remove_write-at.ensures.cell.differed ∙ c.is_needless-needless.ensures.differed)
 
 pub returns-clause-marks : goal.returns-clause-marks
-returns-clause-marks c = ap (λ (m : Contents). m.marked) c.wake_unless.ensures.mods ∙ (c.remove_write.ensures.cell.marked ∙ c.is_needless-needless.ensures.marks)
+returns-clause-marks c = ap (λ (m : Contents). m.marked) c.wake_unless.ensures.mods ∙ (c.remove_write-at.ensures.cell.marked ∙ c.is_needless-needless.ensures.marks)
+
+pub returns-clause-counts : goal.returns-clause-counts
+returns-clause-counts c =
+    let k = c.is_needless-needless.ensures.counts in
+    let a = k.looked in
+    let b = c.remove_write-at.ensures.cell.looked in
+    let d = ap (λ (m : Contents). m.looked) c.wake_unless.ensures.mods in
+    let e = k.differed in
+    let f = c.remove_write-at.ensures.cell.differed in
+    let g = ap (λ (m : Contents). m.differed) c.wake_unless.ensures.mods in
+    let h = c.discard.ensures.touches.no_fewer in
+    let i = ap (λ (x : Timeline). x.touched) (c.wake_unless.ensures.trace ∙ c.is_needless-needless.ensures.trace) in
+    record { looked = omega (arith, a, b, d); differed = omega (arith, e, f, g); touched = omega (arith, h, i) }
+
+pub returns-clause-touched : goal.returns-clause-touched
+returns-clause-touched c =
+    let t = touched-less c.args.write.0 c.wake_unless.new.self.trace c.discard.new.self c.discard.ensures.touches c.discard.ensures.others in
+    let e = ap (λ (x : Timeline). x.touched + length x.nodes) (c.wake_unless.ensures.trace ∙ c.is_needless-needless.ensures.trace) in omega (arith, t, e)

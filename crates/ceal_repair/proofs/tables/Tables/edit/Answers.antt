@@ -2,7 +2,7 @@ use Rattle.std.proofs.Common.{◌≡◌, true, false, sym, ap, ◌∙◌}
 use Rattle.ceal_mods.specs.declared.cell.Cell.{Cell}
 use Rattle.ceal_order.specs.Stamps.{is_in}
 use Rattle.ceal_repair.proofs.TableCalls.CutKeepsTables.{as-tables}
-use Rattle.ceal_repair.proofs.TableCalls.BaseEdit.{edit-base, edit-kept}
+use Rattle.ceal_repair.proofs.TableCalls.BaseEdit.{edit-base, edit-kept, zero-base}
 use Rattle.ceal_trace.specs.Nodes.{stamps_in}
 use Rattle.std.proofs.Common.{arith, length}
 use Rattle.ceal_mods.specs.Mods.{Contents}
@@ -68,3 +68,15 @@ pub returns-clause-marks : goal.returns-clause-marks
 returns-clause-marks c =
     let change = rw (c.in_ok-begun.ensures.left c.if-begun.false) at c.in_ok-set_base.ensures.ok in
     ap (λ (m : Contents). m.marked) c.wake.ensures.mods ∙ change.marked
+
+-- a place that was never touched holds 0
+pub returns-then-holds_anyway-clause-base : goal.returns-then-holds_anyway-clause-base
+returns-then-holds_anyway-clause-base c =
+    let told = c.holds_anyway.ensures.yes c.if-holds_anyway.true in
+    zero-base c.args.self.now.mods c.args.place c.args.value told.0 told.1
+
+pub returns-then-begun-clause-bare : goal.returns-then-begun-clause-bare
+returns-then-begun-clause-bare c = λ zero none. absurd (none (c.holds_anyway.ensures.no c.if-holds_anyway.false zero))
+
+pub returns-clause-bare : goal.returns-clause-bare
+returns-clause-bare c = λ zero none. absurd (none (c.holds_anyway.ensures.no c.if-holds_anyway.false zero))

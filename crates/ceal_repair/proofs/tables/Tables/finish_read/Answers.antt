@@ -4,6 +4,8 @@ use Rattle.ceal_trace.specs.declared.node.Node.TheVariants.{End}
 use Rattle.ceal_repair.proofs.QueueCover.NodeChanges.{read-has}
 use Rattle.ceal_repair.proofs.TableCalls.PutKeepsTables.{end-kept}
 use Rattle.ceal_repair.proofs.TableCalls.CallsKeepCover.{behind-put}
+use Rattle.std.proofs.Common.{arith}
+use Rattle.ceal_repair.proofs.TableCalls.FewLooks.{touched-more, touched-on}
 use Rattle.ceal_repair.proofs.tables.Tables.finish_read.Goals as goal
 
 pub returns-clause-behind : goal.returns-clause-behind
@@ -21,3 +23,15 @@ returns-clause-kept c =
     (c.follows_still.ensures.inserted s c.args.self.now.mods (stamps_in c.args.self.now.trace.nodes) (stamps_in c.finish_read.new.self.nodes) c.requires.kept.step.mods more.others.stamps)
     (c.follows_still-3.ensures.inserted s c.args.self.now.memo (stamps_in c.args.self.now.trace.nodes) (stamps_in c.finish_read.new.self.nodes) c.requires.kept.step.memo more.others.stamps)
     (c.follows_still-2.ensures.inserted s c.args.self.now.stale (stamps_in c.args.self.now.trace.nodes) (stamps_in c.finish_read.new.self.nodes) c.requires.kept.step.stale more.others.stamps)
+
+pub returns-clause-touched : goal.returns-clause-touched
+returns-clause-touched c =
+    touched-more c.finish_read.result.0 c.args.self.now.trace c.reserve.new.self c.finish_read.new.self c.reserve.ensures.nodes c.reserve.ensures.untouched c.finish_read.ensures.touches
+    c.finish_read.ensures.inserted.others
+
+pub returns-clause-counts : goal.returns-clause-counts
+returns-clause-counts c = record {
+  looked = omega arith;
+  differed = omega arith;
+  touched = touched-on c.args.self.now.trace c.reserve.new.self c.finish_read.new.self c.reserve.ensures.untouched c.finish_read.ensures.touches;
+}

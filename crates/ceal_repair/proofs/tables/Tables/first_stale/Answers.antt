@@ -3,6 +3,7 @@ use Rattle.ceal_repair.proofs.TableCalls.BaseEdit.{looking-first, none-late, pop
 use Rattle.ceal_repair.proofs.TableCalls.PutKeepsTables.{tables}
 use Rattle.std.proofs.Common.{length, ap}
 use Rattle.ceal_queue.specs.Queue.{Waiting}
+use Rattle.ceal_repair.proofs.TableCalls.FewLooks.{touched-still}
 use Rattle.ceal_repair.proofs.tables.Tables.first_stale.Goals as goal
 
 pub loop-looked-init : goal.loop-looked-init
@@ -71,7 +72,11 @@ loop-looked-preserved c =
     (c.settle.ensures.same c.if-settle.false)
     c.settle.ensures.cells c.settle.ensures.memo c.settle.ensures.behind
     (let a = c.settle.ensures.idle c.if-settle.false in
-    let b = c.in_ok-read.ensures.fewer in omega (arith, a, b)) (c.settle.ensures.none_differs c.if-settle.false) c.settle.ensures.marks
+    let b = c.in_ok-read.ensures.fewer in omega (arith, a, b))
+    (let a = c.settle.ensures.idle c.if-settle.false in
+    let b = c.in_ok-read.ensures.fewer in
+    let d = ap (λ (q : Waiting). length q.stamps) (c.settle.ensures.queue c.if-settle.false) in omega (arith, a, b, d)) (c.settle.ensures.none_differs c.if-settle.false)
+    (let k = c.settle.ensures.counts in record { looked = k.looked; differed = k.differed; touched = k.touched }) c.settle.ensures.marks
 
 pub returns-clause-none : goal.returns-clause-none
 returns-clause-none c = c.loop-looked.invariant.trace
@@ -127,3 +132,39 @@ returns-then-settle-clause-marks c = c.settle.ensures.marks ∙ c.loop-looked.in
 
 pub returns-clause-marks : goal.returns-clause-marks
 returns-clause-marks c = c.loop-looked.invariant.marks
+
+pub returns-in_err-read-clause-counts : goal.returns-in_err-read-clause-counts
+returns-in_err-read-clause-counts c = let k = c.loop-looked.invariant.counts in record { looked = k.looked; differed = k.differed; touched = k.touched }
+
+pub returns-in_err-read-clause-queued : goal.returns-in_err-read-clause-queued
+returns-in_err-read-clause-queued c = if-none c.from_residual.result
+    (let a = ap (λ (q : Waiting). length q.stamps) c.in_err-read.ensures.unchanged in
+    let b = c.loop-looked.invariant.queued in record { looked = omega (arith, a, b); differed = c.loop-looked.invariant.differed })
+
+pub returns-then-settle-clause-counts : goal.returns-then-settle-clause-counts
+returns-then-settle-clause-counts c =
+    let k = c.loop-looked.invariant.counts in
+    let s = c.settle.ensures.counts in
+    let a = k.looked in
+    let b = s.looked in
+    let d = k.differed in
+    let e = s.differed in
+    let f = k.touched in
+    let g = s.touched in record { looked = omega (arith, a, b); differed = omega (arith, d, e); touched = omega (arith, f, g) }
+
+pub returns-clause-counts : goal.returns-clause-counts
+returns-clause-counts c = c.loop-looked.invariant.counts
+
+pub returns-clause-queued : goal.returns-clause-queued
+returns-clause-queued c = record { looked = c.loop-looked.invariant.queued; differed = c.loop-looked.invariant.differed }
+
+pub returns-in_err-read-clause-touched : goal.returns-in_err-read-clause-touched
+returns-in_err-read-clause-touched c = let t = touched-still c.args.self.now c.loop-looked.self c.loop-looked.invariant.trace in omega (arith, t)
+
+pub returns-then-settle-clause-touched : goal.returns-then-settle-clause-touched
+returns-then-settle-clause-touched c =
+    let t = touched-still c.args.self.now c.loop-looked.self c.loop-looked.invariant.trace in
+    let s = c.settle.ensures.touched in omega (arith, t, s)
+
+pub returns-clause-touched : goal.returns-clause-touched
+returns-clause-touched c = let t = touched-still c.args.self.now c.loop-looked.self c.loop-looked.invariant.trace in omega (arith, t)

@@ -9,6 +9,7 @@ use Rattle.ceal_repair.specs.Kept.{Kept, IsHonestRecord}
 use Rattle.ceal_repair.specs.declared.tables.Tables.{Tables}
 use Rattle.std.proofs.Common.{length}
 use Rattle.ceal_queue.specs.Queue.{Waiting}
+use Rattle.ceal_repair.proofs.TableCalls.FewLooks.{counts-still, counts-then}
 use Rattle.ceal_repair.proofs.tables.Tables.has_stale.Goals as goal
 
 -- where nothing is queued all is honest
@@ -49,7 +50,14 @@ loop-looked-preserved c =
     let b = ap (λ (m : Contents). m.looked) c.dismiss.ensures.mods in
     let d = c.dismiss.ensures.fewer (rw c.differs.ensures.queue there) in
     let e = ap (λ (q : Waiting). length q.stamps) c.differs.ensures.queue in omega (arith, a, b, d, e))
-    (ap (λ (m : Contents). m.differed) c.dismiss.ensures.mods ∙ c.differs.ensures.differed) (ap (λ (m : Contents). m.marked) c.dismiss.ensures.mods ∙ c.differs.ensures.marks)
+    (let there = (c.in-Some.ensures.first (stamps_in c.loop-looked.self.trace.nodes) c.loop-looked.invariant.kept.step.stale).there in
+    let a = c.differs.ensures.looks in
+    let b = ap (λ (m : Contents). m.looked) c.dismiss.ensures.mods in
+    let d = c.dismiss.ensures.fewer (rw c.differs.ensures.queue there) in
+    let e = ap (λ (q : Waiting). length q.stamps) c.differs.ensures.queue in omega (arith, a, b, d, e))
+    (ap (λ (m : Contents). m.differed) c.dismiss.ensures.mods ∙ c.differs.ensures.differed)
+    (counts-then c.loop-looked.self c.differs.new.self c.dismiss.new.self c.differs.ensures.counts
+    (counts-still c.differs.new.self c.dismiss.new.self c.dismiss.ensures.mods c.dismiss.ensures.trace)) (ap (λ (m : Contents). m.marked) c.dismiss.ensures.mods ∙ c.differs.ensures.marks)
 
 pub returns-clause-honest : goal.returns-clause-honest
 returns-clause-honest c = λ told s. all-honest c.loop-looked.self c.loop-looked.invariant.kept
@@ -96,3 +104,12 @@ returns-then-differs-clause-marks c = c.differs.ensures.marks ∙ c.loop-looked.
 
 pub returns-clause-marks : goal.returns-clause-marks
 returns-clause-marks c = c.loop-looked.invariant.marks
+
+pub returns-in-None-clause-counts : goal.returns-in-None-clause-counts
+returns-in-None-clause-counts c = c.loop-looked.invariant.counts
+
+pub returns-then-differs-clause-counts : goal.returns-then-differs-clause-counts
+returns-then-differs-clause-counts c = counts-then c.args.self.now c.loop-looked.self c.differs.new.self c.loop-looked.invariant.counts c.differs.ensures.counts
+
+pub returns-clause-counts : goal.returns-clause-counts
+returns-clause-counts c = c.loop-looked.invariant.counts

@@ -5,7 +5,11 @@ use Rattle.ceal_repair.proofs.QueueCover.NodeChanges.{node-has}
 use Rattle.ceal_repair.proofs.TableCalls.CutKeepsTables.{same-write, held-at}
 use Rattle.std.proofs.Common.{arith}
 use Rattle.ceal_repair.proofs.TableCalls.FewLooks.{one-look}
+use Rattle.ceal_repair.proofs.Lists.ToldWrites.{told-step}
 use Rattle.ceal_repair.proofs.tables.Tables.is_needless.Goals as goal
+
+pub value_at-held-requires-clause-values : goal.value_at-held-requires-clause-values
+value_at-held-requires-clause-values c = told-step c.args.self.now c.requires.kept.step c.args.place
 
 pub value_at-held-requires-clause-here : goal.value_at-held-requires-clause-here
 value_at-held-requires-clause-here c = rw c.order.ensures (node-has c.args.write.0 (Write c.args.place c.requires.here.0) c.args.self.now.trace.nodes c.requires.here.1)
@@ -21,3 +25,8 @@ returns-clause-same c = λ told.
 
 pub returns-clause-looks : goal.returns-clause-looks
 returns-clause-looks c = let a = one-look c.args.self.now.mods c.value_at-held.new.self c.value_at-held.ensures.looked in omega (arith, a)
+
+pub returns-clause-counts : goal.returns-clause-counts
+returns-clause-counts c =
+    let a = c.value_at-held.ensures.no_fewer in
+    let b = c.value_at-held.ensures.differed in record { looked = omega (arith, a); differed = omega (arith, b); touched = omega arith }

@@ -8,7 +8,7 @@ use Rattle.ceal_repair.proofs.TableCalls.BaseEdit.{honest-same}
 use Rattle.ceal_repair.proofs.Lists.PartedLists.{false-of}
 use Rattle.std.proofs.Common.{arith}
 use Rattle.ceal_mods.specs.Mods.{Contents}
-use Rattle.ceal_repair.proofs.TableCalls.FewLooks.{owed-same}
+use Rattle.ceal_repair.proofs.TableCalls.FewLooks.{owed-same, counts-still, counts-then, touched-still}
 use Rattle.ceal_repair.proofs.tables.Tables.look.Goals as goal
 
 pub unqueue-requires-clause-here : goal.unqueue-requires-clause-here
@@ -76,3 +76,18 @@ returns-then-unqueue-clause-marks c = c.settle.ensures.marks ∙ ap (λ (m : Con
 
 pub returns-else-unqueue-clause-marks : goal.returns-else-unqueue-clause-marks
 returns-else-unqueue-clause-marks c = ap (λ (m : Contents). m.marked) c.unqueue.ensures.mods
+
+pub returns-then-unqueue-clause-counts : goal.returns-then-unqueue-clause-counts
+returns-then-unqueue-clause-counts c =
+    counts-then c.args.self.now c.unqueue.new.self c.settle.new.self (counts-still c.args.self.now c.unqueue.new.self c.unqueue.ensures.mods c.unqueue.ensures.trace) c.settle.ensures.counts
+
+pub returns-else-unqueue-clause-counts : goal.returns-else-unqueue-clause-counts
+returns-else-unqueue-clause-counts c = counts-still c.args.self.now c.unqueue.new.self c.unqueue.ensures.mods c.unqueue.ensures.trace
+
+pub returns-then-unqueue-clause-touched : goal.returns-then-unqueue-clause-touched
+returns-then-unqueue-clause-touched c =
+    let a = c.settle.ensures.touched in
+    let b = touched-still c.args.self.now c.unqueue.new.self c.unqueue.ensures.trace in omega (arith, a, b)
+
+pub returns-else-unqueue-clause-touched : goal.returns-else-unqueue-clause-touched
+returns-else-unqueue-clause-touched c = let b = touched-still c.args.self.now c.unqueue.new.self c.unqueue.ensures.trace in omega (arith, b)

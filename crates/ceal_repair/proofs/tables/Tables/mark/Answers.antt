@@ -3,7 +3,11 @@ use Rattle.ceal_repair.proofs.QueueCover.NodeChanges.{cell-same}
 use Rattle.ceal_repair.proofs.Runs.InputPlaces.{kept-cells}
 use Rattle.ceal_repair.proofs.TableCalls.CutKeepsTables.{follows-same}
 use Rattle.ceal_trace.specs.Nodes.{stamps_in}
+use Rattle.ceal_repair.proofs.Lists.ToldWrites.{told-step}
 use Rattle.ceal_repair.proofs.tables.Tables.mark.Goals as goal
+
+pub mark-requires : goal.mark-requires
+mark-requires c = record { values = told-step c.args.self.now c.requires.kept.step }
 
 pub returns-clause-looks : goal.returns-clause-looks
 returns-clause-looks c = record { looked = c.mark.ensures.looked; differed = c.mark.ensures.differed; queue = refl }

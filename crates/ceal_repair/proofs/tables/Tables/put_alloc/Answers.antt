@@ -6,6 +6,8 @@ use Rattle.ceal_trace.specs.declared.node.Node.TheVariants.{Alloc}
 use Rattle.ceal_repair.proofs.QueueCover.NodeChanges.{read-has}
 use Rattle.ceal_repair.proofs.TableCalls.CallsKeepCover.{behind-put}
 use Rattle.ceal_repair.proofs.TableCalls.PutKeepsTables.{alloc-kept, no-entry}
+use Rattle.std.proofs.Common.{arith}
+use Rattle.ceal_repair.proofs.TableCalls.FewLooks.{touched-more, touched-on}
 use Rattle.ceal_repair.proofs.tables.Tables.put_alloc.Goals as goal
 
 pub add-requires-clause-absent : goal.add-requires-clause-absent
@@ -28,3 +30,15 @@ returns-clause-kept c =
     (c.follows_still.ensures.inserted s c.args.self.now.mods (stamps_in c.args.self.now.trace.nodes) (stamps_in c.insert_alloc-alloc.new.self.nodes) c.requires.kept.step.mods more.others.stamps)
     (rw c.order.ensures at c.add.ensures.follows)
     (c.follows_still-2.ensures.inserted s c.args.self.now.stale (stamps_in c.args.self.now.trace.nodes) (stamps_in c.insert_alloc-alloc.new.self.nodes) c.requires.kept.step.stale more.others.stamps)
+
+pub returns-clause-touched : goal.returns-clause-touched
+returns-clause-touched c =
+    touched-more c.insert_alloc-alloc.result.0 c.args.self.now.trace c.reserve.new.self c.insert_alloc-alloc.new.self c.reserve.ensures.nodes c.reserve.ensures.untouched
+    c.insert_alloc-alloc.ensures.touches c.insert_alloc-alloc.ensures.inserted.others
+
+pub returns-clause-counts : goal.returns-clause-counts
+returns-clause-counts c = record {
+  looked = omega arith;
+  differed = omega arith;
+  touched = touched-on c.args.self.now.trace c.reserve.new.self c.insert_alloc-alloc.new.self c.reserve.ensures.untouched c.insert_alloc-alloc.ensures.touches;
+}

@@ -1,13 +1,14 @@
 use Rattle.std.proofs.Common.{ℕ, refl}
 use Rattle.ceal_mods.specs.Mods.{cell_of}
-use Rattle.ceal_trace.specs.Nodes.{stamps_in}
+use Rattle.ceal_trace.specs.Nodes.{Timeline, stamps_in}
 use Rattle.ceal_trace.specs.declared.node.Node.TheVariants.{Write}
 use Rattle.ceal_repair.proofs.QueueCover.NodeChanges.{read-has}
 use Rattle.ceal_repair.proofs.TableCalls.CutKeepsTables.{by-queue, as-tables}
 use Rattle.ceal_repair.proofs.TableCalls.CallsKeepCover.{behind-put}
 use Rattle.ceal_repair.proofs.TableCalls.PutKeepsTables.{write-kept, is-free, bases-same}
 use Rattle.ceal_mods.specs.Cell.{with_write}
-use Rattle.std.proofs.Common.{arith, length, ap, ◌∙◌}
+use Rattle.std.proofs.Common.{arith, length, ap, ◌∙◌, ◌+◌}
+use Rattle.ceal_repair.proofs.TableCalls.FewLooks.{touched-more, touched-on}
 use Rattle.ceal_mods.specs.Mods.{Contents}
 use Rattle.ceal_repair.proofs.tables.Tables.put_write.Goals as goal
 
@@ -15,54 +16,70 @@ pub add_write-requires-clause-absent : goal.add_write-requires-clause-absent
 add_write-requires-clause-absent c =
     (is-free c.insert_write-added.result.0 c.args.self.now c.requires.kept.step (rw c.reserve.ensures.nodes at c.insert_write-added.ensures.inserted.new) c.args.place).0
 
-pub wake-requires-clause-stale : goal.wake-requires-clause-stale
-wake-requires-clause-stale c =
+pub wake_in-requires-clause-stale : goal.wake_in-requires-clause-stale
+wake_in-requires-clause-stale c =
     c.follows_still-2.ensures.inserted c.insert_write-added.result.0 c.reserve-2.new.self (stamps_in c.args.self.now.trace.nodes) (stamps_in c.insert_write-added.new.self.nodes)
     (c.reserve-2.ensures.follows (stamps_in c.args.self.now.trace.nodes) c.requires.kept.step.stale) (rw c.reserve.ensures.nodes at c.insert_write-added.ensures.inserted.others.stamps)
 
 pub returns-clause-bases : goal.returns-clause-bases
-returns-clause-bases c = λ p. rw c.wake.ensures.mods
+returns-clause-bases c = λ p. rw c.wake_in.ensures.mods
     (bases-same c.args.self.now.mods c.add_write.new.self c.args.place
     (with_write (stamps_in c.insert_write-added.new.self.nodes) c.insert_write-added.result.0 c.args.value (cell_of c.args.self.now.mods c.args.place))
-    (rw c.order.ensures at c.in_ok-add_write.ensures.ok) refl p)
+    (rw c.order.ensures at c.in_ok-at.ensures.ok) refl p)
 
 -- the read that this affects is queued, and it is after the write
 pub returns-clause-behind : goal.returns-clause-behind
-returns-clause-behind c = λ late r i. rw c.wake.ensures.trace
+returns-clause-behind c = λ late r i. rw c.wake_in.ensures.trace
     (by-queue r c.args.self.now.stale.stamps
     (λ j. behind-put c.args.after.0 c.insert_write-added.result.0 (Write c.args.place c.args.value) c.args.self.now.trace.nodes c.insert_write-added.new.self.nodes
     (rw c.reserve.ensures.nodes at c.insert_write-added.ensures.inserted) c.requires.here r (read-has r c.args.self.now.trace.nodes (c.requires.kept.step.queued r j)) (late r j))
-    (λ j. c.wake.ensures.ahead r (rw c.reserve-2.ensures.stamps j) i))
+    (λ j. c.wake_in.ensures.ahead r (rw c.reserve-2.ensures.stamps j) i))
 
 -- the write has its stamp in the list of its place, and the read that it affects is queued
 pub returns-clause-kept : goal.returns-clause-kept
 returns-clause-kept c =
     let s : ℕ = c.insert_write-added.result.0 in
     let more = rw c.reserve.ensures.nodes at c.insert_write-added.ensures.inserted in
-    as-tables c.wake.new.self c.insert_write-added.new.self c.add_write.new.self c.args.self.now.memo c.wake.ensures.trace c.wake.ensures.mods c.wake.ensures.memo
+    as-tables c.wake_in.new.self c.insert_write-added.new.self c.add_write.new.self c.args.self.now.memo c.wake_in.ensures.trace c.wake_in.ensures.mods c.wake_in.ensures.memo
     (write-kept c.args.self.now c.requires.kept c.args.after.0 s (Write c.args.place c.args.value) c.insert_write-added.new.self c.requires.here
     (rw c.reserve.ensures.nodes at c.insert_write-added.ensures.nodes) more
-    c.insert_write-added.ensures.whole c.insert_write-added.ensures.closed c.args.place c.args.value refl c.add_write.new.self c.wake.new.self.stale
-    (rw c.order.ensures at c.in_ok-add_write.ensures.ok)
-    (λ t i. c.wake.ensures.more t (rw c.reserve-2.ensures.stamps i)) (λ t i. c.wake.ensures.only t (rw c.reserve-2.ensures.stamps i)) c.wake.ensures.woken
+    c.insert_write-added.ensures.whole c.insert_write-added.ensures.closed c.args.place c.args.value refl c.add_write.new.self c.wake_in.new.self.stale
+    (rw c.order.ensures at c.in_ok-at.ensures.ok)
+    (λ t i. c.wake_in.ensures.more t (rw c.reserve-2.ensures.stamps i)) (λ t i. c.wake_in.ensures.only t (rw c.reserve-2.ensures.stamps i)) c.wake_in.ensures.woken
     (rw c.order.ensures at c.add_write.ensures.follows)
     (c.follows_still-3.ensures.inserted s c.args.self.now.memo (stamps_in c.args.self.now.trace.nodes) (stamps_in c.insert_write-added.new.self.nodes) c.requires.kept.step.memo more.others.stamps)
-    (rw c.wake.ensures.trace at c.wake.ensures.stale))
+    (rw c.wake_in.ensures.trace at c.wake_in.ensures.stale))
 
 pub returns-clause-looks : goal.returns-clause-looks
 returns-clause-looks c =
-    let change = rw c.order.ensures at c.in_ok-add_write.ensures.ok in
+    let change = rw c.order.ensures at c.in_ok-at.ensures.ok in
     let a = change.looked in
-    let b = ap (λ (m : Contents). m.looked) c.wake.ensures.mods in
-    let d = c.wake.ensures.one in
+    let b = ap (λ (m : Contents). m.looked) c.wake_in.ensures.mods in
+    let d = c.wake_in.ensures.one in
     let e = ap length c.reserve-2.ensures.stamps in omega (arith, a, b, d, e)
 
 pub returns-clause-differed : goal.returns-clause-differed
 returns-clause-differed c =
-    let change = rw c.order.ensures at c.in_ok-add_write.ensures.ok in
-    ap (λ (m : Contents). m.differed) c.wake.ensures.mods ∙ change.differed
+    let change = rw c.order.ensures at c.in_ok-at.ensures.ok in
+    ap (λ (m : Contents). m.differed) c.wake_in.ensures.mods ∙ change.differed
 
 pub returns-clause-marks : goal.returns-clause-marks
 returns-clause-marks c =
-    let change = rw c.order.ensures at c.in_ok-add_write.ensures.ok in
-    ap (λ (m : Contents). m.marked) c.wake.ensures.mods ∙ change.marked
+    let change = rw c.order.ensures at c.in_ok-at.ensures.ok in
+    ap (λ (m : Contents). m.marked) c.wake_in.ensures.mods ∙ change.marked
+
+pub returns-clause-counts : goal.returns-clause-counts
+returns-clause-counts c =
+    let change = rw c.order.ensures at c.in_ok-at.ensures.ok in
+    let a = change.looked in
+    let b = ap (λ (m : Contents). m.looked) c.wake_in.ensures.mods in
+    let d = change.differed in
+    let e = ap (λ (m : Contents). m.differed) c.wake_in.ensures.mods in
+    let f = touched-on c.args.self.now.trace c.reserve.new.self c.insert_write-added.new.self c.reserve.ensures.untouched c.insert_write-added.ensures.touches in
+    let g = ap (λ (x : Timeline). x.touched) c.wake_in.ensures.trace in record { looked = omega (arith, a, b); differed = omega (arith, d, e); touched = omega (arith, f, g) }
+
+pub returns-clause-touched : goal.returns-clause-touched
+returns-clause-touched c =
+    let t = touched-more c.insert_write-added.result.0 c.args.self.now.trace c.reserve.new.self c.insert_write-added.new.self c.reserve.ensures.nodes c.reserve.ensures.untouched
+    c.insert_write-added.ensures.touches c.insert_write-added.ensures.inserted.others in
+    let e = ap (λ (x : Timeline). x.touched + length x.nodes) c.wake_in.ensures.trace in omega (arith, t, e)

@@ -1,5 +1,6 @@
 use Rattle.std.proofs.Common.{◌≡◌, true, sym, subst}
 use Rattle.ceal_base.specs.Fitting.{block_fits}
+use Rattle.ceal_engine.specs.Cost.{CostOfCall}
 use Rattle.ceal_session.proofs.Moves.StateAfterEdit.{longer-state, longer-keeps, longer-holds}
 use Rattle.ceal_session.specs.AfterLine.{KeepsRuns}
 use Rattle.ceal_session.specs.SessionState.{state_of, situation, situation_of}
@@ -38,3 +39,7 @@ returns-in-Ok-clause-trace c =
     (longer-keeps i.program i.names i.engine i.journal i.pending c.self.invariant c.add_input.new.self o.code o.fuel o.call o.forest o.heap o.work c.args.name.now
     (block_of c.args.shape c.args.words.now)
     (subst (λ m. block_fits m.state.program.structs (memory_of m.state) (block_of c.args.shape c.args.words.now) ≡ true) (sym c.self.view_is) c.requires.fits) o.phase o.inputs))
+
+-- it costs what the engine's call does
+pub returns-in-Ok-clause-cost : goal.returns-in-Ok-clause-cost
+returns-in-Ok-clause-cost c = subst (λ m. CostOfCall m.engine c.add_input.new.self) c.self.view_is (CostOfCall.input c.add_input.ensures.cost)

@@ -1,6 +1,6 @@
 use Rattle.std.proofs.Common.{◌≡◌, ◌∙◌, ap, sym, subst}
 use Rattle.ceal_session.proofs.Replies.KeptBound.{keeps, keeps-situation}
-use Rattle.ceal_session.specs.SessionState.{SessionInvariant, held_of, situation}
+use Rattle.ceal_session.specs.SessionState.{Held, SessionInvariant, held_of, situation}
 use Rattle.ceal_session.proofs.state.State.keep_bound.Goals as goal
 
 pub invariant_of-self : goal.invariant_of-self
@@ -16,4 +16,5 @@ returns c =
     record {
       kept = ap (λ j. situation (held_of i.program i.names i.engine j i.pending)) c.keep.ensures
           ∙ (keeps-situation i.program i.names i.engine i.journal i.pending c.args.bound same ∙ ap situation c.self.view_is);
+      engine = ap (λ (m : Held). m.engine) c.self.view_is;
     }

@@ -1,4 +1,5 @@
 use Rattle.std.proofs.Common.{◌≡◌, true, ap, ◌∙◌, sym, subst}
+use Rattle.ceal_engine.specs.Cost.{CostOfCall}
 use Rattle.ceal_session.proofs.Moves.StateAfterEdit.{edited-state, edited-keeps, edited-holds}
 use Rattle.ceal_session.specs.Questions.{IsCellOf}
 use Rattle.ceal_session.specs.AfterLine.{KeepsRuns}
@@ -42,3 +43,7 @@ returns-in-Ok-clause-trace c =
     (subst (λ k. KeepsRuns (situation_of i.program i.names i.engine i.journal i.pending) (situation_of i.program i.names c.edit.new.self k true)) (sym same)
     (edited-keeps i.program i.names i.engine i.journal i.pending c.self.invariant c.edit.new.self o.code o.fuel o.call o.forest o.heap o.work c.args.place c.args.word
     (subst (λ m. IsCellOf m.state c.args.place) (sym c.self.view_is) c.requires.cell) o.phase o.inputs))
+
+-- it costs what the engine's call does
+pub returns-in-Ok-clause-cost : goal.returns-in-Ok-clause-cost
+returns-in-Ok-clause-cost c = subst (λ m. CostOfCall m.engine c.edit.new.self) c.self.view_is (CostOfCall.edit c.edit.ensures.cost)

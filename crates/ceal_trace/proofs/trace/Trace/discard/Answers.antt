@@ -1,7 +1,7 @@
 use Rattle.std.proofs.Common.{◌≡◌, true, false, subst}
 use Rattle.ceal_trace.specs.declared.node.Node.{Node}
 use Rattle.ceal_trace.specs.Nodes.{ends}
-use Rattle.ceal_trace.proofs.Keeps.{there_is}
+use Rattle.ceal_trace.proofs.Keeps.{there_is, trace-touched}
 use Rattle.ceal_trace.proofs.Removing.{shrank, end_row, steps_within, some_same}
 use Rattle.ceal_trace.proofs.trace.Trace.discard.Goals as goal
 
@@ -96,4 +96,4 @@ returns-clause-whole c =
     let here = there_is c.self.inside.order c.self.inside.table c.args.stamp.0 (rw (← c.self.view_is) at c.requires.here) in
     let not_root = rw (← c.self.view_is) at c.requires.not_root in
     let e = c.delete.ensures in
-    (shrank _ _ _ _ _ _ _ c.self.invariant here not_root e.stamps e.spare e.others e.whole c.release-steps.ensures.node).sound.is_trace
+    trace-touched _ _ (shrank _ _ _ _ _ _ _ c.self.invariant here not_root e.stamps e.spare e.others e.whole c.release-steps.ensures.node).sound.is_trace

@@ -1,6 +1,6 @@
 use Rattle.std.proofs.Common.{refl, arith, ◌<◌, length}
 use Rattle.ceal_trace.proofs.Entries.{has-read}
-use Rattle.ceal_trace.proofs.Keeps.{there_is, new_row, new_count, row_bound}
+use Rattle.ceal_trace.proofs.Keeps.{there_is, new_row, new_count, row_bound, trace-touched}
 use Rattle.ceal_trace.proofs.Growing.{end_grew, end_is_found, end_others_are}
 use Rattle.ceal_trace.proofs.trace.Trace.finish_read.Goals as goal
 
@@ -93,4 +93,5 @@ returns-clause-whole c =
     let unfinished = rw (← c.self.view_is) at c.requires.unfinished in
     let up = rw (← c.self.view_is) at c.requires.behind in
     let e = c.insert_after-end.ensures in
-    (end_grew _ _ _ _ _ _ _ _ c.self.invariant closed here e.stamps e.spare e.others e.after e.whole c.put.ensures _ c.args.read refl reads unfinished up c.set_end.ensures).sound.is_trace
+    trace-touched _ _ (end_grew _ _ _ _ _ _ _ _ c.self.invariant closed here e.stamps e.spare e.others e.after e.whole
+    c.put.ensures _ c.args.read refl reads unfinished up c.set_end.ensures).sound.is_trace

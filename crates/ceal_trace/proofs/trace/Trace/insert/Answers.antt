@@ -1,4 +1,4 @@
-use Rattle.ceal_trace.proofs.Keeps.{there_is, new_row, new_count}
+use Rattle.ceal_trace.proofs.Keeps.{there_is, new_row, new_count, trace-touched}
 use Rattle.ceal_trace.proofs.Growing.{plain_grew, plain_ends_are, plain_is_open}
 use Rattle.ceal_trace.proofs.trace.Trace.insert.Goals as goal
 
@@ -61,4 +61,4 @@ returns-clause-whole g c =
     let here = there_is c.self.inside.order c.self.inside.table c.args.after.0 (rw (← c.self.view_is) at c.requires.here) in
     let closed = rw (← c.self.view_is) at c.requires.closed in
     let e = c.insert_after-new.ensures in
-    (plain_grew _ _ _ _ _ _ _ _ c.self.invariant closed here e.stamps e.spare e.others e.after e.whole c.put.ensures c.requires.plain).sound.is_trace
+    trace-touched _ _ (plain_grew _ _ _ _ _ _ _ _ c.self.invariant closed here e.stamps e.spare e.others e.after e.whole c.put.ensures c.requires.plain).sound.is_trace

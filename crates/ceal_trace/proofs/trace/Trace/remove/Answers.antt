@@ -1,5 +1,5 @@
 use Rattle.std.proofs.Common.{sym, ◌∙◌}
-use Rattle.ceal_trace.proofs.Keeps.{there_is}
+use Rattle.ceal_trace.proofs.Keeps.{there_is, trace-touched}
 use Rattle.ceal_trace.proofs.Removing.{shrank, end_row, steps_within, steps_are}
 use Rattle.ceal_trace.proofs.trace.Trace.remove.Goals as goal
 
@@ -105,4 +105,4 @@ returns-clause-whole c =
     let here = there_is c.self.inside.order c.self.inside.table c.args.stamp.0 (rw (← c.self.view_is) at c.requires.here) in
     let not_root = rw (← c.self.view_is) at c.requires.not_root in
     let e = c.delete.ensures in
-    (shrank _ _ _ _ _ _ _ c.self.invariant here not_root e.stamps e.spare e.others e.whole c.take-gone.ensures.node).sound.is_trace
+    trace-touched _ _ (shrank _ _ _ _ _ _ _ c.self.invariant here not_root e.stamps e.spare e.others e.whole c.take-gone.ensures.node).sound.is_trace

@@ -1,7 +1,7 @@
 use Rattle.std.proofs.Common.{arith, ◌<◌, ◌^◌, ◌∙◌}
 use Rattle.ceal_trace.proofs.Changing.{steps_changed, steps_node, steps_are_set, steps_sum_moved, sum_small}
 use Rattle.ceal_trace.proofs.Removing.{steps_within}
-use Rattle.ceal_trace.proofs.Keeps.{there_is, row_bound}
+use Rattle.ceal_trace.proofs.Keeps.{there_is, row_bound, trace-touched}
 use Rattle.ceal_trace.proofs.trace.Trace.set_steps.Goals as goal
 
 pub overflow_sub-self : goal.overflow_sub-self
@@ -82,7 +82,7 @@ returns-clause-whole c =
     let small : c.args.steps < 2 ^ 32 = omega (arith, c.ranges.steps.fits) in
     let was = c.from.ensures ∙ c.steps-old.ensures in
     let now = c.from-2.ensures in
-    (steps_changed _ _ _ _ _ _ _ _ c.self.invariant here small c.set_steps.ensures was now).sound.is_trace
+    trace-touched _ _ (steps_changed _ _ _ _ _ _ _ _ c.self.invariant here small c.set_steps.ensures was now).sound.is_trace
 
 pub steps-old-requires : goal.steps-old-requires
 steps-old-requires c =

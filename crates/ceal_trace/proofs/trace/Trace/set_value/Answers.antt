@@ -1,6 +1,6 @@
 use Rattle.ceal_trace.specs.Keeping.{timeline}
 use Rattle.ceal_trace.proofs.Changing.{value_changed, value_now, value_steps_same, value_sum_same}
-use Rattle.ceal_trace.proofs.Keeps.{there_is}
+use Rattle.ceal_trace.proofs.Keeps.{there_is, trace-touched}
 use Rattle.ceal_trace.proofs.Entries.{has-read}
 use Rattle.ceal_trace.proofs.trace.Trace.set_value.Goals as goal
 
@@ -47,4 +47,4 @@ returns-clause-closed c =
 pub returns-clause-whole : goal.returns-clause-whole
 returns-clause-whole c =
     let reads = rw (← c.self.view_is) at c.requires.read in
-    (value_changed _ _ _ _ _ _ c.self.invariant reads c.set_value.ensures).sound.is_trace
+    trace-touched _ _ (value_changed _ _ _ _ _ _ c.self.invariant reads c.set_value.ensures).sound.is_trace

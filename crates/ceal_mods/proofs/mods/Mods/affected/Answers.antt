@@ -1,6 +1,0 @@
-use Rattle.ceal_mods.proofs.mods.Mods.affected.Goals as goal
-
-pub affected-requires-clause-rises : goal.affected-requires-clause-rises
-affected-requires-clause-rises c =
-    let here = rw c.deref.ensures.value at c.in-Some.ensures.some in
-    rw here at (rw (← c.self.view_is) at c.requires.follows c.args.place)

@@ -1,0 +1,2 @@
+-- what its own functions say of each other
+pub mod Twos
