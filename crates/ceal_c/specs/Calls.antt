@@ -15,7 +15,7 @@ use Rattle.ceal_session.specs.SessionState.{Held, situation}
 use Rattle.ceal_session.specs.State.{State, numbers_in}
 use Rattle.ceal_session.specs.Steps.{refuses, step_of_set}
 use Rattle.ceal_session.specs.Values.{handle_of_command, number_of_command, number_of_sense, sense_of_handle}
-use Rattle.ceal_session.specs.declared.reply.Reply.TheVariants.{Ok as IsOk}
+use Rattle.ceal_session.specs.declared.reply.Reply.TheVariants.{Ok as OkReply}
 use Rattle.ceal_session.specs.declared.sense.Sense.TheVariants.{Word as IsWord}
 use Rattle.ceal_theory.specs.Pasts.{goes}
 use Rattle.ceal_c.specs.Handles.{handle_at}
@@ -88,7 +88,7 @@ ToldOf s command before status number = ⊥
 -- a modifiable was given another base, or not
 abbrev pub HasSet : Open → ℕ → ℤ → Status → Open → Type 0
 HasSet old handle number Done new =
-    (record { reply = IsOk; state = new.session.state }
+    (record { reply = OkReply; state = new.session.state }
     ≡ step_of_set old.session.state (sense_of_handle old.session.state (handle_at handle)) (IsWord (Num number)))
     × (new.reply ≡ old.reply)
 HasSet old handle number (Refused r) new =
