@@ -1,6 +1,6 @@
 -- One phase after another: what the first answers decides what all come to.
-use Rattle.std.proofs.Common.{◌≡◌, Bool, Result, Ok, Err, List, ℕ, refl, inl, inr}
-use Rattle.ceal_base.specs.Answers.{Gives, Fails}
+use Rattle.std.proofs.Common.{◌≡◌, Bool, Result, Ok, Err, List, ℕ, refl, sym, inl, inr}
+use Rattle.ceal_base.specs.Answers.{Gives, Fails, IfFault}
 use Rattle.ceal_base.specs.declared.fault.Fault.{Fault}
 use Rattle.ceal_base.specs.declared.fault.FrontError.{FrontError}
 use Rattle.ceal_base.specs.declared.fault.FrontError.TheVariants.{Memory, Fault as FaultError}
@@ -12,11 +12,37 @@ use Rattle.ceal_lex.specs.Faults.{IsFirstFault as IsFirstMisspelling}
 use Rattle.ceal_lex.specs.Parts.{IsSplit, source_of}
 use Rattle.ceal_lex.specs.Tokens.{AreTokens}
 use Rattle.ceal_grammar.specs.Faults.{Accepts, IsFirstFault}
-use Rattle.ceal_compile.specs.Phases.{settled, TokensCome}
+use Rattle.ceal_types.specs.Checked.{checked}
+use Rattle.ceal_compile.specs.Phases.{ruled, settled, TokensCome}
 use Rattle.ceal_compile.specs.Source.{PartComes, Comes}
 
 abbrev pub Answer : Type 0
 Answer = Result Typed Fault
+
+-- an error that is handed on
+pub given_back : (answer : Result Typed FrontError) (e : FrontError) (r : Answer) → answer ≡ Err e → Fails e r → Gives answer r
+given_back answer e r same fails = rw same fails
+
+-- the rules are those of the program that names and types give
+pub settled_as : (tree : Tree) (p : Typed) (r : Answer) → checked tree ≡ Ok p → ruled p ≡ r → settled tree ≡ r
+settled_as tree p r named same = rw (settled, named) same
+
+-- a fault of names or types is the first one
+pub settled_fails : (tree : Tree) (e : FrontError) → Fails e (checked tree) → Fails e (settled tree)
+settled_fails tree Memory fails = tt
+settled_fails tree (FaultError f) fails = rw (settled, fails) refl
+
+-- what a part comes to whose tree was read
+pub comes_of : (input : List ℕ) (part : Split) (ts : List Token) (tree : Tree) (r : Answer) → AreTokens (source_of input part) part.marked ts
+    → Accepts ts tree → settled tree ≡ r → PartComes input part r
+comes_of input part ts tree r lexed accepted same =
+    inr (record { tokens = ts; lexed = lexed; come = inr (record { tree = tree; accepted = accepted; same = sym same }) })
+
+pub faults_of : (input : List ℕ) (part : Split) (ts : List Token) (tree : Tree) (answer : Result Typed FrontError) (e : FrontError)
+    → answer ≡ Err e → AreTokens (source_of input part) part.marked ts → Accepts ts tree → Fails e (settled tree)
+    → IfFault answer (λ f. PartComes input part (Err f))
+faults_of input part ts tree answer Memory same lexed accepted fails = rw same tt
+faults_of input part ts tree answer (FaultError f) same lexed accepted fails = rw same (comes_of input part ts tree (Err f) lexed accepted fails)
 
 -- after the tree that was read
 pub tree_only : (ts : List Token) (tree : Tree) (answer : Result Typed FrontError)

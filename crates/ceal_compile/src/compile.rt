@@ -1,24 +1,20 @@
 // The phases, one after the other.
 
 ghost use Rattle.std.specs.Prelude.{◌≡◌, ◌<◌, ◌^◌, Result as ResultOf, Ok as OkOf, Err as ErrOf, List, ℕ, true, length};
-ghost use Rattle.std.specs.Prelude.{IfOk};
+ghost use Rattle.std.specs.Prelude.{IfOk, IfErr};
 ghost use Rattle.ceal_base.specs.Answers.{Gives, IfFault};
-ghost use Rattle.ceal_base.specs.Usage.{KeepsUsage};
 ghost use Rattle.ceal_base.specs.WellTyped.{WellTyped};
 ghost use Rattle.ceal_base.specs.declared.fault.Fault.{Fault as FaultRecord};
 ghost use Rattle.ceal_base.specs.declared.typed.Typed.{Typed as TypedRecord};
 ghost use Rattle.ceal_code.specs.Valid.{valid};
 ghost use Rattle.ceal_lex.specs.Parts.{IsSplit};
-ghost use Rattle.ceal_lex.specs.Tokens.{IsEnded};
-ghost use Rattle.ceal_types.specs.Limits.{HasShortLists};
 ghost use Rattle.ceal_compile.specs.Compiled.{IsCodeOf, IsCompiled, Means, typed_of};
-ghost use Rattle.ceal_compile.specs.Phases.{counted, ruled, settled, IsChecked, TokensCome};
+ghost use Rattle.ceal_compile.specs.Phases.{ruled, IsChecked};
 ghost use Rattle.ceal_compile.specs.Source.{Comes, IsFirstFault, IsProgram, PartComes};
 
 use crate::program::Program;
-use ceal_base::fault::FrontError;
+use ceal_base::fault::{Fault, FrontError};
 use ceal_base::no_memory::NoMemory;
-use ceal_base::syntax::Tree;
 use ceal_base::typed::Typed;
 use ceal_code::code::Code;
 use ceal_flow::lower::{check_limit, graph};
@@ -26,7 +22,6 @@ use ceal_fold::fold::fold;
 use ceal_lex::lex::lex;
 use ceal_lex::parts::Split;
 use ceal_lex::split::{one_split, split};
-use ceal_lex::token::Tokens;
 use ceal_live::live::live;
 use ceal_norm::normalise::normalise;
 use ceal_parse::parse::parse_owned;
@@ -34,65 +29,18 @@ use ceal_types::check::check;
 use ceal_usage::check::check_usage;
 use std::alloc::Global;
 
-/// The program, where its graph has no more blocks than are allowed.
-fn limited(program: Typed) -> Result<Typed, FrontError>
-    requires typed { WellTyped program }
-    requires usage { KeepsUsage program }
-    ensures value { Gives result (counted program) }
-    ensures checked { IfOk result IsChecked }
+/// The rules of usage, and then the limit on blocks.
+fn check_rules(program: &Typed) -> Result<(), Fault>
+    requires { WellTyped program.now }
+    ensures kept { IfOk result (λ _. ruled program.now ≡ OkOf program.now) }
+    ensures checked { IfOk result (λ _. IsChecked program.now) }
+    ensures broken { IfErr result (λ fault. ruled program.now ≡ ErrOf fault) }
 {
-    match check_limit(&program) {
-        Ok(()) => Ok(program),
-        Err(fault) => {
-            drop(program);
-            Err(FrontError::Fault(fault))
-        }
-    }
+    check_usage(program)?;
+    check_limit(program)
 }
 
-/// The program, where it keeps the rules of usage, and then the limit.
-fn kept(program: Typed) -> Result<Typed, FrontError>
-    requires { WellTyped program }
-    ensures value { Gives result (ruled program) }
-    ensures checked { IfOk result IsChecked }
-{
-    match check_usage(&program) {
-        Ok(()) => limited(program),
-        Err(fault) => {
-            drop(program);
-            Err(FrontError::Fault(fault))
-        }
-    }
-}
-
-/// Names and types, then the rules of usage, then the limit.
-fn settle(alloc: Global, tree: Tree) -> Result<Typed, FrontError>
-    requires { HasShortLists tree }
-    ensures value { Gives result (settled tree) }
-    ensures checked { IfOk result IsChecked }
-{
-    match check(alloc, tree) {
-        Ok(program) => kept(program),
-        Err(error) => Err(error),
-    }
-}
-
-/// All that comes after the tokens.
-fn read_tokens(alloc: Global, tokens: Tokens) -> Result<Typed, FrontError>
-    requires { IsEnded tokens }
-    ensures found { IfOk result (λ program. TokensCome tokens (OkOf program)) }
-    ensures checked { IfOk result IsChecked }
-    ensures fault { IfFault result (λ fault. TokensCome tokens (ErrOf fault)) }
-    ensures only { (r : ResultOf TypedRecord FaultRecord) → TokensCome tokens r
-        → Gives result r }
-{
-    match parse_owned(alloc, tokens) {
-        Ok(tree) => settle(alloc, tree),
-        Err(error) => Err(error),
-    }
-}
-
-/// What a part of an input comes to.
+/// What a part of an input comes to: its tokens, their tree, its names and types, and the rules that it keeps.
 fn read_part(alloc: Global, input: &[u8], part: &Split) -> Result<Typed, FrontError>
     requires { IsSplit input.now part.now }
     ensures found { IfOk result (λ program. PartComes input.now part.now (OkOf program)) }
@@ -101,9 +49,15 @@ fn read_part(alloc: Global, input: &[u8], part: &Split) -> Result<Typed, FrontEr
     ensures only { (r : ResultOf TypedRecord FaultRecord) → PartComes input.now part.now r
         → Gives result r }
 {
-    match lex(alloc, input, part) {
-        Ok(tokens) => read_tokens(alloc, tokens),
-        Err(error) => Err(error),
+    let tokens = lex(alloc, input, part)?;
+    let tree = parse_owned(alloc, tokens)?;
+    let program = check(alloc, tree)?;
+    match check_rules(&program) {
+        Ok(()) => Ok(program),
+        Err(fault) => {
+            drop(program);
+            Err(FrontError::Fault(fault))
+        }
     }
 }
 
