@@ -5,6 +5,7 @@ pub mod Covered
 pub mod Chain
 pub mod Kept
 pub mod Looks
+pub mod Room
 pub mod Woken
 pub mod AsItems
 pub mod Words
