@@ -19,6 +19,7 @@ pub mod Entries
 pub mod SaveLaws
 pub mod Strangers
 pub mod Bounded
+pub mod UpdateCost
 pub mod Values
 -- what its own functions say of each other
 pub mod UndoneEdits

@@ -7,6 +7,7 @@ ghost use Rattle.ceal_session.specs.Laws.{KeptHandleLaw};
 ghost use Rattle.ceal_session.specs.Entries.{EntriesLaw, OneTextLaw};
 ghost use Rattle.ceal_session.specs.SaveLaws.{AlikeLaw, HeldLaw, OneSavedLaw, ResavedLaw, ResumedLaw, SavedLaw};
 ghost use Rattle.ceal_session.specs.Strangers.{StrangerLaw};
+ghost use Rattle.ceal_session.specs.UpdateCost.{UpdateCostLaw};
 
 /// A law: a line is one command's at most, and has one reply by a state and its numbers; so it has one in a situation,
 /// and one situation after it.
@@ -89,6 +90,14 @@ pub fn bounded_law()
     ceal_show::laws::fitting_is_whole();
     ceal_show::laws::some_text();
     one_reply();
+}
+
+/// A law: what an update of a finished run looks at and touches is paid by the edits, by the cost of the two first
+/// traces side by side and by the reads that are apart in them, whatever updates came before.
+pub fn update_cost_law()
+    ensures law { UpdateCostLaw }
+{
+    ceal_engine::laws::cost_law();
 }
 
 /// A law: the save of a session is that of the situation that it is in, and a situation has one save at most.
