@@ -13,3 +13,4 @@ pub mod BoundedReplies
 pub mod KeptBound
 pub mod NumberAsPrinted
 pub mod HandleStays
+pub mod FramedReplies

@@ -15,6 +15,8 @@ pub mod Consistency
 pub mod RunRecord
 pub mod SessionSave
 pub mod Laws
+pub mod PartLaws
+pub mod Framing
 pub mod Entries
 pub mod SaveLaws
 pub mod Strangers

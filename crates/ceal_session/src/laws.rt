@@ -1,9 +1,11 @@
 // The laws of replies, each the contract of a function that does nothing but call the laws on which it rests.
 
 ghost use Rattle.ceal_session.specs.Bounded.{BoundedLaw};
+ghost use Rattle.ceal_session.specs.Framing.{FramedLaw};
 ghost use Rattle.ceal_session.specs.Laws.{OneCommandLaw, OneAnswerLaw, OneReplyLaw, OneStateLaw, OneScriptLaw};
 ghost use Rattle.ceal_session.specs.Laws.{JoinedLaw, BegunLaw, SomeReplyLaw, SomeScriptLaw, DroppedLaw, KeptLaw};
 ghost use Rattle.ceal_session.specs.Laws.{KeptHandleLaw};
+ghost use Rattle.ceal_session.specs.PartLaws.{PartsAreWholeLaw, PartsEndLaw};
 ghost use Rattle.ceal_session.specs.Entries.{EntriesLaw, OneTextLaw};
 ghost use Rattle.ceal_session.specs.SaveLaws.{AlikeLaw, HeldLaw, OneSavedLaw, ResavedLaw, ResumedLaw, SavedLaw};
 ghost use Rattle.ceal_session.specs.Strangers.{StrangerLaw};
@@ -137,4 +139,24 @@ pub fn kept_handle()
     ceal_script::line::command_or_none();
     ceal_show::laws::fitting_is_whole();
     ceal_show::laws::some_text();
+}
+
+/// A law: there is an end of lines `propagate READS`, since each that is answered `more` leaves fewer reads from the
+/// first stale one on; and they end in the situation in which one line `propagate` ends.
+pub fn sliced_law()
+    ensures end { PartsEndLaw }
+    ensures whole { PartsAreWholeLaw }
+{
+    ceal_code::laws::progress_law();
+    ceal_script::line::command_or_none();
+    ceal_show::laws::fitting_is_whole();
+    ceal_show::laws::some_text();
+    one_reply();
+}
+
+/// A law: how much there is to read of each reply.
+pub fn framed_law()
+    ensures law { FramedLaw }
+{
+    one_reply();
 }
