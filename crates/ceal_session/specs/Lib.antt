@@ -22,6 +22,7 @@ pub mod SaveLaws
 pub mod Strangers
 pub mod Bounded
 pub mod Values
+pub mod Marks
 -- what its own functions say of each other
 pub mod UndoneEdits
 pub mod Journal
