@@ -4,7 +4,7 @@ ghost use Rattle.ceal_session.specs.Bounded.{BoundedLaw};
 ghost use Rattle.ceal_session.specs.Framing.{FramedLaw};
 ghost use Rattle.ceal_session.specs.Laws.{OneCommandLaw, OneAnswerLaw, OneReplyLaw, OneStateLaw, OneScriptLaw};
 ghost use Rattle.ceal_session.specs.Laws.{JoinedLaw, BegunLaw, SomeReplyLaw, SomeScriptLaw, DroppedLaw, KeptLaw};
-ghost use Rattle.ceal_session.specs.Laws.{KeptHandleLaw};
+ghost use Rattle.ceal_session.specs.Laws.{KeptByEditLaw, KeptEditLaw, KeptHandleLaw};
 ghost use Rattle.ceal_session.specs.PartLaws.{PartsAreWholeLaw, PartsEndLaw};
 ghost use Rattle.ceal_session.specs.Entries.{EntriesLaw, OneTextLaw};
 ghost use Rattle.ceal_session.specs.SaveLaws.{AlikeLaw, HeldLaw, OneSavedLaw, ResavedLaw, ResumedLaw, SavedLaw};
@@ -134,6 +134,18 @@ pub fn stranger_law()
 /// A law: a modifiable stays one after each line, so a handle stands for the same as long as its session.
 pub fn kept_handle()
     ensures law { KeptHandleLaw }
+{
+    ceal_code::laws::progress_law();
+    ceal_script::line::command_or_none();
+    ceal_show::laws::fitting_is_whole();
+    ceal_show::laws::some_text();
+}
+
+/// A law: a session that is in a situation is in the next one after an edit by a handle, as `set_number` makes it; and
+/// a modifiable stays one.
+pub fn kept_edit()
+    ensures law { KeptEditLaw }
+    ensures handle { KeptByEditLaw }
 {
     ceal_code::laws::progress_law();
     ceal_script::line::command_or_none();

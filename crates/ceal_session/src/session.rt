@@ -13,6 +13,8 @@ ghost use Rattle.ceal_session.specs.Marks.{AreChanged, HoldsNumbers, IsMarked, K
 ghost use Rattle.ceal_session.specs.Questions.{CanTell, IsReady};
 ghost use Rattle.ceal_session.specs.AfterLine.{IsAllowed, situation_at_start, KeepsRuns, IsAfterLine, Bounds};
 ghost use Rattle.ceal_session.specs.AfterLine.{IsAfterNoMemory};
+ghost use Rattle.ceal_session.specs.Consistency.{IsIn, IsInSome};
+ghost use Rattle.ceal_session.specs.Laws.{AnswersIn};
 ghost use Rattle.ceal_session.specs.SessionState.{IsTied, situation};
 ghost use Rattle.ceal_session.specs.InputNames.{AreSpelled};
 ghost use Rattle.ceal_session.specs.RunRecord.{IsRecorded};
@@ -20,7 +22,7 @@ ghost use Rattle.ceal_session.specs.Replies.{Answers, Reads};
 ghost use Rattle.ceal_session.specs.SessionSave.{SaveHolds, IsResumed, IsSaved};
 ghost use Rattle.ceal_session.specs.Steps.{IsQuiet, refuses, reply_to_query, step_of_set};
 ghost use Rattle.ceal_session.specs.Texts.{IsText};
-ghost use Rattle.ceal_session.specs.State.{numbers_in};
+ghost use Rattle.ceal_session.specs.State.{Situation as SituationOf, numbers_in};
 ghost use Rattle.ceal_session.specs.Values.{handle_of_command, sense_of_handle, Gives, IfRefused};
 ghost use Rattle.ceal_session.specs.Values.{number_of_sense, number_of_command};
 ghost use Rattle.ceal_session.specs.declared.reply.Query.{Query as QueryOf};
@@ -31,6 +33,7 @@ ghost use Rattle.ceal_theory.specs.Pasts.{goes};
 use crate::answer::Answer;
 use crate::commands::reply_to;
 use crate::handle::Handle;
+use crate::laws::{kept_edit, kept_line, some_reply};
 use crate::marks::{changed, mark};
 use crate::refusal::{Refusal, text as refusal_line};
 use crate::reply::Reply;
@@ -71,7 +74,8 @@ pub struct Session {
 }
 
 impl Model for Session {
-    ghost use Rattle.ceal_session.specs.SessionState.{Held};
+    ghost use Rattle.ceal_session.specs.Consistency.{IsInSome};
+    ghost use Rattle.ceal_session.specs.SessionState.{Held, situation};
     ghost use Rattle.ceal_base.specs.contracts.typed.TypedStmt as statement;
     ghost use Rattle.ceal_code.specs.contracts.expr.CodeExpr as expr;
     ghost use Rattle.ceal_code.specs.contracts.function.InitStmt as initialising;
@@ -84,6 +88,8 @@ impl Model for Session {
 
     ghost view = { λ s. s.state };
 
+    // it is in a situation
+    ghost invariant = { λ s. IsInSome (situation s.state) };
 }
 
 /// How many bytes an answer has at most after which the session is another one.
@@ -210,18 +216,24 @@ impl Session {
         ensures state { IfOk result
             (λ session. situation session ≡ situation_at_start program fuel) }
     {
+        // for the proof: a session is in a situation when it begins
+        some_reply();
         let state = State::new(alloc, program, fuel, seed)?;
         Ok(Session { state, alloc })
     }
 
     /// The answer to a line, which has no line end: the reply with its line feed, and nothing for a blank line. After
     /// running out of memory the session is as before, or, where the line was an accepted `run` or `propagate`, as
-    /// after out of fuel. An answer of more than 12 bytes leaves the session as it was.
+    /// after out of fuel. An answer of more than 12 bytes leaves the session as it was. The clause `answers` is the
+    /// theorem of replies: in each situation that the session is in, the line is answered as is said there.
     pub fn answer(&mut self, line: &[u8]) -> Result<Answer, NoMemory>
         ensures reply { IfOk result
             (λ answer. Answers self.old.state
             (numbers_in (situation self.old)) (goes (situation self.new).past)
             line.now answer self.new.state) }
+        ensures answers { IfOk result
+            (λ answer. (m : SituationOf) → IsIn (situation self.old) m
+            → AnswersIn m line.now answer (situation self.new)) }
         ensures long { IfOk result (λ answer. 12 < length answer → self.new ≡ self.old) }
         ensures trace { OnOk result
             (IsAfterLine (situation self.old) line.now (situation self.new)) }
@@ -232,6 +244,9 @@ impl Session {
         ensures left { OnErr result
             (IsAfterNoMemory (situation self.old) line.now (situation self.new)) }
     {
+        // for the proof: a session that is in a situation is in one after the line, too
+        kept_line();
+        some_reply();
         answer_line(self.alloc, &mut self.state, line)
     }
 
@@ -241,6 +256,9 @@ impl Session {
             (λ text. Answers self.old.state
             (numbers_in (situation self.old)) (goes (situation self.new).past)
             line.now text self.new.state) }
+        ensures answers { IfOk result
+            (λ text. (m : SituationOf) → IsIn (situation self.old) m
+            → AnswersIn m line.now text (situation self.new)) }
         ensures trace { OnOk result
             (IsAfterLine (situation self.old) line.now (situation self.new)) }
         ensures cost { OnOk result (CostOfCall self.old.engine self.new.engine) }
@@ -302,6 +320,8 @@ impl Session {
         ensures marked { self.new.engine.marked ≡ self.old.engine.marked }
         ensures err { OnErr result (self.new ≡ self.old) }
     {
+        // for the proof: a session that is in a situation is in one after the edit, too
+        kept_edit();
         set_number(&mut self.state, handle, number)
     }
 
@@ -341,10 +361,11 @@ impl Session {
 
     /// Whether questions are answered: there is a run that ended within the fuel, and neither an edit nor a repair is
     /// pending. The contract also says that the state has the fuel, the inputs and the call of the engine, and tells
-    /// its phase.
+    /// its phase; and that there is a situation that the session is in, to which the laws of replies apply.
     pub fn is_ready(&self) -> bool
         ensures ready { IsTrue result ↔ IsReady self.now.state }
         ensures tied { IsTied self.now }
+        ensures sound { IsInSome (situation self.now) }
     {
         self.state.is_ready()
     }
