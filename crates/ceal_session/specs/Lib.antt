@@ -17,6 +17,7 @@ pub mod SessionSave
 pub mod Laws
 pub mod Entries
 pub mod SaveLaws
+pub mod SavedAgain
 pub mod Strangers
 pub mod Bounded
 pub mod Values

@@ -6,6 +6,7 @@ ghost use Rattle.ceal_session.specs.Laws.{JoinedLaw, BegunLaw, SomeReplyLaw, Som
 ghost use Rattle.ceal_session.specs.Laws.{KeptHandleLaw};
 ghost use Rattle.ceal_session.specs.Entries.{EntriesLaw, OneTextLaw};
 ghost use Rattle.ceal_session.specs.SaveLaws.{AlikeLaw, HeldLaw, OneSavedLaw, ResavedLaw, ResumedLaw, SavedLaw};
+ghost use Rattle.ceal_session.specs.SavedAgain.{BecomeLaw, BecomesLaw, SavedAfterLaw, SavedAgainLaw};
 ghost use Rattle.ceal_session.specs.Strangers.{StrangerLaw};
 
 /// A law: a line is one command's at most, and has one reply by a state and its numbers; so it has one in a situation,
@@ -114,6 +115,20 @@ pub fn resumed_law()
     ceal_theory::names::renaming_law();
     alike_law();
     saved_law();
+}
+
+/// A law: a session that was resumed may be saved again after more lines, as often as one likes. Its save is then, to
+/// the last number, that of a session that carried out all of these lines without a stop.
+pub fn saved_again_law()
+    ensures after { SavedAfterLaw }
+    ensures again { SavedAgainLaw }
+    ensures line { BecomesLaw }
+    ensures lines { BecomeLaw }
+{
+    kept_line();
+    one_script();
+    saved_law();
+    resumed_law();
 }
 
 /// A law: of a save that holds, whoever wrote it, nothing but its work and its bound is believed, and these until the
