@@ -57,16 +57,16 @@ def remember(path, text):
 
 
 class Program:
-    """A program, and the sums and stats of the sources that it was made of; `parts` are the folders of a crate that count."""
+    """A program, and the sums and stats of the sources that it was made of: the crate `top` and those below it, of which the folders `parts` count."""
 
-    def __init__(self, name, folder, parts):
-        self.name, self.path, self.parts = name, folder / name, parts
+    def __init__(self, name, folder, parts, top=None):
+        self.name, self.path, self.parts, self.top = name, folder / name, parts, top or name
         self.built, self.seen = folder / f'{name}.built', folder / f'{name}.seen'
 
     def sources(self):
         """The sources of the program, as paths from the top."""
         yield 'crates.txt'
-        for crate in crates(self.name):
+        for crate in crates(self.top):
             for part in self.parts:
                 for folder, folders, names in os.walk(TOP / 'crates' / crate / part):
                     folders.sort()
@@ -99,7 +99,7 @@ class Program:
                         yield line(it.path, it.stat())
 
         lines = [line(it, os.stat(it)) for it in (TOP / 'crates.txt', self.path, self.built)]
-        for crate in crates(self.name):
+        for crate in crates(self.top):
             for folder in (f'{TOP}/crates/{crate}/{part}' for part in self.parts):
                 lines += below(folder) if os.path.isdir(folder) else ()
         return '\n'.join(lines)

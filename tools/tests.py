@@ -2,7 +2,8 @@
 
 A part is the rows, the tests of a crate, the pages, the streams of the program, the server, its client in Python with the jobs of
 examples/, the library for C, or `./run` itself. Where the proved programs are there they answer; else their drafts do, which are made first.
-Where no draft can be made, `rt try` answers the rows and `./run`, and compiles each part again. The library is tried where it is proved.
+Where no draft can be made, `rt try` answers the rows and `./run`, and compiles each part again. The library for C is tried where there is a
+C compiler; its part makes the draft, if that is what is tried.
 """
 import os, re, subprocess, sys, tempfile, time
 

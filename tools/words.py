@@ -11,7 +11,7 @@ USAGE = """usage: ./run FILE ..                   runs programs with their scrip
        ./run resume FILE SAVE SCRIPT   the same, where source text and save are two files
        ./run gen KIND SEED SIZE        runs a generated workload: list or tree
        ./run --test                    runs the tests that need no proof
-       ./run --draft                   compiles the program and the server once, with no proof, and keeps them
+       ./run --draft                   compiles the program, the server and the library for C once, with no proof, and keeps them
        ./run --build                   proves and builds the program and the server
        ./run --install FOLDER          puts the proved program and the server into a folder
        ./run --version                 says which version this is
