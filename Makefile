@@ -50,7 +50,7 @@ check: ## proves CRATE=ceal_base and the crates below it, over what earlier chec
 edits: ## tries the wrong bodies of CRATE=ceal_base, which its contracts must refuse
 	rt must-fail $(CRATE)
 
-plants: ## tries many more wrong bodies of CRATE=ceal_base, and writes its row of docs/PLANTS.md (long)
+plants: ## tries many more wrong bodies of CRATE=ceal_base, and writes its row of .ci/plants.md (long)
 	.ci/plants $(CRATE)
 
 gate: ## the merge gate: all proofs, edits, tests and programs, and then the lint and the tests (long)

@@ -1,5 +1,5 @@
 #!/usr/bin/env python3
-"""Measures what a person feels, in seconds, on an idle machine, and writes bench/seconds.md, which docs/PERFORMANCE.md takes over.
+"""Measures what a person feels, in seconds, on an idle machine, and writes bench/seconds.md, and its first table into docs/PERFORMANCE.md.
 
     bench/seconds.py [PROGRAM]
 
@@ -7,9 +7,10 @@ A machine is idle if hardly anything ran in the last minute (the load of /proc/l
 measures nothing and ends with 1: differences of times on a busy machine say nothing. Each time is the middle one of many tries, and is
 written with the spread of the tries; one that is smaller than its spread is written as less than the spread.
 """
-import datetime, os, pathlib, statistics, sys, tempfile, time
+import datetime, os, pathlib, statistics, sys
 
 from measuring import Failed, Program, identity
+from pages import folded, put
 from tables import table
 from workloads import PROGRAMS, RUN, TOP, input_of, large_sources
 
@@ -83,13 +84,21 @@ def main(words):
     if load() > IDLE:
         sys.exit(f'bench/seconds.py: the machine is busy (load {load()}), so nothing was measured')
     program = Program(words[0] if words else str(TOP / 'crates/ceal/out/ceal'))
-    text = table(['What', 'Processor time'], [list(it) for it in rows_of(program)])
-    text += '\nThe time of one step of a first run, at two sizes (the middle ones of 45 and of 9 tries):\n\n'
-    text += table(['Program', 'Steps', 'a step', 'Steps', 'a step', 'grows'], [list(it) for it in growth_of(program)])
-    head = f'Measured on {datetime.date.today().isoformat()}, on an idle machine with {os.cpu_count()} processors, with the program whose SHA-256 begins with {identity(program)}. '
-    head += f'A time is the middle one of {TRIES}, with half of their spread.\n\n'
-    OUT.write_text(head + text, encoding='utf-8')
+    felt = table(['What', 'Processor time'], [list(it) for it in rows_of(program)])
+    steps = table(['Program', 'Steps', 'a step', 'Steps', 'a step', 'grows'], [list(it) for it in growth_of(program)])
+    head = f'Measured on {datetime.date.today().isoformat()}, on an idle machine with {os.cpu_count()} processors, with the program whose '
+    head += f'SHA-256 begins with {identity(program)}. A time is the middle one of {TRIES}, with half of their spread.\n\n'
+    text = f'''# What a person feels
+
+`bench/seconds.py` writes this file.
+
+{head}{felt}
+The time of one step of a first run, at two sizes (the middle ones of 45 and of 9 tries):
+
+{steps}'''
     print(text, end='')
+    OUT.write_text(folded(text), encoding='utf-8')
+    put('seconds', head + felt)
 
 
 if __name__ == '__main__':

@@ -12,9 +12,9 @@
         c['b']                      # 10
 
 A `Ceal` starts the program `ceal_serve`, writes the source text to it and then a line for each call, and waits for the
-reply to the line. The lines and their replies are those of docs/SCRIPT.md; docs/PYTHON.md is the page of this module,
-and says what holds of interrupts, threads and journals. It needs nothing but Python's own library, and a built
-`ceal_serve`.
+reply to the line. The lines and their replies are those of docs/SCRIPT.md; docs/TOOLS.md, 'CEAL from Python', says what
+this module does, and what holds of interrupts, threads and journals. It needs nothing but Python's own library, and a
+built `ceal_serve`.
 
 Values are Python's: an `int` is a number, `None` is null, and a `str` is the name of an input (`'b7'`) or of a place in
 one (`'b7.tail'`, `'b7.price[2]'`). What a call returns in their place (an `Input`, a `Node`) can be passed wherever a

@@ -4,7 +4,7 @@ import os, pathlib, re, signal, subprocess, sys, time
 from tools.programs import PROVED, TOP, remember, why_unproved
 
 TRIED = TOP / 'crates/ceal/out/ceal.tried'
-# What the build takes: the sum of the first proofs of its crates, which were measured one by one (docs/GATE.md).
+# What the build takes: the sum of the first proofs of its crates, which were measured one by one (.ci/gate.md).
 BUILD_COST = 'some 90 minutes of processor time, and up to 5 GB of memory'
 TRY_COST = 'one to three minutes'
 WRITE_FAULT = 6  # (the status of a program whose output could not be written)

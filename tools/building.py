@@ -15,7 +15,7 @@ BY_BUILD, BY_GATE = './run --build', '.ci/run'
 # What `rt all check` says of a crate: its head and the last line of its proof, which is not there where the proof was kept; at the end, that all is well.
 VERDICT, GOOD = re.compile(r'^== (\w+)$|^(logic=.*)$', re.M), re.compile(r'^(\w+): ok$', re.M)
 BY_PROOF, KEPT = 'logic=proved ', 'ok, by the proof that rt kept'
-# No process of a proof was seen to take much more gigabytes (docs/GATE.md).
+# No process of a proof was seen to take much more gigabytes (.ci/gate.md).
 MEMORY = 5
 
 

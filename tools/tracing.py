@@ -1,6 +1,6 @@
 """Draws a trace: the reads of a run as intervals along its steps, and what the last update of a script did to it.
 
-A trace is had as a dump (docs/DUMP.md). For an update there are two, of the trace before and after it. They are gone through side by side by
+A trace is had as a dump (docs/SAVES.md). For an update there are two, of the trace before and after it. They are gone through side by side by
 the rules of repair (docs/REPAIR.md), which say what was kept, reused, re-executed and revoked; the steps re-executed are the update's work.
 """
 import bisect, collections, html, re
