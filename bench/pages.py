@@ -1,4 +1,5 @@
-"""Writes what was measured: the files of bench/ with all tables, and the parts of docs/PERFORMANCE.md that say them in short."""
+"""Writes what was measured: the files of bench/ with all tables, and the parts of docs/PERFORMANCE.md that say them in
+short."""
 import itertools
 import textwrap
 

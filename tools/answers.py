@@ -146,7 +146,13 @@ def is_unread():
 def tried(words, folder, **how):
     """Runs `rt try` with the given words; returns what the program, and what `rt` wrote on standard error."""
     with open(f'{folder}/out', 'w+b') as out, open(f'{folder}/err', 'w+b') as err:
-        how, begun = {'stdin': subprocess.DEVNULL, 'stdout': out, 'stderr': err, 'cwd': TOP / 'crates/ceal', **how}, time.monotonic()
+        how, begun = {
+            'stdin': subprocess.DEVNULL,
+            'stdout': out,
+            'stderr': err,
+            'cwd': TOP / 'crates/ceal',
+            **how,
+        }, time.monotonic()
         wait(start(['rt', 'try', '--steps', '1', '--seconds', '600', *words], **how), 'compiling, with no proof')
         remember(TRIED, shown_time(time.monotonic() - begun))
         out.seek(0)
@@ -161,7 +167,7 @@ def by_try(calls):
     with tempfile.TemporaryDirectory(prefix='ceal-') as folder:
         if len(calls) > 1:
             return by_cases(calls, folder)
-        (words, given), = calls
+        ((words, given),) = calls
         with given.stream() as stream:
             output, errors = tried(['--', *words], folder, stdin=stream)
     found = LINE.search(errors)
@@ -217,7 +223,11 @@ def answers(calls, is_kept=True):
     if program:
         return [by_program(program, words, given, is_kept) for words, given in calls]
     last = f', {TRIED.read_text()} the last time' if TRIED.is_file() else ''
-    print(f'run: now all is compiled, as in each such call, in {TRY_COST}{last}; ./run FILE FILE .. compiles once for several', file=sys.stderr, flush=True)
+    print(
+        f'run: now all is compiled, as in each such call, in {TRY_COST}{last}; ./run FILE FILE .. compiles once for several',
+        file=sys.stderr,
+        flush=True,
+    )
     got = by_try(calls)
     if not is_kept:
         for it in got:

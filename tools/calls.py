@@ -4,7 +4,11 @@ import re, subprocess, sys, threading
 from tools.programs import TOP
 
 RUN = str(TOP / 'run')
-PYTHON = (sys.executable, '-S', '-B')  # (which starts sooner than by the first line of ./run; a link and signals are tried by that)
+PYTHON = (
+    sys.executable,
+    '-S',
+    '-B',
+)  # (which starts sooner than by the first line of ./run; a link and signals are tried by that)
 # What a draft tells of itself, before all else.
 BY_DRAFT = re.compile(r'run: not proved: draft/.*\n')
 SOON = 60  # (seconds in which is refused what is refused at once)

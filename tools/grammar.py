@@ -11,15 +11,21 @@ TOKEN = re.compile(
     r'|(?P<sign>->|&&|\|\||==|!=|<=|>=|[<>+\-*/%!&=(){},;\[\]])',
     re.S,
 )
-RESERVED = frozenset('struct int mod ceal init self read write alloc modref if else while return null break continue'.split())
+RESERVED = frozenset(
+    'struct int mod ceal init self read write alloc modref if else while return null break continue'.split()
+)
 LEVELS = (('||',), ('&&',), ('==', '!='), ('<', '<=', '>', '>='), ('+', '-'), ('*', '/', '%'))
 # What can come at a place is told by the words and signs themselves, or by one of these.
 NAME, NUMBER, END = 'a name', 'a number', 'the line %%'
 
 # A token's kind is that of its pattern, `name` for a word that is not reserved, `end` for the line %%, or `bad` for a byte that begins none.
 Token = namedtuple('Token', 'kind text line column')
-Field = namedtuple('Field', 'name form type length')  # (the form is plain, mod or row; the type is its own, or what it holds)
-Function = namedtuple('Function', 'kind name parameters body')  # (parameters are pairs of a type and a name; `self` is the first of an `init`)
+Field = namedtuple(
+    'Field', 'name form type length'
+)  # (the form is plain, mod or row; the type is its own, or what it holds)
+Function = namedtuple(
+    'Function', 'kind name parameters body'
+)  # (parameters are pairs of a type and a name; `self` is the first of an `init`)
 Program = namedtuple('Program', 'structs functions')
 Reading = namedtuple('Reading', 'program tokens at wanted first value level')  # (at is where it ends early, or None)
 

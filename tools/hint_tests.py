@@ -101,7 +101,13 @@ def of_lines(made):
         path = folder / f'{name}.ceal'
         path.write_text(f'ceal f(mod int *m) {{ }}\n%%\nmod m int 1\n{line}\n')
         call(name, ['--strict', str(path)], 67, None, [f'run: {path}:4: {line}: refused C', why])
-    call('many without a session', ['many', 'examples/inc.ceal'], 0, b'refused C1: unreadable line\n' * 8, 'no line names its session')
+    call(
+        'many without a session',
+        ['many', 'examples/inc.ceal'],
+        0,
+        b'refused C1: unreadable line\n' * 8,
+        'no line names its session',
+    )
     call('--beside many without a session', ['many', '--beside', 'examples/inc.ceal'], 0, None)
 
 
@@ -113,7 +119,10 @@ def excerpts(made):
     said = call('a long line with a fault', ['check', str(path)], 1, None, 'run:   .. ')
     given = Input('x', path.read_bytes())
     lines = scripts.excerpt(given, said)
-    tell('the excerpt of a long line', [] if all(len(it) < 120 and it.isprintable() for it in lines) and '$' in lines[1] else [f'told {lines}'])
+    tell(
+        'the excerpt of a long line',
+        [] if all(len(it) < 120 and it.isprintable() for it in lines) and '$' in lines[1] else [f'told {lines}'],
+    )
     tell('its caret', [] if lines[1][lines[2].index('^')] == '$' else [f'told {lines}'])
 
 

@@ -29,13 +29,28 @@ TYPES = 'the types are `int`, `struct S *`, `mod int *` and `mod struct S *`'
 POINTER = 'a pointer to a block is a `struct S *`, and one to a modifiable a `mod int *` or `mod struct S *`: the `*` is part of the type'
 ONE_EACH = 'one name in each declaration: `int x = 1; int y = 2;`'
 ASSIGNED = 'there is no `++`, `--` or `+=`: `x = x + 1;`'
-SIGNS = {'#': 'there is no `#include` and no `#define`', "'": STRINGS, '"': STRINGS, '.': STRINGS, '~': BITS, '^': BITS, '|': BITS, '?': CHOICE, ':': CHOICE}
+SIGNS = {
+    '#': 'there is no `#include` and no `#define`',
+    "'": STRINGS,
+    '"': STRINGS,
+    '.': STRINGS,
+    '~': BITS,
+    '^': BITS,
+    '|': BITS,
+    '?': CHOICE,
+    ':': CHOICE,
+}
 WORDS = {
     **{it: LOOPS.format(it) for it in ('for', 'do', 'goto')},
     'switch': 'there is no `switch`: use `if` and `else if`',
-    **{it: f'there is no `{it}`' for it in ('typedef', 'enum', 'union', 'sizeof', 'const', 'static', 'extern', 'register', 'volatile')},
+    **{
+        it: f'there is no `{it}`'
+        for it in ('typedef', 'enum', 'union', 'sizeof', 'const', 'static', 'extern', 'register', 'volatile')
+    },
 }
-OTHER_TYPES = frozenset('void char short long unsigned signed float double bool _Bool size_t int8_t int16_t int32_t int64_t uint32_t uint64_t'.split())
+OTHER_TYPES = frozenset(
+    'void char short long unsigned signed float double bool _Bool size_t int8_t int16_t int32_t int64_t uint32_t uint64_t'.split()
+)
 UNKNOWN = {
     'NULL': 'the null pointer is `null`',
     'nullptr': 'the null pointer is `null`',
@@ -76,7 +91,9 @@ def hints(code, line, column, source):
     if is_early:
         found = wanted(spot), of_grammar(spot)
     else:
-        found = of_meaning(spot, reading.program, kinds.at_place(reading.program, line, column) if code in ('T1', 'T5') else None)
+        found = of_meaning(
+            spot, reading.program, kinds.at_place(reading.program, line, column) if code in ('T1', 'T5') else None
+        )
     return [it for it in found if it]
 
 
@@ -84,7 +101,18 @@ def spot_of(code, at, reading, is_early):
     tokens, nothing = reading.tokens, grammar.Token('nothing', '', 0, 0)
     before, after = tokens[at - 1] if at else nothing, tokens[at + 1] if at + 1 < len(tokens) else nothing
     value = tokens[reading.value] if reading.value >= reading.first else nothing
-    return Spot(code, tokens[at], before, after, tokens[reading.first], value, reading.wanted if is_early else [], reading.level, tokens, at)
+    return Spot(
+        code,
+        tokens[at],
+        before,
+        after,
+        tokens[reading.first],
+        value,
+        reading.wanted if is_early else [],
+        reading.level,
+        tokens,
+        at,
+    )
 
 
 def of_character(before, text):
@@ -111,7 +139,11 @@ def wanted(spot):
         if words <= left:
             told.append(sort)
             left -= words
-    told += [it if it in (grammar.NAME, grammar.NUMBER, grammar.END) or ' ' in it else f'`{it}`' for it in dict.fromkeys(spot.wanted) if it in left]
+    told += [
+        it if it in (grammar.NAME, grammar.NUMBER, grammar.END) or ' ' in it else f'`{it}`'
+        for it in dict.fromkeys(spot.wanted)
+        if it in left
+    ]
     return f'expected {" or ".join([", ".join(told[:-1]), told[-1]] if len(told) > 1 else told)}' if told else None
 
 
@@ -128,7 +160,11 @@ def two_kinds(found):
 
 def of_grammar(spot):
     """How CEAL says what has another form in C, at a token that cannot come there."""
-    for rule in (of_words, {'top': of_top, 'head': of_head, 'struct': of_field}.get(spot.level, of_statement), of_expression):
+    for rule in (
+        of_words,
+        {'top': of_top, 'head': of_head, 'struct': of_field}.get(spot.level, of_statement),
+        of_expression,
+    ):
         found = rule(spot)
         if found:
             return found
@@ -173,7 +209,9 @@ def of_field(spot):
     if spot.before.text == '}' and ';' in spot.wanted:
         return 'a struct ends with `};`'
     if '*' in spot.wanted and spot.token.kind == 'name' and spot.before.kind == 'name':
-        return 'a field is a pointer, `struct t *f;`, or a modifiable, `mod struct t f;`: there is no block inside a block'
+        return (
+            'a field is a pointer, `struct t *f;`, or a modifiable, `mod struct t f;`: there is no block inside a block'
+        )
     if spot.token.text == '[':
         return ROW
     if spot.token.text == ',' and ';' in spot.wanted:
@@ -252,7 +290,10 @@ def of_expression(spot):
         return BITS
     if text == '=' and spot.first.text in ('if', 'while'):
         return 'equal is `==`'
-    is_beside = before.kind == 'number' and (before.line, before.column + len(before.text)) == (spot.token.line, spot.token.column)
+    is_beside = before.kind == 'number' and (before.line, before.column + len(before.text)) == (
+        spot.token.line,
+        spot.token.column,
+    )
     return 'numbers are decimal digits' if is_beside and spot.token.kind == 'name' else None
 
 
@@ -318,7 +359,10 @@ def of_no_modifiable(spot):
 
 def signature(function):
     """What a function takes."""
-    told = [f'{kind}{"" if kind.endswith("*") else " "}{name}' for kind, name in function.parameters[function.kind == 'init' :]]
+    told = [
+        f'{kind}{"" if kind.endswith("*") else " "}{name}'
+        for kind, name in function.parameters[function.kind == 'init' :]
+    ]
     return f'{function.name}({", ".join(told)}) takes {len(told)} argument{"s" * (len(told) != 1)}'
 
 

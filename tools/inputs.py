@@ -91,7 +91,7 @@ def put_together(*parts):
     """One input of parts, each some lines, the file that they are from and the number of the first one there; a line %% comes between."""
     text, pieces = b'', []
     for lines, name, there in parts:
-        text += (b'%%\n' if pieces else b'')
+        text += b'%%\n' if pieces else b''
         pieces.append((text.count(b'\n') + 1, name, there))
         text += lines if not lines or lines.endswith(b'\n') or len(pieces) == len(parts) else lines + b'\n'
     return Input(parts[0][1], text, pieces=pieces)
@@ -126,7 +126,10 @@ def look_at_order(first, second):
     """Refuses two files in the wrong order, as their first words tell; no source text that begins so is accepted."""
     what = scripts.no_source(first.text())
     if what and scripts.first_word(second.text()) in scripts.OF_SOURCE:
-        raise Fault(64, f'{first.name} begins as {what} and {second.name} as a source text, which comes first: {second.name} {first.name}')
+        raise Fault(
+            64,
+            f'{first.name} begins as {what} and {second.name} as a source text, which comes first: {second.name} {first.name}',
+        )
 
 
 def inputs(mode, names):

@@ -19,7 +19,13 @@ TRIED = {
 
 def main(server):
     how = {'env': {**os.environ, 'CEAL_SERVE': os.path.abspath(server)}}
-    how |= {'cwd': TOP, 'stdin': subprocess.DEVNULL, 'stdout': subprocess.PIPE, 'stderr': subprocess.STDOUT, 'text': True}
+    how |= {
+        'cwd': TOP,
+        'stdin': subprocess.DEVNULL,
+        'stdout': subprocess.PIPE,
+        'stderr': subprocess.STDOUT,
+        'text': True,
+    }
     running = {name: subprocess.Popen([sys.executable, '-B', *words], **how) for name, words in TRIED.items()}
     failed = 0
     for name, process in running.items():

@@ -38,7 +38,9 @@ def join(tree):
 def main():
     with tempfile.TemporaryDirectory(prefix='ceal-') as folder:
         tree = pathlib.Path(folder, 'tree')
-        shutil.copytree(TOP / 'crates', tree / 'crates', ignore=shutil.ignore_patterns('out', 'proofs', 'must-fail', 'data'))
+        shutil.copytree(
+            TOP / 'crates', tree / 'crates', ignore=shutil.ignore_patterns('out', 'proofs', 'must-fail', 'data')
+        )
         shutil.copy(TOP / 'crates.txt', tree / 'crates.txt')
         join(tree)
         words = ['rt', 'try', '--test', '--seconds', '600']

@@ -27,7 +27,10 @@ Libs: -L${{pcfiledir}} -lceal
 STRICT = ['-std=c99', '-Wall', '-Wextra', '-Werror', '-pedantic', '-O1', '-g', f'-I{HEADER.parent}']
 WRAPPED = '-Wl,--wrap=malloc,--wrap=realloc,--wrap=free'
 INC = 'b was 5, and with a at 9 it is 10; steps 2, work 1\n'
-STACK, GROWTH = 1 << 20, 1024  # (the bytes of a stack that ceal.h asks for; more KiB than ten thousand sessions may leave behind)
+STACK, GROWTH = (
+    1 << 20,
+    1024,
+)  # (the bytes of a stack that ceal.h asks for; more KiB than ten thousand sessions may leave behind)
 
 
 def kit():
@@ -38,7 +41,13 @@ def kit():
 
 
 def call(*words):
-    done = subprocess.run([*map(str, words)], stdin=subprocess.DEVNULL, stdout=subprocess.PIPE, stderr=subprocess.STDOUT, universal_newlines=True)
+    done = subprocess.run(
+        [*map(str, words)],
+        stdin=subprocess.DEVNULL,
+        stdout=subprocess.PIPE,
+        stderr=subprocess.STDOUT,
+        universal_newlines=True,
+    )
     if done.returncode:
         raise Fault(70, f'{words[0]} failed: {done.stdout.strip()}')
 
@@ -72,7 +81,9 @@ def why_unproved():
 def build(log):
     """Makes the libraries of what is proved; what `rt` says goes to a log. Returns whether that went well."""
     with open(log, 'wb') as file:
-        process = answers.start(['rt', 'lib'], cwd=CRATE, stdin=subprocess.DEVNULL, stdout=file, stderr=subprocess.STDOUT)
+        process = answers.start(
+            ['rt', 'lib'], cwd=CRATE, stdin=subprocess.DEVNULL, stdout=file, stderr=subprocess.STDOUT
+        )
         if answers.wait(process, 'the library for C'):
             return False
     make()
@@ -111,7 +122,18 @@ def make():
         exports.write_text(EXPORTS)
         call(tools / 'llvm-ar', 'qLcs', static, MADE, kit() / 'c/liblibc_c.a')
         all_of_it = ['--whole-archive', static, '--no-whole-archive']
-        call(tools / 'ld.lld', '-shared', '-soname', 'libceal.so', '--version-script', exports, '--gc-sections', *all_of_it, '-o', shared)
+        call(
+            tools / 'ld.lld',
+            '-shared',
+            '-soname',
+            'libceal.so',
+            '--version-script',
+            exports,
+            '--gc-sections',
+            *all_of_it,
+            '-o',
+            shared,
+        )
         for it in (static, shared):
             os.replace(it, OUT / it.name)
     return 0
@@ -159,19 +181,30 @@ class Trial:
         else:
             linked = [self.library / NAMES[0]]
         words = ['cc', *STRICT, *more, source, *linked, '-o', program]
-        done = subprocess.run([*map(str, words)], stdin=subprocess.DEVNULL, stdout=subprocess.PIPE, stderr=subprocess.STDOUT, universal_newlines=True)
+        done = subprocess.run(
+            [*map(str, words)],
+            stdin=subprocess.DEVNULL,
+            stdout=subprocess.PIPE,
+            stderr=subprocess.STDOUT,
+            universal_newlines=True,
+        )
         self.count(f'{source.name} compiles', done.stdout.strip() or done.returncode)
         return None if done.returncode else program
 
     def run(self, name, words, wanted=None, **how):
         """Runs a program, which ends with 0, and writes what is wanted; returns the KiB of memory that it had at most."""
         with tempfile.TemporaryFile('w+') as said:
-            process = subprocess.Popen(words, stdin=subprocess.DEVNULL, stdout=said, stderr=subprocess.STDOUT, cwd=TOP, **how)
+            process = subprocess.Popen(
+                words, stdin=subprocess.DEVNULL, stdout=said, stderr=subprocess.STDOUT, cwd=TOP, **how
+            )
             _, status, used = os.wait4(process.pid, 0)
             process.returncode = status
             said.seek(0)
             text = said.read()
-        self.count(name, f'status {status}: {text.strip()[-2000:]}' if status else wanted not in (None, text) and f'wrote {text!r}')
+        self.count(
+            name,
+            f'status {status}: {text.strip()[-2000:]}' if status else wanted not in (None, text) and f'wrote {text!r}',
+        )
         return used.ru_maxrss
 
     def all(self):
@@ -179,7 +212,9 @@ class Trial:
         if calls:
             self.run('each call', [calls], preexec_fn=small_stack)
             few, many = self.run('one session', [calls, '1']), self.run('ten thousand sessions', [calls, '10000'])
-            self.count('sessions leave nothing behind', many > few + GROWTH and f'{few} KiB, and {many} KiB after ten thousand')
+            self.count(
+                'sessions leave nothing behind', many > few + GROWTH and f'{few} KiB, and {many} KiB after ten thousand'
+            )
         memory = self.compiled(TOP / 'client/test_memory.c', WRAPPED)
         if memory:
             self.run('each allocation fails in turn', [memory])
@@ -189,10 +224,30 @@ class Trial:
         if life:
             self.run('life', [life, '100', '7'])
         if calls and shutil.which('valgrind'):
-            self.run('each call, under valgrind', ['valgrind', '-q', '--error-exitcode=9', '--leak-check=full', calls, '1'])
+            self.run(
+                'each call, under valgrind', ['valgrind', '-q', '--error-exitcode=9', '--leak-check=full', calls, '1']
+            )
         if shutil.which('c++'):
-            self.run('ceal.h in C++', ['c++', '-x', 'c++', '-std=c++11', '-Wall', '-Wextra', '-Werror', '-pedantic', '-fsyntax-only', str(HEADER)])
-        self.run('Python', [sys.executable, '-B', '-m', 'unittest', '-q', 'client.test_ctypes'], env={**os.environ, 'CEAL_LIBRARY': str(self.library / NAMES[1])})
+            self.run(
+                'ceal.h in C++',
+                [
+                    'c++',
+                    '-x',
+                    'c++',
+                    '-std=c++11',
+                    '-Wall',
+                    '-Wextra',
+                    '-Werror',
+                    '-pedantic',
+                    '-fsyntax-only',
+                    str(HEADER),
+                ],
+            )
+        self.run(
+            'Python',
+            [sys.executable, '-B', '-m', 'unittest', '-q', 'client.test_ctypes'],
+            env={**os.environ, 'CEAL_LIBRARY': str(self.library / NAMES[1])},
+        )
 
 
 def small_stack():

@@ -8,7 +8,10 @@ import os, pathlib, time
 TOP = pathlib.Path(__file__).resolve().parent.parent
 NAMES = ('ceal', 'ceal_serve')
 # What a program that was just made has to answer: to which words, to which input.
-SMALLEST = {'ceal': (['check'], b'%%\n', b'accepted\n'), 'ceal_serve': ([], b'%%\n?\n', b'refused C1: unreadable line\n')}
+SMALLEST = {
+    'ceal': (['check'], b'%%\n', b'accepted\n'),
+    'ceal_serve': ([], b'%%\n?\n', b'refused C1: unreadable line\n'),
+}
 # A file that was changed less than this many seconds ago may be changed once more at what seems to be the same time.
 TICK = 2
 
@@ -70,7 +73,9 @@ class Program:
             for part in self.parts:
                 for folder, folders, names in os.walk(TOP / 'crates' / crate / part):
                     folders.sort()
-                    yield from (os.path.relpath(f'{folder}/{it}', TOP) for it in sorted(names) if it.endswith(('.rt', '.antt')))
+                    yield from (
+                        os.path.relpath(f'{folder}/{it}', TOP) for it in sorted(names) if it.endswith(('.rt', '.antt'))
+                    )
 
     def sums(self):
         """A line for each source, with a sum of what is in it."""
@@ -130,4 +135,8 @@ def why_unproved(name='ceal'):
     program = PROVED[name]
     if not program.is_there():
         return f'the proved program{"" if name == "ceal" else f" {name}"} is not built'
-    return None if program.is_current() else f'sources have changed since the proved program{"" if name == "ceal" else f" {name}"} was built'
+    return (
+        None
+        if program.is_current()
+        else f'sources have changed since the proved program{"" if name == "ceal" else f" {name}"} was built'
+    )

@@ -41,7 +41,9 @@ class Inputs:
                 self.blocks.setdefault(kind, []).append(name)
                 self.places += [(f'{name}.{field}', held) for field, held in structs.get(kind, ()) if held]
         names = [line.split()[1] for line in self.made]
-        self.questions = [f'get {place}' for place, _ in self.places] + [f'show {name}' for name in names] + ['steps', 'blocks']
+        self.questions = (
+            [f'get {place}' for place, _ in self.places] + [f'show {name}' for name in names] + ['steps', 'blocks']
+        )
 
     def edit(self, draws):
         place, kind = draws.choice(self.places)

@@ -21,7 +21,15 @@ FORMS = {
 }
 OF_MANY = 'with `many` a line begins with the name of its session, as @NAME LINE'
 # How many words a line has, at least and at most.
-COUNTS = {'mod': (4, 4), 'new': (3, 10**6), 'set': (3, 3), 'run': (2, 10**6), 'propagate': (1, 2), 'get': (2, 2), 'show': (2, 2)}
+COUNTS = {
+    'mod': (4, 4),
+    'new': (3, 10**6),
+    'set': (3, 3),
+    'run': (2, 10**6),
+    'propagate': (1, 2),
+    'get': (2, 2),
+    'show': (2, 2),
+}
 NAME, NUMBER = re.compile(r'(?!null\Z)[A-Za-z_]\w*', re.A), re.compile(r'-?[0-9]+')
 FIELD = re.compile(r'[A-Za-z_]\w*(\[(0|[1-9][0-9]{0,2})\])?', re.A)
 
@@ -67,7 +75,11 @@ class Session:
         if NUMBER.fullmatch(word) or word == 'null':
             return None
         if name not in self.inputs:
-            lost = f'; line {self.lost[name]}, which would make it, was refused' if name in self.lost else like(name, self.inputs)
+            lost = (
+                f'; line {self.lost[name]}, which would make it, was refused'
+                if name in self.lost
+                else like(name, self.inputs)
+            )
             return f'there is no input {name}{lost}'
         form, struct = self.inputs[name]
         if dot and form == 'mod':
@@ -94,7 +106,11 @@ class Session:
     def misfit(self, wanted, word, what):
         """What is told where a value has another type than is wanted."""
         found = self.type_of(word)
-        return None if found is None or fits(wanted, found) else f'{what} is {article(wanted)}, and {word} is {article(found)}'
+        return (
+            None
+            if found is None or fits(wanted, found)
+            else f'{what} is {article(wanted)}, and {word} is {article(found)}'
+        )
 
     # -- the refusals, by their codes
 
@@ -107,7 +123,9 @@ class Session:
             return f'there is no struct {words[2]}{like(words[2], known)}'
         if words[0] == 'run' and words[1] not in self.program.functions:
             return f'there is no function {words[1]}{like(words[1], self.program.functions)}'
-        return next(filter(None, map(self.unknown, words[2 if words[0] == 'run' else 3 if known is not None else 1 :])), None)
+        return next(
+            filter(None, map(self.unknown, words[2 if words[0] == 'run' else 3 if known is not None else 1 :])), None
+        )
 
     def of_c3(self, words):
         return f'line {self.lines[words[1]]} made {words[1]}' if words[1] in self.lines else None
@@ -129,7 +147,9 @@ class Session:
         fields, given = self.fields(words[2]), words[3:]
         if len(fields) != len(given):
             return f'a {words[2]} takes {len(fields)} value{"s" * (len(fields) != 1)}, not {len(given)}: {", ".join(fields)}'
-        found = (self.misfit(field.type, word, f'the field {name}') for (name, field), word in zip(fields.items(), given))
+        found = (
+            self.misfit(field.type, word, f'the field {name}') for (name, field), word in zip(fields.items(), given)
+        )
         return next(filter(None, found), None)
 
     def of_c5(self, words):
@@ -140,11 +160,18 @@ class Session:
             return f'{words[1]} is an initialiser; `run` names a core function, `ceal {words[1]}(..)`'
         if len(function.parameters) != len(words) - 2:
             return f'{signature(function)}, not {len(words) - 2}'
-        found = (self.misfit(kind, word, f'the parameter {name}') for (kind, name), word in zip(function.parameters, words[2:]))
+        found = (
+            self.misfit(kind, word, f'the parameter {name}')
+            for (kind, name), word in zip(function.parameters, words[2:])
+        )
         return next(filter(None, found), None)
 
     def of_c6(self, _):
-        return f'line {self.run} is the run; another one is for another script, or for another session of ./run many' if self.run else None
+        return (
+            f'line {self.run} is the run; another one is for another script, or for another session of ./run many'
+            if self.run
+            else None
+        )
 
     def of_c7(self, _):
         return f'line {self.out_of_fuel} was out of fuel' if self.out_of_fuel else 'nothing ran yet'
@@ -185,8 +212,12 @@ def unreadable(words):
     least, most = COUNTS.get(command, (1, 1))
     if not least <= len(words) <= most or command == 'propagate':
         return f'the form is {FORMS[command]}'
-    names, values = {'mod': (more[:2], more[2:]), 'new': (more[:2], more[2:]), 'run': (more[:1], more[1:])}.get(command, ([], more))
-    wrong = [f'{it} is no name' for it in names if not NAME.fullmatch(it)] + [f'{it} is {what}' for it in values for what in [no_value(it)] if what]
+    names, values = {'mod': (more[:2], more[2:]), 'new': (more[:2], more[2:]), 'run': (more[:1], more[1:])}.get(
+        command, ([], more)
+    )
+    wrong = [f'{it} is no name' for it in names if not NAME.fullmatch(it)] + [
+        f'{it} is {what}' for it in values for what in [no_value(it)] if what
+    ]
     return wrong[0] if wrong else f'the form is {FORMS[command]}'
 
 
@@ -210,7 +241,11 @@ def explained(given, output, mode):
         if taken and words and reading and mode != 'resume':
             state = sessions.setdefault(session, Session(reading.program))
             why = answered(state, number, words, taken[0].decode(errors='replace'), session.decode(errors='replace'))
-            why = OF_MANY if mode == 'many' and scripts.REFUSED.match(taken[0]) and not taken[0].startswith(session[1:] + b': ') else why
+            why = (
+                OF_MANY
+                if mode == 'many' and scripts.REFUSED.match(taken[0]) and not taken[0].startswith(session[1:] + b': ')
+                else why
+            )
         yield f'{name}:{number}', line, taken, why
 
 
@@ -225,7 +260,10 @@ def answered(state, number, words, reply, session):
 
 def beside(given, output, mode):
     """The script of an input, each line with its number in its file, its reply beside it, and why it was refused."""
-    rows = [(place.rsplit(':', 1)[1], scripts.printable(line).expandtabs(8), taken, why) for place, line, taken, why in explained(given, output, mode)]
+    rows = [
+        (place.rsplit(':', 1)[1], scripts.printable(line).expandtabs(8), taken, why)
+        for place, line, taken, why in explained(given, output, mode)
+    ]
     width = max([20, *(len(line) for _, line, taken, _ in rows if taken)]) + 3
     digits = max((len(number) for number, *_ in rows), default=1)
     for number, line, taken, why in rows:

@@ -92,7 +92,9 @@ def tried(all_rows):
             path.with_name(f'{row.name}.args').write_bytes(b''.join(it + b'\n' for it in row.words))
             path.with_name(f'{row.name}.stdout').write_bytes(b''.join(row.output))
         words = ['rt', 'try', '--steps', '1', '--seconds', '600', '--cases', folder]
-        process = answers.start(words, cwd=TOP / 'crates/ceal', stdin=subprocess.DEVNULL, stdout=subprocess.DEVNULL, stderr=subprocess.PIPE)
+        process = answers.start(
+            words, cwd=TOP / 'crates/ceal', stdin=subprocess.DEVNULL, stdout=subprocess.DEVNULL, stderr=subprocess.PIPE
+        )
         said = process.communicate()[1].decode(errors='replace')
     told = dict(re.findall(r'^case=(\S+) (.*)$', said, re.M))
     if not told:

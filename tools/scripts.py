@@ -103,7 +103,9 @@ def names_no_session(given):
 
 def printable(text):
     """Bytes for people: what would move a terminal's cursor, or is no text, is one sign each."""
-    return ''.join(it if it.isprintable() or it == '\t' else '\ufffd' for it in text.decode(errors='replace').rstrip('\r\n'))
+    return ''.join(
+        it if it.isprintable() or it == '\t' else '\ufffd' for it in text.decode(errors='replace').rstrip('\r\n')
+    )
 
 
 def excerpt(given, output):
@@ -116,7 +118,11 @@ def excerpt(given, output):
     line = lines[number - 1] if number <= len(lines) else b''
     name, own = given.place(number)
     place = [f'{name}:{own}:{column}: {found[4].decode()}']
-    return place + shown(line, column) + [f'  {it}' for it in hints(found[1].decode(), number, column, text, given.added == 0)]
+    return (
+        place
+        + shown(line, column)
+        + [f'  {it}' for it in hints(found[1].decode(), number, column, text, given.added == 0)]
+    )
 
 
 def shown(line, column):

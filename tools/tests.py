@@ -51,12 +51,20 @@ def parts(how, program, server):
             'the streams of the program, the server, its client in Python and the jobs of examples/: they need programs that are kept',
             f'{len(rows.LARGE)} large rows: `python3 -B -m tools.rows try NAME` tries one, which takes up to a few minutes',
         ]
-    made = [own, Part('rows', python('-m', 'tools.rows', str(program))), Part('streams', python('.ci/program', str(program))), pages]
+    made = [
+        own,
+        Part('rows', python('-m', 'tools.rows', str(program))),
+        Part('streams', python('.ci/program', str(program))),
+        pages,
+    ]
     told = []
     if server is None:
         told.append('the server, its client in Python and the jobs of examples/: they need a ceal_serve')
     else:
-        made[1:1] = [Part('client and jobs', python('-m', 'tools.job_tests', str(server))), Part('the server', python('.ci/serving', str(server)))]
+        made[1:1] = [
+            Part('client and jobs', python('-m', 'tools.job_tests', str(server))),
+            Part('the server', python('.ci/serving', str(server))),
+        ]
     why = libceal.why_not()
     if why:
         told.append(f'the library for C: {why}')
@@ -111,7 +119,10 @@ def main():
         more, wrong, said = part.result()
         passed, failed = passed + more, failed + wrong
         start = '\r\033[K' if sys.stdout.isatty() else ''
-        print(f'{start}{part.name}: {more} passed, {wrong} failed, {answers.shown_time(time.monotonic() - part.begun)}', flush=True)
+        print(
+            f'{start}{part.name}: {more} passed, {wrong} failed, {answers.shown_time(time.monotonic() - part.begun)}',
+            flush=True,
+        )
         if said:
             print('\n'.join(said.splitlines()[-30:]), flush=True)
     for it in skipped:

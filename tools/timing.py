@@ -13,8 +13,14 @@ from tools.inputs import LONGEST_INPUT, Input
 from tools.telling import hand_on
 
 TRIES, WHOLE = 7, 60  # (tries of one input; seconds for a whole script)
-LEAST, CLEAR = 0.0001, 5  # (seconds that can't be told from noise at all; how many times the noise a difference has to be)
-MORE, MOST_SESSIONS = 64, 64  # (how many times more at most is measured next where a difference is not clear; the sessions of one process)
+LEAST, CLEAR = (
+    0.0001,
+    5,
+)  # (seconds that can't be told from noise at all; how many times the noise a difference has to be)
+MORE, MOST_SESSIONS = (
+    64,
+    64,
+)  # (how many times more at most is measured next where a difference is not clear; the sessions of one process)
 
 
 class Took:
@@ -133,7 +139,9 @@ def fields_of(source):
     """The names of the fields of each struct, each element of a row by itself."""
     reading = grammar.read(source)
     structs = reading.program.structs if reading else {}
-    return {name.encode(): [it.encode() for field in fields for it in elements(field)] for name, fields in structs.items()}
+    return {
+        name.encode(): [it.encode() for field in fields for it in elements(field)] for name, fields in structs.items()
+    }
 
 
 def elements(field):
@@ -190,7 +198,11 @@ def works(words, head, lines, timed):
     script = b'\n'.join([*script, b''])
     answer = answers.by_program(answers.chosen(), words, Input('', head + script), True)
     replies = iter([taken for line, taken in scripts.replies(script, answer.output)] if answer.status == 0 else [])
-    told = [(next(replies), next(replies) if at in timed else []) for at in range(len(lines))] if answer.status == 0 else []
+    told = (
+        [(next(replies), next(replies) if at in timed else []) for at in range(len(lines))]
+        if answer.status == 0
+        else []
+    )
     return answer, told
 
 
@@ -233,6 +245,10 @@ def main(words, given):
         session.take(lines[at], reply)
         if before is None:
             continue
-        figure, more = ('', reply.decode()) if scripts.REFUSED.match(reply) else figures(measured, at, session, before, reply, work)
+        figure, more = (
+            ('', reply.decode())
+            if scripts.REFUSED.match(reply)
+            else figures(measured, at, session, before, reply, work)
+        )
         print(f'{first + at:4}  {scripts.printable(lines[at]):{width}}{figure:>14}   {more}', flush=True)
     return 0

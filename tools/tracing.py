@@ -11,8 +11,22 @@ from tools.inputs import Input
 from tools.telling import hand_on
 
 WIDTH, HEIGHT, ROW = 1000, 420, 18  # (a panel's pixels, and those of a row where there is room)
-COLOURS = {'kept': '#c3cad5', 'taken': '#7fc492', 'anew': '#f2a65a', 'revoked': '#d9646f', 'stale': '#fde8cd', 'run': '#8fb4dc'}
-TOLD = {'kept': 'kept', 'taken': 'reused', 'anew': 're-executed', 'revoked': 'revoked', 'stale': 'stale read', 'run': 'run'}
+COLOURS = {
+    'kept': '#c3cad5',
+    'taken': '#7fc492',
+    'anew': '#f2a65a',
+    'revoked': '#d9646f',
+    'stale': '#fde8cd',
+    'run': '#8fb4dc',
+}
+TOLD = {
+    'kept': 'kept',
+    'taken': 'reused',
+    'anew': 're-executed',
+    'revoked': 'revoked',
+    'stale': 'stale read',
+    'run': 'run',
+}
 EACH = 4000  # (up to this many items, each is drawn by itself and named)
 PLACE = re.compile(r'([ic]\d+)(?:\.(\d+))?')
 
@@ -56,7 +70,10 @@ class Update:
     def __init__(self, old, new):
         self.old, self.new, self.names, self.work, self.pairs = old, new, {}, 0, []
         self.cursor, self.limit, self.label = 0, None, 'kept'  # (no limit: the old items are kept one by one)
-        self.stale, self.reused = [], []  # (reads, by their old and new places, and the new places of the parts that are reused)
+        self.stale, self.reused = (
+            [],
+            [],
+        )  # (reads, by their old and new places, and the new places of the parts that are reused)
         self.places = collections.defaultdict(list)
         for at, item in enumerate(old.items):
             if item[0] in 'ar':
@@ -152,7 +169,11 @@ class Names:
         self.structs = re.findall(r'\bstruct\s+(\w+)\s*\{', text)
         self.functions = re.findall(r'\b(?:ceal|init)\s+(\w+)\s*\(', text)
         self.made = {at: self.structs.index(it) for at, it in self.initialisers(text) if it in self.structs}
-        self.inputs = [line.split()[1].decode() for line, taken in pairs if line.split()[:1] in ([b'mod'], [b'new']) and taken == [b'ok']]
+        self.inputs = [
+            line.split()[1].decode()
+            for line, taken in pairs
+            if line.split()[:1] in ([b'mod'], [b'new']) and taken == [b'ok']
+        ]
 
     def initialisers(self, text):
         for at, (kind, parameters) in enumerate(re.findall(r'\b(ceal|init)\s+\w+\s*\(([^)]*)\)', text)):
@@ -236,7 +257,13 @@ class Panel:
     def box(self, depth, first, last, label, told, is_named, is_step=False):
         left, width = 20 + first * self.scale, (last - first) * self.scale
         height = self.row * 0.86 if self.row > 3 else self.row
-        edge = ' stroke="#c2620e"' if label == 'stale' else ' stroke="#fff" stroke-width="0.5"' if self.row > 3 and self.scale > 3 else ''
+        edge = (
+            ' stroke="#c2620e"'
+            if label == 'stale'
+            else ' stroke="#fff" stroke-width="0.5"'
+            if self.row > 3 and self.scale > 3
+            else ''
+        )
         faint = ' opacity="0.55"' if is_step else ''
         title = f'<title>{html.escape(told)}</title>' if told else ''
         top = self.top + depth * self.row
@@ -283,7 +310,14 @@ def of_run(title, trace, names):
     panel = Panel(trace, names, 60, WIDTH / max(1, trace.count), lambda it: f'#{int(it[1:]) + 1}')
     drawn = list(panel.drawn())
     nodes = trace.nodes('run')
-    return document(panel.bottom + 20, [line(title, 22, ' font-size="13"'), *legend([('run', f'{trace.count} steps, {nodes} reads, writes and blocks')], 45), *drawn])
+    return document(
+        panel.bottom + 20,
+        [
+            line(title, 22, ' font-size="13"'),
+            *legend([('run', f'{trace.count} steps, {nodes} reads, writes and blocks')], 45),
+            *drawn,
+        ],
+    )
 
 
 def of_update(title, update, names):
@@ -301,9 +335,16 @@ def of_update(title, update, names):
             numbers[block] = f'c{made - 1}'
     before = Panel(old, names, 82, scale, lambda it: f'#{int(it[1:]) + 1}')
     after = Panel(new, names, before.bottom + 78, scale, lambda it: f'#{int(numbers[it][1:]) + 1}')
-    counts = [(it, f'{TOLD[it]}: {(old if it == "revoked" else new).nodes(it)}') for it in ('kept', 'stale', 'taken', 'anew', 'revoked')]
+    counts = [
+        (it, f'{TOLD[it]}: {(old if it == "revoked" else new).nodes(it)}')
+        for it in ('kept', 'stale', 'taken', 'anew', 'revoked')
+    ]
     parts = [line(title, 22, ' font-size="13"'), *legend(counts, 45), line('before', 76), *before.drawn()]
-    parts += [*bands(update.pairs, scale, before.bottom + 2, after.top - 18), line('after', after.top - 6), *after.drawn()]
+    parts += [
+        *bands(update.pairs, scale, before.bottom + 2, after.top - 18),
+        line('after', after.top - 6),
+        *after.drawn(),
+    ]
     return document(after.bottom + 20, parts)
 
 

@@ -5,7 +5,10 @@ It checks for the oldest Python that the client is for. Where there is no mypy, 
 import pathlib, shutil, subprocess, sys
 
 TOP = pathlib.Path(__file__).resolve().parent.parent
-CHECKED = [*(f'client/{it}.py' for it in ('ceal', 'ceal_ctypes')), *(f'client/test_{it}.py' for it in ('ceal', 'ctypes', 'interrupts', 'journal'))]
+CHECKED = [
+    *(f'client/{it}.py' for it in ('ceal', 'ceal_ctypes')),
+    *(f'client/test_{it}.py' for it in ('ceal', 'ctypes', 'interrupts', 'journal')),
+]
 WORDS = ['mypy', '--strict', '--python-version', '3.9', '--cache-dir', '/dev/null']
 
 

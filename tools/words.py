@@ -38,7 +38,17 @@ OPTIONS = {
 }
 TOGETHER = ({'--strict', '--beside'}, {'--strict', '--dot'})
 # How many words there are with an option that takes no program.
-ALONE = {'--help': 1, '-h': 1, '--version': 1, '-V': 1, '--build': 1, '--draft': 1, '--test': 1, '--install': 2, '--built': 2}
+ALONE = {
+    '--help': 1,
+    '-h': 1,
+    '--version': 1,
+    '-V': 1,
+    '--build': 1,
+    '--draft': 1,
+    '--test': 1,
+    '--install': 2,
+    '--built': 2,
+}
 SPELT_OUT = {'help': '--help', 'version': '--version', '-h': '--help', '-V': '--version'}
 LARGEST_FUEL, LARGEST_SEED, LARGEST_SIZE = 4_194_304, 2_147_483_647, 40_000
 
@@ -100,14 +110,20 @@ class Words:
         for option in self.options:
             if self.mode not in OPTIONS[option]:
                 why = ', which ends with 1 by itself if a text is not accepted' if option == '--strict' else ''
-                raise Fault(64, f'{option} does not go with {self.mode}{why}; it goes with {", ".join(OPTIONS[option])}')
+                raise Fault(
+                    64, f'{option} does not go with {self.mode}{why}; it goes with {", ".join(OPTIONS[option])}'
+                )
         if len(self.options) > 1 and set(self.options) not in TOGETHER:
             raise Fault(64, f'{" and ".join(self.options)} do not go together: ./run --help tells which do')
 
     def look_at_names(self):
         first, last = self.names[0], self.names[-1]
         if len(self.names) > 1 and re.fullmatch(r'\w+', first) and not os.path.exists(first):
-            raise Fault(64, unknown('mode', first, [*MODES, 'gen', 'help', 'version']) + f'; the modes are {", ".join(MODES)} and gen')
+            raise Fault(
+                64,
+                unknown('mode', first, [*MODES, 'gen', 'help', 'version'])
+                + f'; the modes are {", ".join(MODES)} and gen',
+            )
         if len(self.names) > 1 and last in MODES and not os.path.exists(last):
             raise Fault(64, f'the mode comes before the files: ./run {last} {" ".join(self.names[:-1])}')
 

@@ -65,7 +65,11 @@ class Sources:
         places = self.reads.get(unit, [('?', None)])
         numbers = ' or '.join(str(line) for _, line in places if line)
         text = self.lines[places[0][1] - 1].strip() if len(places) == 1 and numbers else ''
-        return f'{places[0][0]}' + (f', line {numbers}' if numbers else '') + (f': {scripts.printable(text.encode())}' if text else '')
+        return (
+            f'{places[0][0]}'
+            + (f', line {numbers}' if numbers else '')
+            + (f': {scripts.printable(text.encode())}' if text else '')
+        )
 
 
 class Worked:
@@ -74,7 +78,11 @@ class Worked:
     def __init__(self, before, after, names):
         self.update, self.names = Update(before, after), names
         self.rows = collections.defaultdict(Row)
-        self.structs = {it[1]: names.made.get(int(it[2][1:])) for it in (*before.items, *after.items) if it[0] == 'a' and it[2][0] == 'f'}
+        self.structs = {
+            it[1]: names.made.get(int(it[2][1:]))
+            for it in (*before.items, *after.items)
+            if it[0] == 'a' and it[2][0] == 'f'
+        }
         opened, reused = [None], set(self.update.reused)
         stale = {now: was for was, now in self.update.stale}
         for at, item in enumerate(after.items):
@@ -128,7 +136,7 @@ def replies(words, head, lines):
     timed = [at for at, it in enumerate(lines) if it.split()[:1] in ([b'run'], [b'propagate'])]
     script = [it for at, line in enumerate(lines) for it in ([line, b'work', b'steps'] if at in set(timed) else [line])]
     text = b'\n'.join([*script, b''])
-    answer, = answers.answers([(words, Input('', head + text))])
+    (answer,) = answers.answers([(words, Input('', head + text))])
     pairs = list(scripts.replies(text, answer.output)) if answer.status == 0 else []
     told, at = {}, 0
     for number in range(len(lines)):
@@ -151,14 +159,14 @@ def main(words, given):
     if len(found) > MOST_UPDATES:
         tell([f'only the last {MOST_UPDATES} of {len(found):,} runs and updates are told'])
         found = found[-MOST_UPDATES:]
-    listed, = answers.answers([(['list'], Input('', head))])
+    (listed,) = answers.answers([(['list'], Input('', head))])
     sources, names = Sources(source, listed.output), Names(source, pairs)
     first, traces = scripts.script_of(given.text(), 'run')[0], {}
 
     def trace(at):
         """The trace after a line, and the number of the function that was called; the last one is kept, for the update that comes next."""
         if at not in traces:
-            got, = answers.answers([(['dump', *words[1:]], Input('', head + b'\n'.join([*lines[: at + 1], b''])))])
+            (got,) = answers.answers([(['dump', *words[1:]], Input('', head + b'\n'.join([*lines[: at + 1], b''])))])
             called = re.search(rb'^run (\d+)', got.output, re.M)
             traces.clear()
             traces[at] = got.output, int(called[1]) if called else 0
@@ -174,5 +182,10 @@ def main(words, given):
         worked = Worked(old, trace(at)[0], names)
         if worked.update.work != work:
             raise Fault(71, f'the table has work {worked.update.work}, and the program says {work}')
-        print(f'\n{HEADING}' if worked.rows else '', *worked.lines(sources, called), sep='\n' if worked.rows else '', flush=True)
+        print(
+            f'\n{HEADING}' if worked.rows else '',
+            *worked.lines(sources, called),
+            sep='\n' if worked.rows else '',
+            flush=True,
+        )
     return 0
