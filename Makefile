@@ -41,8 +41,11 @@ pages: ## makes again what is derived: sessions, pictures and excerpts of pages,
 index: ## writes out/index.html: all definitions, laws and clauses, with who cites them
 	.ci/index
 
-tags: ## sets a tag of git for each version of CHANGELOG.md
-	@sed -nE 's/^## ([0-9.]+) - .* \(([0-9a-f]+)\)$$/v\1 \2/p' CHANGELOG.md | while read tag commit; do git tag -f $$tag $$commit; done
+tags: ## sets a tag of git for each version of CHANGELOG.md; one with no commit beside it is the state that it is first called in
+	@sed -nE 's/^## ([0-9.]+) - [-0-9]+( \(([0-9a-f]+)\))?$$/v\1 \3/p' CHANGELOG.md | while read tag commit; do \
+	    if [ -n "$$commit" ]; then git tag -f $$tag $$commit; \
+	    else git rev-parse -q --verify refs/tags/$$tag > /dev/null || git tag $$tag; fi; \
+	done
 
 check: ## proves CRATE=ceal_base and the crates below it, over what earlier checks kept
 	cd crates/$(CRATE) && rt check
