@@ -43,9 +43,16 @@ def counted(program, text, words=RUN):
         given.seek(0)
         words = ['valgrind', '--tool=callgrind', '--callgrind-out-file=/dev/null', program, *words]
         done = subprocess.run(words, stdin=given, stdout=subprocess.DEVNULL, stderr=subprocess.PIPE, text=True)
-    found = re.search(r'Collected : (\d+)', done.stderr)
-    if done.returncode != 0 or not found:
+    if done.returncode != 0:
         sys.exit(f'bench/counting.py: callgrind over {program} ended with status {done.returncode}')
+    return collected(done.stderr)
+
+
+def collected(said):
+    """The number of instructions that callgrind tells at its end."""
+    found = re.search(r'Collected : (\d+)', said)
+    if not found:
+        sys.exit(f'bench/counting.py: callgrind has told no number: {said[-200:]}')
     return int(found[1])
 
 
