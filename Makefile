@@ -1,5 +1,5 @@
 # Every command of the repository under one roof: `make help` lists them. Each is a line of some script, which can be called by itself.
-.PHONY: help try draft test build install man lint pages index tags check edits plants gate cost bench random
+.PHONY: help try draft test build install man lint pages python index tags check edits plants gate cost bench doubling signals random
 
 CRATE ?= ceal_base
 FILE ?= examples/inc.ceal
@@ -38,6 +38,9 @@ pages: ## makes again what is derived: sessions, pictures and excerpts of pages,
 	.ci/crates --write
 	.ci/reading --write
 
+python: ## lays out all Python as black does
+	.ci/python --write
+
 index: ## writes out/index.html: all definitions, laws and clauses, with who cites them
 	.ci/index
 
@@ -64,6 +67,12 @@ cost: ## the gate, with the processor minutes of each crate (long)
 
 bench: ## measures the built program (docs/PERFORMANCE.md)
 	bench/run
+
+doubling: ## gives the built programs what is chosen to be slow, at three sizes, and long sessions
+	bench/doubling.py
+
+signals: ## measures three jobs beside public libraries of signals, on an idle machine
+	bench/signals.py
 
 random: ## random edits of the examples by the built program, beside runs from scratch
 	python3 -m tools.random_tests $(BINARY)
