@@ -1,5 +1,12 @@
-"""How the answers of the program are got: from the proved program where it is there, else from the same sources by `rt try`."""
-import os, pathlib, re, signal, subprocess, sys, time
+"""How the answers of the program are got: from the proved program where it is there, else from the same sources by `rt
+try`."""
+import os
+import pathlib
+import re
+import signal
+import subprocess
+import sys
+import time
 
 from tools.programs import PROVED, TOP, remember, why_unproved
 
@@ -38,14 +45,16 @@ def end_on_signals():
 
 
 def start(words, **how):
-    """Starts a process that ends with this one. It leads a new session, so that whatever it starts can be ended with it."""
+    """Starts a process that ends with this one. It leads a new session, so that whatever it starts can be ended with
+    it."""
     process = subprocess.Popen(words, start_new_session=True, **how)
     running.append(process)
     return process
 
 
 def end_all():
-    """Ends what was started and still runs: first politely, since `rt` then ends what it started, and then in any case, with all below it."""
+    """Ends what was started and still runs: first politely, since `rt` then ends what it started, and then in any case,
+    with all below it."""
     if all(it.poll() is not None for it in running):
         return
     from tools import processes
@@ -204,7 +213,8 @@ def taken_apart(names, output, errors):
 
 
 def chosen(name='ceal'):
-    """The program that answers: the proved one, or else a draft, which is made where it is not there; None where neither can be had."""
+    """The program that answers: the proved one, or else a draft, which is made where it is not there; None where
+    neither can be had."""
     if name in found:
         return found[name]
     why = why_unproved(name)
@@ -224,7 +234,10 @@ def answers(calls, is_kept=True):
         return [by_program(program, words, given, is_kept) for words, given in calls]
     last = f', {TRIED.read_text()} the last time' if TRIED.is_file() else ''
     print(
-        f'run: now all is compiled, as in each such call, in {TRY_COST}{last}; ./run FILE FILE .. compiles once for several',
+        (
+            f'run: now all is compiled, as in each such call, in {TRY_COST}{last}; ./run FILE FILE .. compiles once for'
+            ' several'
+        ),
         file=sys.stderr,
         flush=True,
     )

@@ -1,10 +1,18 @@
 """Builds the proved programs, `ceal` and `ceal_serve`, and puts them where they will be used.
 
-A build leaves a record: the toolchain, the date, for each program a sum over the sums of its sources and the program, and for each crate the
-line that `rt` ended its proof with, or that `rt` kept its proof from before. A record is no proof, and nobody signs it: it says what was seen
-here. Who did not see it builds the programs again.
+A build leaves a record: the toolchain, the date, for each program a sum over the sums of its sources and the program,
+and for each crate the line that `rt` ended its proof with, or that `rt` kept its proof from before. A record is no
+proof, and nobody signs it: it says what was seen here. Who did not see it builds the programs again.
 """
-import datetime, hashlib, os, pathlib, re, shutil, subprocess, sys, time
+import datetime
+import hashlib
+import os
+import pathlib
+import re
+import shutil
+import subprocess
+import sys
+import time
 
 from tools import answers, libceal, programs
 from tools.answers import Fault
@@ -12,7 +20,8 @@ from tools.programs import NAMES, PROVED, TOP
 
 STARTED, LOG, RECORD = (TOP / 'crates/ceal/out' / it for it in ('ceal.started', 'build.log', 'ceal.record'))
 BY_BUILD, BY_GATE = './run --build', '.ci/run'
-# What `rt all check` says of a crate: its head and the last line of its proof, which is not there where the proof was kept; at the end, that all is well.
+# What `rt all check` says of a crate: its head and the last line of its proof, which is not there where the proof was
+# kept; at the end, that all is well.
 VERDICT, GOOD = re.compile(r'^== (\w+)$|^(logic=.*)$', re.M), re.compile(r'^(\w+): ok$', re.M)
 BY_PROOF, KEPT = 'logic=proved ', 'ok, by the proof that rt kept'
 # No process of a proof was seen to take much more gigabytes (.ci/gate.md).
@@ -132,7 +141,10 @@ def build():
         link(name)
     for _ in libceal.here():
         print(
-            f'{len(made) + 1}. the library for C is made, in a minute or two; {answers.shown_time(time.time() - begun)} so far',
+            (
+                f'{len(made) + 1}. the library for C is made, in a minute or two;'
+                f' {answers.shown_time(time.time() - begun)} so far'
+            ),
             flush=True,
         )
         if not libceal.build(LOG):
@@ -157,7 +169,8 @@ def verdicts_of(log):
 
 
 def keep(by, verdicts):
-    """From now on the programs that are there are the proved ones, as long as no source changes; a record says how they came to be."""
+    """From now on the programs that are there are the proved ones, as long as no source changes; a record says how they
+    came to be."""
     sums = {it: PROVED[it].sums_with_program() for it in NAMES}
     head = [
         version(),
@@ -180,7 +193,10 @@ def record():
     if not RECORD.is_file():
         raise Fault(
             70,
-            f'nothing here says that these programs were proved: {BY_BUILD} proves and builds them, and leaves a record',
+            (
+                f'nothing here says that these programs were proved: {BY_BUILD} proves and builds them, and leaves a'
+                ' record'
+            ),
         )
     text = RECORD.read_text()
     lines = text.splitlines()

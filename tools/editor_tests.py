@@ -1,7 +1,14 @@
-"""Tries what is in editors/: that each grammar knows the words of the language and the lines of a script, that each completion knows the words
-of `./run`, and, where an editor or a shell is installed, what it makes of the examples. So is the manual page of the program, by groff.
+"""Tries what is in editors/: that each grammar knows the words of the language and the lines of a script, that each
+completion knows the words of `./run`, and, where an editor or a shell is installed, what it makes of the examples. So
+is the manual page of the program, by groff.
 """
-import json, pathlib, re, shutil, subprocess, sys, tempfile
+import json
+import pathlib
+import re
+import shutil
+import subprocess
+import sys
+import tempfile
 
 from tools import grammar, manual, words
 from tools.calls import tell
@@ -137,9 +144,11 @@ def vim(folder):
     made = [it for it in told if it.startswith('make ')]
     tell(
         ':make in vim',
-        []
-        if len(made) == 1 and re.match(rf'make \S*{EXAMPLES[-1].name} 2 10 unexpected token', made[0])
-        else [f'told {made}'],
+        (
+            []
+            if len(made) == 1 and re.match(rf'make \S*{EXAMPLES[-1].name} 2 10 unexpected token', made[0])
+            else [f'told {made}']
+        ),
     )
 
 
@@ -177,7 +186,10 @@ def bash(folder):
         ('./run --wo', '--work'),
     ):
         given = line.split(' ')
-        script = f'source {EDITORS}/completion/run.bash; COMP_WORDS=({line} {chr(39) * 2 if given[-1] == "" else ""}); COMP_CWORD={len(given) - 1}; _ceal_run; echo ${{COMPREPLY[*]}}'
+        script = (
+            f'source {EDITORS}/completion/run.bash; COMP_WORDS=({line} {chr(39) * 2 if given[-1] == "" else ""});'
+            f' COMP_CWORD={len(given) - 1}; _ceal_run; echo ${{COMPREPLY[*]}}'
+        )
         said = subprocess.run(
             ['bash', '-c', script], cwd=folder, stdout=subprocess.PIPE, universal_newlines=True
         ).stdout.strip()

@@ -1,5 +1,6 @@
 """Tries the hints beside faults and refused lines: each row of 'If you know C' has one, and so has each refusal."""
-import pathlib, re
+import pathlib
+import re
 
 from tools import hints, refusals, scripts
 from tools.programs import TOP
@@ -52,7 +53,8 @@ MISTAKES = (
 
 
 def tables():
-    """Each fault of the tables of docs/LANGUAGE.md, without the program: what was expected is told, and all that is said of C."""
+    """Each fault of the tables of docs/LANGUAGE.md, without the program: what was expected is told, and all that is
+    said of C."""
     found = TABLE.findall((TOP / 'docs/LANGUAGE.md').read_text())
     for number, table in enumerate(found):
         for cells, source, code, line, column in CELL.findall(table):

@@ -1,6 +1,7 @@
 """Hints beside a fault: what was expected at its place, and how CEAL says what a C programmer probably meant.
 
-Each row of 'If you know C' in docs/LANGUAGE.md has one. A hint is a guess from the words near the fault, and no part of the answer.
+Each row of 'If you know C' in docs/LANGUAGE.md has one. A hint is a guess from the words near the fault, and no part of
+the answer.
 """
 import difflib
 from collections import namedtuple
@@ -26,7 +27,10 @@ CHOICE = 'there is no `c ? x : y`, and there are no labels: use an `if`'
 LOOPS = 'there is no `{}`: use `while`, or recursion'
 ROW = 'the only array is a row of modifiables in a struct, `mod int f[3];`, and `&p->f[i]` is the place of an element'
 TYPES = 'the types are `int`, `struct S *`, `mod int *` and `mod struct S *`'
-POINTER = 'a pointer to a block is a `struct S *`, and one to a modifiable a `mod int *` or `mod struct S *`: the `*` is part of the type'
+POINTER = (
+    'a pointer to a block is a `struct S *`, and one to a modifiable a `mod int *` or `mod struct S *`: the `*` is part'
+    ' of the type'
+)
 ONE_EACH = 'one name in each declaration: `int x = 1; int y = 2;`'
 ASSIGNED = 'there is no `++`, `--` or `+=`: `x = x + 1;`'
 SIGNS = {
@@ -49,7 +53,8 @@ WORDS = {
     },
 }
 OTHER_TYPES = frozenset(
-    'void char short long unsigned signed float double bool _Bool size_t int8_t int16_t int32_t int64_t uint32_t uint64_t'.split()
+    'void char short long unsigned signed float double bool _Bool size_t int8_t int16_t int32_t int64_t uint32_t'
+    ' uint64_t'.split()
 )
 UNKNOWN = {
     'NULL': 'the null pointer is `null`',
@@ -64,13 +69,17 @@ OF_CODE = {
     'S2': 'numbers have 64 bits; the least one is written `-9223372036854775807 - 1`',
     'S4': 'at most 64 may be open',
     'S6': 'at most 255 fields, parameters, arguments, or operators of one expression',
-    'U1': 'a plain field is set by the initialiser of its block, and never again: make what changes a modifiable, as `mod int f;`',
+    'U1': (
+        'a plain field is set by the initialiser of its block, and never again: make what changes a modifiable, as `mod'
+        ' int f;`'
+    ),
     'U2': 'an initialiser only has `self->f = E;` and `if`: no variable, no call and no `return`',
     'U3': 'an initialiser cannot read self, only its other parameters',
     'U4': 'an initialiser is run by `alloc`, as in `struct S *p = alloc S f(..);`',
     'U5': '`alloc S f(..)` takes an initialiser: `init f(struct S *self, ..) { .. }`',
 }
-# What a fault is met by: its code, itself with the tokens round it, where the statement and its value begin, and what was wanted.
+# What a fault is met by: its code, itself with the tokens round it, where the statement and its value begin, and what
+# was wanted.
 Spot = namedtuple('Spot', 'code token before after first value wanted level tokens at')
 
 
@@ -283,7 +292,10 @@ def of_expression(spot):
     if is_next:
         return of_operand(text, before)
     if text == '(' and before.kind == 'name':
-        return 'a call is a statement, and no part of an expression: pass a modifiable that the function writes to, and read that'
+        return (
+            'a call is a statement, and no part of an expression: pass a modifiable that the function writes to, and'
+            ' read that'
+        )
     if text == '[':
         return ROW
     if text == '&':
@@ -300,7 +312,10 @@ def of_expression(spot):
 def of_operand(text, before):
     """A sign where an operand is expected."""
     if text == '*':
-        return 'there is no `*p`: only `->` leads from a pointer to what it points to, and `read` to what a modifiable holds'
+        return (
+            'there is no `*p`: only `->` leads from a pointer to what it points to, and `read` to what a modifiable'
+            ' holds'
+        )
     if text in ('<', '>') and before.text == text:
         return BITS
     if text in ('+', '=', ';') and before.text in ('+', '-'):

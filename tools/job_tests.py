@@ -1,8 +1,11 @@
-"""Tries the Python client, and the three jobs of examples/ beside their computations in Python: `python3 -m tools.job_tests SERVER`.
+"""Tries the Python client, and the three jobs of examples/ beside their computations in Python: `python3 -m
+tools.job_tests SERVER`.
 
 SERVER is a built `ceal_serve`. The jobs run side by side, each over some hundred random edits.
 """
-import os, subprocess, sys
+import os
+import subprocess
+import sys
 
 from tools.programs import TOP
 

@@ -1,6 +1,8 @@
-"""The types of a program that was read (tools/grammar.py): for each place where two differ, what is expected there and what is there instead.
+"""The types of a program that was read (tools/grammar.py): for each place where two differ, what is expected there and
+what is there instead.
 
-They are for the hint beside a fault `kinds differ`. A type is written as in a program; one that is not known is None, and differs from none.
+They are for the hint beside a fault `kinds differ`. A type is written as in a program; one that is not known is None,
+and differs from none.
 """
 from tools.grammar import modifiable
 

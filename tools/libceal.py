@@ -1,13 +1,20 @@
 """The library for C, crates/ceal_c: makes, tries and installs it.
 
     python3 -m tools.libceal make            makes libceal.a and libceal.so of what `rt lib` has made in crates/ceal_c
-    python3 -m tools.libceal test [FOLDER]   compiles the programs of client/ and examples/c, and runs them over the library in FOLDER
+    python3 -m tools.libceal test [FOLDER]   runs the programs of client/ and examples/c over the library in FOLDER
     python3 -m tools.libceal put FOLDER      puts the library with its header and ceal.pc there
 
-`rt lib` makes an archive that takes its memory from three functions of the toolchain, which call malloc, realloc and free. libceal.a has
-their object, too, so that nothing else is to be linked. `./run --build`, `--install` and `--test` do all this.
+`rt lib` makes an archive that takes its memory from three functions of the toolchain, which call malloc, realloc and
+free. libceal.a has their object, too, so that nothing else is to be linked. `./run --build`, `--install` and `--test`
+do all this.
 """
-import os, pathlib, resource, shutil, subprocess, sys, tempfile
+import os
+import pathlib
+import resource
+import shutil
+import subprocess
+import sys
+import tempfile
 
 from tools import answers, programs
 from tools.answers import Fault
@@ -27,10 +34,8 @@ Libs: -L${{pcfiledir}} -lceal
 STRICT = ['-std=c99', '-Wall', '-Wextra', '-Werror', '-pedantic', '-O1', '-g', f'-I{HEADER.parent}']
 WRAPPED = '-Wl,--wrap=malloc,--wrap=realloc,--wrap=free'
 INC = 'b was 5, and with a at 9 it is 10; steps 2, work 1\n'
-STACK, GROWTH = (
-    1 << 20,
-    1024,
-)  # (the bytes of a stack that ceal.h asks for; more KiB than ten thousand sessions may leave behind)
+# The bytes of a stack that ceal.h asks for; more KiB than ten thousand sessions may leave behind.
+STACK, GROWTH = 1 << 20, 1024
 
 
 def kit():
@@ -192,7 +197,8 @@ class Trial:
         return None if done.returncode else program
 
     def run(self, name, words, wanted=None, **how):
-        """Runs a program, which ends with 0, and writes what is wanted; returns the KiB of memory that it had at most."""
+        """Runs a program, which ends with 0, and writes what is wanted; returns the KiB of memory that it had at
+        most."""
         with tempfile.TemporaryFile('w+') as said:
             process = subprocess.Popen(
                 words, stdin=subprocess.DEVNULL, stdout=said, stderr=subprocess.STDOUT, cwd=TOP, **how

@@ -1,5 +1,7 @@
-"""Writes the manual page of the program, from the tables of docs/SCRIPT.md: `python3 -B -m tools.manual > ceal.1`, shown by `man -l ceal.1`."""
-import re, sys
+"""Writes the manual page of the program, from the tables of docs/SCRIPT.md: `python3 -B -m tools.manual > ceal.1`,
+shown by `man -l ceal.1`."""
+import re
+import sys
 
 from tools.programs import TOP
 
@@ -59,7 +61,10 @@ def manual(page, version):
     yield from terms(
         [line, what, f'Reply: {reply}'] for line, what, reply in table(page, 'Line', 'What it does', 'Reply')
     )
-    yield '.SH REFUSALS\nA line that cannot be done is answered \\fBrefused\\fR with a code and a text, and changes nothing.'
+    yield (
+        '.SH REFUSALS\nA line that cannot be done is answered \\fBrefused\\fR with a code and a text, and changes'
+        ' nothing.'
+    )
     yield from terms(table(page, 'Code', 'Text', 'When'))
     yield '.SH EXIT STATUS'
     yield from terms(statuses(page))

@@ -1,9 +1,12 @@
-"""The programs of the repository, each with the sums of what it was made of: `ceal`, which answers a whole script, and `ceal_serve`, which
-answers line by line.
+"""The programs of the repository, each with the sums of what it was made of: `ceal`, which answers a whole script, and
+`ceal_serve`, which answers line by line.
 
-Each is there in up to two forms: the proved one in its crate's folder out/, and the draft, which no proof was made of, in the folder draft/.
+Each is there in up to two forms: the proved one in its crate's folder out/, and the draft, which no proof was made of,
+in the folder draft/.
 """
-import os, pathlib, time
+import os
+import pathlib
+import time
 
 TOP = pathlib.Path(__file__).resolve().parent.parent
 NAMES = ('ceal', 'ceal_serve')
@@ -60,7 +63,8 @@ def remember(path, text):
 
 
 class Program:
-    """A program, and the sums and stats of the sources that it was made of; `parts` are the folders of a crate that count."""
+    """A program, and the sums and stats of the sources that it was made of; `parts` are the folders of a crate that
+    count."""
 
     def __init__(self, name, folder, parts):
         self.name, self.path, self.parts = name, folder / name, parts
@@ -89,8 +93,8 @@ class Program:
         return os.access(self.path, os.X_OK) and self.built.is_file()
 
     def stats(self):
-        """A line for each source, the program and its sums: the size, the times and the number of the file. While none of these is another,
-        as `git` and `make` take it too, neither is what is in the files."""
+        """A line for each source, the program and its sums: the size, the times and the number of the file. While none
+        of these is another, as `git` and `make` take it too, neither is what is in the files."""
 
         def line(path, it):
             return f'{path} {it.st_size} {it.st_mtime_ns} {it.st_ctime_ns} {it.st_ino}'
@@ -110,7 +114,8 @@ class Program:
         return '\n'.join(lines)
 
     def is_current(self):
-        """Whether the program was built from just these sources: by their sums, or where those have been looked at, by the stats of the files."""
+        """Whether the program was built from just these sources: by their sums, or where those have been looked at, by
+        the stats of the files."""
         seen, now = self.stats(), time.time()
         try:
             if self.seen.read_text() == seen:

@@ -1,7 +1,8 @@
-"""What is told beside a refused line of a script: which part of it is at fault, what it may have meant, and which line is the reason.
+"""What is told beside a refused line of a script: which part of it is at fault, what it may have meant, and which line
+is the reason.
 
-The replies are the program's. This goes along the script beside them and keeps what is needed for a guess; where it does not know, it tells
-nothing. docs/SCRIPT.md has the lines and the refusals.
+The replies are the program's. This goes along the script beside them and keeps what is needed for a guess; where it
+does not know, it tells nothing. docs/SCRIPT.md has the lines and the refusals.
 """
 import re
 
@@ -85,7 +86,10 @@ class Session:
         if dot and form == 'mod':
             return f'{name} is one modifiable, and has no fields'
         if dot and field not in self.fields(struct):
-            return f'{name} is a {struct}, with the fields {", ".join(self.fields(struct))}{like(field, self.fields(struct))}'
+            return (
+                f'{name} is a {struct}, with the fields'
+                f' {", ".join(self.fields(struct))}{like(field, self.fields(struct))}'
+            )
         return None
 
     def type_of(self, word):
@@ -146,7 +150,10 @@ class Session:
         """Which value of a new block does not fit, or how many there should be."""
         fields, given = self.fields(words[2]), words[3:]
         if len(fields) != len(given):
-            return f'a {words[2]} takes {len(fields)} value{"s" * (len(fields) != 1)}, not {len(given)}: {", ".join(fields)}'
+            return (
+                f'a {words[2]} takes {len(fields)} value{"s" * (len(fields) != 1)}, not {len(given)}:'
+                f' {", ".join(fields)}'
+            )
         found = (
             self.misfit(field.type, word, f'the field {name}') for (name, field), word in zip(fields.items(), given)
         )
@@ -231,7 +238,8 @@ def no_value(word):
 
 
 def explained(given, output, mode):
-    """Gives each line of a script with its place, FILE:NUMBER, the lines that it is answered, and why it was refused, where that is known."""
+    """Gives each line of a script with its place, FILE:NUMBER, the lines that it is answered, and why it was refused,
+    where that is known."""
     reading, sessions = grammar.read(scripts.parts(given.text())[0]), {}
     first, script = scripts.script_of(given.text(), mode)
     name, own = given.place(first)

@@ -24,7 +24,8 @@ def parts(text):
 
 
 def script_of(text, mode):
-    """The number of the first line of an input's script, and the script; with `resume` a save and a second line %% come before it."""
+    """The number of the first line of an input's script, and the script; with `resume` a save and a second line %% come
+    before it."""
     source, mark, script = parts(text)
     first = source.count(b'\n') + 2
     if mode == 'resume':
@@ -139,7 +140,8 @@ def shown(line, column):
 
 
 def hints(code, line, column, text, needs_mark=True):
-    """What is told of a fault besides: what may be missing, what was expected, and how to say what was probably meant."""
+    """What is told of a fault besides: what may be missing, what was expected, and how to say what was probably
+    meant."""
     from tools import hints
 
     source, mark, _ = parts(text)

@@ -1,5 +1,13 @@
-"""Tries what `./run` does: `python3 -m tools.self_tests proved|draft|tried`. Where `rt try` answers, only what needs few answers is tried."""
-import os, pathlib, re, signal, subprocess, sys, tempfile, time
+"""Tries what `./run` does: `python3 -m tools.self_tests proved|draft|tried`. Where `rt try` answers, only what needs
+few answers is tried."""
+import os
+import pathlib
+import re
+import signal
+import subprocess
+import sys
+import tempfile
+import time
 from concurrent.futures import ThreadPoolExecutor
 
 from tools import build_tests, calls, editor_tests, hint_tests, processes, rows, scripts
@@ -211,7 +219,10 @@ def two_files(made):
     """A line is told by the file that it is in, and by its number there."""
     source, script = made['source.ceal'], made['refused_script']
     reply = b'ok\nrefused C1: unreadable line\nrefused C2: unknown name\n'
-    told = f'run: {script}:3: mod b int: refused C1: unreadable line\nrun:   the form is mod NAME int VALUE, or mod NAME STRUCT VALUE\n'
+    told = (
+        f'run: {script}:3: mod b int: refused C1: unreadable line\nrun:   the form is mod NAME int VALUE, or mod NAME'
+        ' STRUCT VALUE\n'
+    )
     call('--strict of two files', ['--strict', source, script], 67, reply, told)
     call(
         '--strict after two files',
@@ -304,11 +315,17 @@ def strict(made, folder):
 def options(made):
     refused = made['refused.ceal']
     reply = b'ok\nrefused C7: no finished run\nok\nrefused C1: unreadable line\n1\n'
-    told = f'run: {refused}:5: get m: refused C7: no finished run\nrun:   nothing ran yet\nrun: {refused}:7: frob: refused C1: unreadable line\n'
+    told = (
+        f'run: {refused}:5: get m: refused C7: no finished run\nrun:   nothing ran yet\nrun: {refused}:7: frob: refused'
+        ' C1: unreadable line\n'
+    )
     call('--strict, with refused lines', ['--strict', refused], 67, reply, told)
     call('--strict, with none', ['--strict', 'examples/inc.ceal'], 0, (TOP / 'examples/inc.expected').read_bytes(), '')
     gap = ' ' * 12
-    shown = f'3  // a comment\n4  mod m int 1{gap}ok\n5  get m{gap}      refused C7: no finished run (nothing ran yet)\n6  run f m{gap}    ok\n'
+    shown = (
+        f'3  // a comment\n4  mod m int 1{gap}ok\n5  get m{gap}      refused C7: no finished run (nothing ran yet)\n6 '
+        f' run f m{gap}    ok\n'
+    )
     shown += f'7  frob{gap}       refused C1: unreadable line (no line begins with frob)\n8  get m{gap}      1\n'
     call('--beside', ['--beside', refused], 0, shown.encode())
     call('--beside of a fault', ['--beside', made['place.ceal']], 1, b'fault S3 at 2:10: unexpected token\n', 'write(m')
@@ -323,10 +340,19 @@ def options(made):
     tell('the lines of --time', [] if is_right else [f'wrote {timed!r}'])
 
 
+def plain(number):
+    """A number that was told with commas."""
+    return int(number.replace(',', ''))
+
+
 def worked(made):
-    """The tables of --work: their rows have all steps of each update, and the first one is what the tutorial says of it."""
+    """The tables of --work: their rows have all steps of each update, and the first one is what the tutorial says of
+    it."""
     heading = '     steps  stale reads  reused  where\n'
-    table = f'{heading}        10            1       1  map, line 11: struct cell *c = read(from);\n{"":33}list was c1, and is c0\n'
+    table = (
+        f'{heading}        10            1       1  map, line 11: struct cell *c = read(from);\n{"":33}list was c1, and'
+        ' is c0\n'
+    )
     told = call('--work', ['--work', 'examples/map.ceal'], 0).decode()
     tell(
         'the first table of --work',
@@ -343,11 +369,8 @@ def worked(made):
             for it in updates
             if heading in it
         ]
-        plain = lambda number: int(number.replace(',', ''))
-        tell(
-            f'the sums of --work of {example.name}',
-            [f'{work[1]} is not {rows}' for work, rows in sums if plain(work[1]) != sum(map(plain, rows))],
-        )
+        wrong = [f'{work[1]} is not {rows}' for work, rows in sums if plain(work[1]) != sum(map(plain, rows))]
+        tell(f'the sums of --work of {example.name}', wrong)
     call('--work of a fault', ['--work', made['place.ceal']], 1, b'fault S3 at 2:10: unexpected token\n', 'write(m')
     ran = f'{made["unrun.ceal"]}:7: run f m: work 2 of 2 steps, all of them\n'.encode()
     pathlib.Path(made['unrun.ceal']).with_name('ran.ceal').write_text(
@@ -522,9 +545,10 @@ def groups(made, folder, is_kept):
 
 
 def main(is_kept):
-    with tempfile.TemporaryDirectory(prefix='ceal-') as folder, ThreadPoolExecutor(
-        len(os.sched_getaffinity(0))
-    ) as pool:
+    with (
+        tempfile.TemporaryDirectory(prefix='ceal-') as folder,
+        ThreadPoolExecutor(len(os.sched_getaffinity(0))) as pool,
+    ):
         made = files(folder)
         for it in [pool.submit(*group) for group in groups(made, folder, is_kept)]:
             it.result()

@@ -1,4 +1,5 @@
-"""Why `--strict` fails: refused lines, a run that is out of fuel at the end, nothing that could be saved or dumped, a dump that is not verified."""
+"""Why `--strict` fails: refused lines, a run that is out of fuel at the end, nothing that could be saved or dumped, a
+dump that is not verified."""
 from tools import refusals, scripts
 
 UNFINISHED = b'no finished run\n'

@@ -26,5 +26,6 @@ def unresumable(mode, status, output):
     if mode != 'save' or status or len(output) <= LONGEST_INPUT:
         return []
     return [
-        f'the save has {len(output):,} bytes, and `./run resume` reads at most {LONGEST_INPUT:,}: this one can not be resumed'
+        f'the save has {len(output):,} bytes, and `./run resume` reads at most {LONGEST_INPUT:,}: this one can not be'
+        ' resumed'
     ]

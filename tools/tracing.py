@@ -1,9 +1,13 @@
 """Draws a trace: the reads of a run as intervals along its steps, and what the last update of a script did to it.
 
-A trace is had as a dump (docs/SAVES.md). For an update there are two, of the trace before and after it. They are gone through side by side by
-the rules of repair (docs/REPAIR.md), which say what was kept, reused, re-executed and revoked; the steps re-executed are the update's work.
+A trace is had as a dump (docs/SAVES.md). For an update there are two, of the trace before and after it. They are gone
+through side by side by the rules of repair (docs/REPAIR.md), which say what was kept, reused, re-executed and revoked;
+the steps re-executed are the update's work.
 """
-import bisect, collections, html, re
+import bisect
+import collections
+import html
+import re
 
 from tools import answers, scripts
 from tools.answers import Fault
@@ -32,7 +36,8 @@ PLACE = re.compile(r'([ic]\d+)(?:\.(\d+))?')
 
 
 class Trace:
-    """The items of a dump, flat: the words of each, where each read ends, how deep each is, and how many steps come before it."""
+    """The items of a dump, flat: the words of each, where each read ends, how deep each is, and how many steps come
+    before it."""
 
     def __init__(self, dump):
         lines = dump.decode().splitlines()
@@ -271,7 +276,10 @@ class Panel:
         if is_named and self.row > 12 and width > 40:
             shown = told if len(told) * 6.8 < width - 6 else told[: max(0, int((width - 6) / 6.8) - 1)] + '…'
             text = f'<text x="{left + 3:.1f}" y="{top + height - 4:.1f}">{html.escape(shown)}</text>'
-        return f'<rect x="{left:.2f}" y="{top:.2f}" width="{width:.2f}" height="{height:.2f}" fill="{COLOURS[label]}"{edge}{faint}>{title}</rect>{text}'
+        return (
+            f'<rect x="{left:.2f}" y="{top:.2f}" width="{width:.2f}" height="{height:.2f}"'
+            f' fill="{COLOURS[label]}"{edge}{faint}>{title}</rect>{text}'
+        )
 
 
 def bands(pairs, scale, top, bottom):
@@ -284,19 +292,29 @@ def bands(pairs, scale, top, bottom):
             runs.append([old, old + 1, new, new + 1, label])
     for first, last, begin, end, label in runs:
         xs = [20 + it * scale for it in (first, last, end, begin)]
-        yield f'<polygon points="{xs[0]:.2f},{top:.1f} {xs[1]:.2f},{top:.1f} {xs[2]:.2f},{bottom:.1f} {xs[3]:.2f},{bottom:.1f}" fill="{COLOURS[label]}" opacity="0.35"/>'
+        yield (
+            '<polygon'
+            f' points="{xs[0]:.2f},{top:.1f} {xs[1]:.2f},{top:.1f} {xs[2]:.2f},{bottom:.1f} {xs[3]:.2f},{bottom:.1f}"'
+            f' fill="{COLOURS[label]}" opacity="0.35"/>'
+        )
 
 
 def legend(counts, top):
     left = 20
     for label, text in counts:
         edge = ' stroke="#c2620e"' if label == 'stale' else ''
-        yield f'<rect x="{left}" y="{top - 10}" width="12" height="12" fill="{COLOURS[label]}"{edge}/><text x="{left + 17}" y="{top}">{text}</text>'
+        yield (
+            f'<rect x="{left}" y="{top - 10}" width="12" height="12" fill="{COLOURS[label]}"{edge}/><text'
+            f' x="{left + 17}" y="{top}">{text}</text>'
+        )
         left += 30 + 7 * len(text)
 
 
 def document(height, parts):
-    head = f'<svg xmlns="http://www.w3.org/2000/svg" viewBox="0 0 {WIDTH + 40} {height:.0f}" font-family="monospace" font-size="11">'
+    head = (
+        f'<svg xmlns="http://www.w3.org/2000/svg" viewBox="0 0 {WIDTH + 40} {height:.0f}" font-family="monospace"'
+        ' font-size="11">'
+    )
     return '\n'.join([head, '<rect width="100%" height="100%" fill="#fff"/>', *parts, '</svg>', ''])
 
 

@@ -1,5 +1,6 @@
 """The words of a call of `./run`: its mode, its options and its files, and which of them go together."""
-import os, re
+import os
+import re
 
 from tools.answers import Fault
 
@@ -15,10 +16,10 @@ USAGE = """usage: ./run FILE ..                   runs programs with their scrip
        ./run --build                   proves and builds the program and the server
        ./run --install FOLDER          puts the proved program and the server into a folder
        ./run --version                 says which version this is
-FILE may be - for standard input. Options come before, between or after the other words; what comes after a word -- is no option:
+FILE may be - for standard input. Options come before, between or after the other words; a word -- ends them:
        --fuel N    a run takes at most N steps: with run, dump, many, save
-       --strict    fails, and says why, if a line was refused or the last run was out of fuel, if there is nothing to save or to dump,
-                   and if a dump is not verified: with run, many, resume, save, dump, verify
+       --strict    fails, and says why, if a line was refused or the last run was out of fuel, if there is nothing to
+                   save or to dump, and if a dump is not verified: with run, many, resume, save, dump, verify
        --beside    each line of the script with its number, and its reply beside it: with run, many, resume
        --dot       the last graph of the replies in the language of Graphviz: with run
        --trace     a picture of the trace, and of what the last update did to it: with run

@@ -1,9 +1,12 @@
-"""Tells why each update was as large as it was: its steps by function and line, the reads that were stale, and what was reused.
+"""Tells why each update was as large as it was: its steps by function and line, the reads that were stale, and what was
+reused.
 
-It stands on dumps of the traces before and after an update, as pictures of traces do (`tools.tracing`). Each step that was re-executed is told
-with the read that it follows, the innermost one of those that it is in. The steps of all rows are the update's work, as the program tells it.
+It stands on dumps of the traces before and after an update, as pictures of traces do (`tools.tracing`). Each step that
+was re-executed is told with the read that it follows, the innermost one of those that it is in. The steps of all rows
+are the update's work, as the program tells it.
 """
-import collections, re
+import collections
+import re
 
 from tools import answers, grammar, scripts
 from tools.answers import Fault
@@ -18,7 +21,8 @@ HEADING = '     steps  stale reads  reused  where'
 
 
 class Row:
-    """What was re-executed after one read: how many steps, the reads that were stale, and how many parts were reused there."""
+    """What was re-executed after one read: how many steps, the reads that were stale, and how many parts were reused
+    there."""
 
     def __init__(self):
         self.steps, self.stale, self.reused = 0, [], 0
@@ -53,7 +57,8 @@ class Sources:
         return found
 
     def take(self, function, units, there):
-        """The reads of a function in its trace code are those of its text, one by one; where their number differs, only the function is told."""
+        """The reads of a function in its trace code are those of its text, one by one; where their number differs, only
+        the function is told."""
         lines = there.get(function, [])
         for at, unit in enumerate(units):
             self.reads[unit].append((function, lines[at] if len(lines) == len(units) else None))
@@ -132,7 +137,8 @@ def updates(lines, told):
 
 
 def replies(words, head, lines):
-    """The answer to a script that asks for work and steps after each run and update; what each was answered, and the rest of the answer."""
+    """The answer to a script that asks for work and steps after each run and update; what each was answered, and the
+    rest of the answer."""
     timed = [at for at, it in enumerate(lines) if it.split()[:1] in ([b'run'], [b'propagate'])]
     script = [it for at, line in enumerate(lines) for it in ([line, b'work', b'steps'] if at in set(timed) else [line])]
     text = b'\n'.join([*script, b''])
@@ -164,7 +170,8 @@ def main(words, given):
     first, traces = scripts.script_of(given.text(), 'run')[0], {}
 
     def trace(at):
-        """The trace after a line, and the number of the function that was called; the last one is kept, for the update that comes next."""
+        """The trace after a line, and the number of the function that was called; the last one is kept, for the update
+        that comes next."""
         if at not in traces:
             (got,) = answers.answers([(['dump', *words[1:]], Input('', head + b'\n'.join([*lines[: at + 1], b''])))])
             called = re.search(rb'^run (\d+)', got.output, re.M)
