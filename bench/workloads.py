@@ -99,20 +99,25 @@ def expression(size):
     return Work([*inputs, f'mod r node {root}', 'mod o int 0'], 'run eval r o', edits)
 
 
-def search(size):
-    """A balanced search tree of so many even keys, and a question for each; a question comes and goes, and so does a
-    key."""
-    inputs = []
+def balanced(size, number):
+    """The lines that make a balanced tree, each node with a number that follows from its place; and the root."""
+    lines = []
 
     def grow(first, last):
         if first > last:
             return 'null'
         middle = (first + last) // 2
         left, right = grow(first, middle - 1), grow(middle + 1, last)
-        inputs.append(f'new n{middle} node {2 * middle} {left} {right}')
+        lines.append(f'new n{middle} node {number(middle)} {left} {right}')
         return f'n{middle}'
 
-    root = grow(1, size)
+    return lines, grow(1, size)
+
+
+def search(size):
+    """A balanced search tree of so many even keys, and a question for each; a question comes and goes, and so does a
+    key."""
+    inputs, root = balanced(size, lambda at: 2 * at)
     asked = numbers(size + 2, 4, 2 * size)
     inputs += [f'new q{k} question {asked[k - 1]} {f"q{k - 1}" if k > 1 else "null"}' for k in range(1, size + 1)]
     inputs += [
@@ -151,17 +156,7 @@ def by_turns(first, second, back):
 
 def tree(size):
     """A balanced tree; a leaf comes and goes below its leftmost node and below its rightmost one."""
-    inputs = []
-
-    def grow(first, last):
-        if first > last:
-            return 'null'
-        middle = (first + last) // 2
-        left, right = grow(first, middle - 1), grow(middle + 1, last)
-        inputs.append(f'new n{middle} node {middle % 7} {left} {right}')
-        return f'n{middle}'
-
-    root = grow(1, size)
+    inputs, root = balanced(size, lambda at: at % 7)
     inputs += ['new x node 1 null null', f'mod r node {root}', 'mod o int 0']
     return Work(
         inputs,

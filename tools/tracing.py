@@ -189,6 +189,21 @@ class Names:
     def field(self, struct, at):
         return self.fields[struct][at] if struct is not None and at < len(self.fields[struct]) else str(at)
 
+    def word(self, word, inputs, structs, called):
+        """A word of a trace for people: `inputs` are the shapes of its inputs, `structs` those of the blocks that it
+        made, and `called` names these."""
+        found = PLACE.fullmatch(word)
+        if not found:
+            return word
+        number = int(found[1][1:])
+        if word[0] == 'i':
+            name = self.inputs[number] if number < len(self.inputs) else found[1]
+            shape = inputs[number] if number < len(inputs) else 'i'
+            struct = int(shape[1:]) if shape[0] == 's' else None
+        else:
+            name, struct = called(found[1]), structs.get(found[1])
+        return name if found[2] is None or struct is None else f'{name}.{self.field(struct, int(found[2]))}'
+
 
 def fields_of(body):
     """The names of the fields of a struct, each element of a row by itself."""
@@ -211,17 +226,7 @@ class Panel:
         self.structs = {}
 
     def word(self, word):
-        found = PLACE.fullmatch(word)
-        if not found:
-            return word
-        number = int(found[1][1:])
-        if word[0] == 'i':
-            name = self.names.inputs[number] if number < len(self.names.inputs) else found[1]
-            shape = self.trace.inputs[number]
-            struct = int(shape[1:]) if shape[0] == 's' else None
-        else:
-            name, struct = self.called(found[1]), self.structs.get(found[1])
-        return name if found[2] is None or struct is None else f'{name}.{self.names.field(struct, int(found[2]))}'
+        return self.names.word(word, self.trace.inputs, self.structs, self.called)
 
     def told(self, item):
         """An item for people."""

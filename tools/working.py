@@ -12,7 +12,7 @@ from tools import answers, grammar, scripts
 from tools.answers import Fault
 from tools.inputs import Input
 from tools.telling import hand_on, tell
-from tools.tracing import PLACE, Names, Trace, Update
+from tools.tracing import Names, Trace, Update
 
 MOST_UPDATES, MOST_STALE = 50, 3  # (the updates of a script, and the stale reads of a row, that are told)
 COMMAND = re.compile(r'\s*v\d+ = read\(.*\) u(\d+)\(')
@@ -103,17 +103,7 @@ class Worked:
                 self.rows[opened[-1]].stale.append((before.items[stale[at]], item))
 
     def word(self, word):
-        found = PLACE.fullmatch(word)
-        if not found:
-            return word
-        number = int(found[1][1:])
-        if word[0] == 'i':
-            name = self.names.inputs[number] if number < len(self.names.inputs) else found[1]
-            shape = self.update.new.inputs[number] if number < len(self.update.new.inputs) else 'i'
-            struct = int(shape[1:]) if shape[0] == 's' else None
-        else:
-            name, struct = f'#{number + 1}', self.structs.get(found[1])
-        return name if found[2] is None or struct is None else f'{name}.{self.names.field(struct, int(found[2]))}'
+        return self.names.word(word, self.update.new.inputs, self.structs, lambda it: f'#{int(it[1:]) + 1}')
 
     def lines(self, sources, called):
         for unit, row in sorted(self.rows.items(), key=lambda it: (-it[1].steps, -len(it[1].stale))):
