@@ -1,5 +1,5 @@
 # Every command of the repository under one roof: `make help` lists them. Each is a line of some script, which can be called by itself.
-.PHONY: help try draft test build install man lint pages index tags check edits plants gate cost bench random
+.PHONY: help try draft test build install man lint pages python index tags check edits plants gate cost bench doubling signals random
 
 CRATE ?= ceal_base
 FILE ?= examples/inc.ceal
@@ -38,11 +38,17 @@ pages: ## makes again what is derived: sessions, pictures and excerpts of pages,
 	.ci/crates --write
 	.ci/reading --write
 
+python: ## lays out all Python as black does
+	.ci/python --write
+
 index: ## writes out/index.html: all definitions, laws and clauses, with who cites them
 	.ci/index
 
-tags: ## sets a tag of git for each version of CHANGELOG.md
-	@sed -nE 's/^## ([0-9.]+) - .* \(([0-9a-f]+)\)$$/v\1 \2/p' CHANGELOG.md | while read tag commit; do git tag -f $$tag $$commit; done
+tags: ## sets a tag of git for each version of CHANGELOG.md; one with no commit beside it is the state that it is first called in
+	@sed -nE 's/^## ([0-9.]+) - [-0-9]+( \(([0-9a-f]+)\))?$$/v\1 \3/p' CHANGELOG.md | while read tag commit; do \
+	    if [ -n "$$commit" ]; then git tag -f $$tag $$commit; \
+	    else git rev-parse -q --verify refs/tags/$$tag > /dev/null || git tag $$tag; fi; \
+	done
 
 check: ## proves CRATE=ceal_base and the crates below it, over what earlier checks kept
 	cd crates/$(CRATE) && rt check
@@ -50,7 +56,7 @@ check: ## proves CRATE=ceal_base and the crates below it, over what earlier chec
 edits: ## tries the wrong bodies of CRATE=ceal_base, which its contracts must refuse
 	rt must-fail $(CRATE)
 
-plants: ## tries many more wrong bodies of CRATE=ceal_base, and writes its row of docs/PLANTS.md (long)
+plants: ## tries many more wrong bodies of CRATE=ceal_base, and writes its row of .ci/plants.md (long)
 	.ci/plants $(CRATE)
 
 gate: ## the merge gate: all proofs, edits, tests and programs, and then the lint and the tests (long)
@@ -61,6 +67,12 @@ cost: ## the gate, with the processor minutes of each crate (long)
 
 bench: ## measures the built program (docs/PERFORMANCE.md)
 	bench/run
+
+doubling: ## gives the built programs what is chosen to be slow, at three sizes, and long sessions
+	bench/doubling.py
+
+signals: ## measures three jobs beside public libraries of signals, on an idle machine
+	bench/signals.py
 
 random: ## random edits of the examples by the built program, beside runs from scratch
 	python3 -m tools.random_tests $(BINARY)

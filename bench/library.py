@@ -1,26 +1,31 @@
 #!/usr/bin/env python3
-"""Measures CEAL inside a program of one's own: the jobs of ceal_embedding by an engine, edits that change nothing, and a turn of the server.
+"""Measures CEAL inside a program of one's own: the jobs of ceal_embedding by an engine, edits that change nothing, and
+a turn of the server.
 
-    bench/library.py                     prints the section for the proved programs
-    bench/library.py --write             writes bench/library.md, and the section into docs/PERFORMANCE.md
+    bench/library.py                     prints the tables for the proved programs
+    bench/library.py --write             writes bench/library.md, and its sum into docs/PERFORMANCE.md
     bench/library.py --quick             small sizes, to see that all goes
     bench/library.py EMBEDDING SERVER    for other builds of crates/ceal_embedding and crates/ceal_serve
 
-Instructions are counted by valgrind (bench/counting.py), and looks by the program itself; both are the same on a busy machine. Times
-are measured where the machine is idle (bench/seconds.py says what that is), and else left out. It takes some four minutes on an idle
-machine.
+Instructions are counted by valgrind (bench/counting.py), and looks by the program itself; both are the same on a busy
+machine. Times are measured where the machine is idle (bench/seconds.py says what that is), and else left out. It takes
+some four minutes on an idle machine.
 """
-import os, pathlib, re, statistics, subprocess, sys, time
+import re
+import statistics
+import subprocess
+import sys
+import time
 
-import counting, seconds
+import counting
+import seconds
 from measuring import Failed, Program
+from pages import folded, put
 from tables import table
 from workloads import TOP, plain_list, input_of
 
-OUT, PAGE = TOP / 'bench/library.md', TOP / 'docs/PERFORMANCE.md'
-BEGIN, END = '<!-- library -->\n', '<!-- end of library -->\n'
-PEERS = TOP / 'bench/peers.md'
-SIZES, QUICK = (1_000, 10_000, 40_000), (100, 400)
+OUT = TOP / 'bench/library.md'
+SIZES, QUICK, SHORT = (1_000, 10_000, 40_000), (100, 400), 10_000
 # each job: what it is, and how many edits are counted and timed
 JOBS = {
     'tree': ('the sum of a tree, and a leaf changed', 200, 20_000),
@@ -71,8 +76,11 @@ class Bench:
         """The time of an update with its spread, if the machine is idle."""
         if not self.is_idle:
             return ''
-        spent = lambda count: [self.embedding.once(self.words(job, size, count), '').seconds for _ in range(TRIES)]
-        return seconds.told(spent(edits), spent(0), edits)
+        spent, idle = (
+            [self.embedding.once(self.words(job, size, count), '').seconds for _ in range(TRIES)]
+            for count in (edits, 0)
+        )
+        return seconds.told(spent, idle, edits)
 
 
 def rows(bench, jobs, sizes):
@@ -82,11 +90,20 @@ def rows(bench, jobs, sizes):
     for job, size in cases:
         looks, work, timed = first[job, size]
         run, update = bench.counted(job, size, jobs[job][1])
-        yield [job, f'{size:,}', f'{run / 1e6:,.1f}', f'{update:,.0f}', f'{looks:,.1f}', f'{work:,}', *([timed] if bench.is_idle else [])]
+        yield [
+            job,
+            f'{size:,}',
+            f'{run / 1e6:,.1f}',
+            f'{update:,.0f}',
+            f'{looks:,.1f}',
+            f'{work:,}',
+            *([timed] if bench.is_idle else []),
+        ]
 
 
 def turn_lines(size, turns):
-    """The lines that a session is opened with, and those of turns: a cell in the middle of a list is taken out and put back."""
+    """The lines that a session is opened with, and those of turns: a cell in the middle of a list is taken out and put
+    back."""
     work = plain_list('run map l o', ['mod o cell null'])(size)
     middle = size // 2
     pair = [f'set c{middle}.tail c{middle - 2}', 'propagate', f'set c{middle}.tail c{middle - 1}', 'propagate']
@@ -100,7 +117,8 @@ def server_instructions(bench, size):
 
 
 def server_time(bench, size):
-    """The middle time of a turn through two pipes, in microseconds, each line written after the reply to the one before."""
+    """The middle time of a turn through two pipes, in microseconds, each line written after the reply to the one
+    before."""
     before, turns = turn_lines(size, TURNS)
     process = subprocess.Popen([bench.server.path], stdin=subprocess.PIPE, stdout=subprocess.PIPE)
     process.stdin.write(input_of('map', before).encode())
@@ -126,50 +144,77 @@ def turn_rows(bench, sizes):
         _, update = bench.counted('session', size, 200)
         yield ['`Session::command`, two lines', f'{size:,}', f'{update:,.0f}', *([session] if bench.is_idle else [])]
         told = [f'{2 * float(served.split()[0]):.1f} µs'] if bench.is_idle else []
-        yield ['`ceal_serve`, two turns through pipes', f'{size:,}', f'{2 * server_instructions(bench, size):,.0f}', *told]
+        yield [
+            '`ceal_serve`, two turns through pipes',
+            f'{size:,}',
+            f'{2 * server_instructions(bench, size):,.0f}',
+            *told,
+        ]
 
 
-def section(bench, is_quick):
+def measured(bench, is_quick):
+    """The rows of the three tables: of jobs, of edits that nobody sees, and of turns."""
     sizes, turn_sizes = (QUICK, QUICK[:1]) if is_quick else (SIZES, TURN_SIZES)
+    return list(rows(bench, JOBS, sizes)), list(rows(bench, IDLE, sizes)), list(turn_rows(bench, turn_sizes))
+
+
+def section(bench, jobs, idle, turns):
     time_head = ['time of an update'] if bench.is_idle else []
     head = ['Job', 'n', 'all without edits, millions', 'an update', 'looks', 'work of the last one', *time_head]
-    jobs, idle = list(rows(bench, JOBS, sizes)), list(rows(bench, IDLE, sizes))
-    turns = list(turn_rows(bench, turn_sizes))
-    when = 'Times are processor time on an idle machine, the middle one of several tries with half of their spread.' if bench.is_idle else 'The machine was busy, so no times were measured.'
-    return f'''Jobs that a program carries out by calls of an engine, without any text (`crates/ceal_embedding`, `src/jobs.rt`): {'; '.join(f'*{job}* is {JOBS[job][0]}' for job in JOBS)}.
-Counted instructions of the whole process without edits (it compiles the source text, makes the inputs and runs), and of one update. {when}
+    when = 'The machine was busy, so no times were measured.'
+    if bench.is_idle:
+        when = 'Times are processor time on an idle machine, the middle one of several tries with half of their spread.'
+    return f'''# From a program of your own
+
+`bench/library.py --write` writes this file.
+
+Jobs that a program carries out by calls of an engine, without any text (`crates/ceal_embedding`, `src/jobs.rt`):
+{told_jobs(JOBS)}. Counted instructions of the whole process without edits (it compiles the source text, makes the
+inputs and runs), and of one update. {when}
 
 {table(head, jobs)}
-Edits that change nothing that the n readers see: {'; '.join(f'*{job}* is {IDLE[job][0]}' for job in IDLE)}. Their looks do not grow with the readers. Their instructions grow slowly, as the table shows.
+Edits that change nothing that the n readers see: {told_jobs(IDLE)}. Their looks do not grow with the readers. Their
+instructions grow slowly, as the table shows.
 
 {table(head, idle)}
-An update by lines, `set` and `propagate`, over the list of *map*, each with its reply. By an engine the same update is the one of the first table.
+An update by lines, `set` and `propagate`, over the list of *map*, each with its reply. By an engine the same update is
+the one of the first table.
 
-{table(['How', 'n', 'an update', *time_head], turns)}
-{PEERS.read_text()}'''
+{table(['How', 'n', 'an update', *time_head], turns)}'''
 
 
-def put_into(text, part):
-    """The page with another section."""
-    if BEGIN not in text:
-        before, rest = text.split('## Repair in slices, and the bound\n', 1)
-        return f'{before}## From a program of your own\n\n{BEGIN}{part}{END}\n## Repair in slices, and the bound\n{rest}'
-    before, rest = text.split(BEGIN, 1)
-    return before + BEGIN + part + END + rest.split(END, 1)[1]
+def told_jobs(jobs):
+    return '; '.join(f'*{job}* is {text}' for job, (text, *_) in jobs.items())
+
+
+def summary(bench, jobs, idle, turns):
+    """The rows of one size, for the page."""
+    time_head = ['time'] if bench.is_idle else []
+    found = [
+        [f'*{name}* by an engine, n is {n}', update, *more[2:]]
+        for name, n, _, update, *more in [*jobs, *idle]
+        if n == f'{SHORT:,}'
+    ]
+    found += [[f'*map* by {how}, n is {n}', update, *more] for how, n, update, *more in turns if n == f'{SHORT:,}']
+    return f'{told_jobs({**JOBS, **IDLE})}.\n\n{table(["An update", "instructions", *time_head], found)}'
 
 
 def main(words):
     if not counting.is_there():
         sys.exit('bench/library.py: valgrind is not on this machine, and counts the instructions')
     options = [it for it in words if it.startswith('--')]
-    paths = [it for it in words if not it.startswith('--')] or [str(TOP / f'crates/{it}/out/{it}') for it in ('ceal_embedding', 'ceal_serve')]
+    paths = [it for it in words if not it.startswith('--')] or [
+        str(TOP / f'crates/{it}/out/{it}') for it in ('ceal_embedding', 'ceal_serve')
+    ]
     if len(paths) != 2 or any(it not in ('--write', '--quick') for it in options):
         sys.exit(__doc__)
-    part = section(Bench(*paths), '--quick' in options)
-    print(part, end='')
+    bench = Bench(*paths)
+    found = measured(bench, '--quick' in options)
+    text = folded(section(bench, *found))
+    print(text, end='')
     if '--write' in options:
-        OUT.write_text(part)
-        PAGE.write_text(put_into(PAGE.read_text(), part))
+        OUT.write_text(text)
+        put('library', summary(bench, *found))
 
 
 if __name__ == '__main__':

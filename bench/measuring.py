@@ -1,5 +1,10 @@
 """Starts the programs that are measured: what a process takes of processor time and memory, and what it writes."""
-import hashlib, os, pathlib, sys, subprocess, tempfile
+import hashlib
+import os
+import pathlib
+import sys
+import subprocess
+import tempfile
 
 from workloads import PROGRAMS, RUN, input_of, lines_of
 
@@ -11,7 +16,8 @@ class Spent:
         self.seconds, self.memory, self.written = seconds, memory, written
 
 
-# A small process that starts the programs, since Linux counts what the starting process holds as memory of the one that it starts.
+# A small process that starts the programs, since Linux counts what the starting process holds as memory of the one that
+# it starts.
 STARTER = """
 import os, sys
 for line in sys.stdin:
@@ -61,7 +67,9 @@ class Program:
             status, seconds, memory = STARTING.run(given.name, taken.name, [self.path, *words])
             written = taken.read().decode()
         if status != 0:
-            raise Failed(f'{os.path.basename(self.path)} {" ".join(words)} ended with status {status}: {written[:80]!r}')
+            raise Failed(
+                f'{os.path.basename(self.path)} {" ".join(words)} ended with status {status}: {written[:80]!r}'
+            )
         return Spent(seconds, memory, written)
 
 
@@ -70,7 +78,8 @@ class Failed(Exception):
 
 
 def answers_alike(programs, name, size):
-    """Whether all programs answer a workload with its edits alike, the values of its outputs and the work numbers too."""
+    """Whether all programs answer a workload with its edits alike, the values of its outputs and the work numbers
+    too."""
     work = PROGRAMS[name][1](size)
     shown = [f'show {line.split()[1]}' for line in work.inputs if line.startswith('mod ')]
     asked = ['steps', 'blocks', 'work', *shown]

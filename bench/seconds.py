@@ -1,15 +1,22 @@
 #!/usr/bin/env python3
-"""Measures what a person feels, in seconds, on an idle machine, and writes bench/seconds.md, which docs/PERFORMANCE.md takes over.
+"""Measures what a person feels, in seconds, on an idle machine, and writes bench/seconds.md, and its first table into
+docs/PERFORMANCE.md.
 
     bench/seconds.py [PROGRAM]
 
-A machine is idle if hardly anything ran in the last minute (the load of /proc/loadavg is under a quarter of a processor). On another one it
-measures nothing and ends with 1: differences of times on a busy machine say nothing. Each time is the middle one of many tries, and is
-written with the spread of the tries; one that is smaller than its spread is written as less than the spread.
+A machine is idle if hardly anything ran in the last minute (the load of /proc/loadavg is under a quarter of a
+processor). On another one it measures nothing and ends with 1: differences of times on a busy machine say nothing. Each
+time is the middle one of many tries, and is written with the spread of the tries; one that is smaller than its spread
+is written as less than the spread.
 """
-import datetime, os, pathlib, statistics, sys, tempfile, time
+import datetime
+import os
+import pathlib
+import statistics
+import sys
 
 from measuring import Failed, Program, identity
+from pages import folded, put
 from tables import table
 from workloads import PROGRAMS, RUN, TOP, input_of, large_sources
 
@@ -34,7 +41,11 @@ def told(times, less=None, over=1):
     value = (statistics.median(times) - (statistics.median(less) if less else 0)) / over
     spread = (max(times) - min(times) + (max(less) - min(less) if less else 0)) / 2 / over
     unit, scale = next((it for it in (('s', 1), ('ms', 1e-3), ('µs', 1e-6)) if value >= it[1]), ('µs', 1e-6))
-    return f'{short(value / scale, 3)} {unit} ± {short(spread / scale, 2)}' if value > spread else f'less than {short(spread / scale, 2)} {unit}'
+    return (
+        f'{short(value / scale, 3)} {unit} ± {short(spread / scale, 2)}'
+        if value > spread
+        else f'less than {short(spread / scale, 2)} {unit}'
+    )
 
 
 def short(number, digits):
@@ -83,13 +94,26 @@ def main(words):
     if load() > IDLE:
         sys.exit(f'bench/seconds.py: the machine is busy (load {load()}), so nothing was measured')
     program = Program(words[0] if words else str(TOP / 'crates/ceal/out/ceal'))
-    text = table(['What', 'Processor time'], [list(it) for it in rows_of(program)])
-    text += '\nThe time of one step of a first run, at two sizes (the middle ones of 45 and of 9 tries):\n\n'
-    text += table(['Program', 'Steps', 'a step', 'Steps', 'a step', 'grows'], [list(it) for it in growth_of(program)])
-    head = f'Measured on {datetime.date.today().isoformat()}, on an idle machine with {os.cpu_count()} processors, with the program whose SHA-256 begins with {identity(program)}. '
-    head += f'A time is the middle one of {TRIES}, with half of their spread.\n\n'
-    OUT.write_text(head + text, encoding='utf-8')
+    felt = table(['What', 'Processor time'], [list(it) for it in rows_of(program)])
+    steps = table(['Program', 'Steps', 'a step', 'Steps', 'a step', 'grows'], [list(it) for it in growth_of(program)])
+    head = (
+        f'Measured on {datetime.date.today().isoformat()}, on an idle machine with {os.cpu_count()} processors, with'
+        ' the program whose '
+    )
+    head += (
+        f'SHA-256 begins with {identity(program)}. A time is the middle one of {TRIES}, with half of their spread.\n\n'
+    )
+    text = f'''# What a person feels
+
+`bench/seconds.py` writes this file.
+
+{head}{felt}
+The time of one step of a first run, at two sizes (the middle ones of 45 and of 9 tries):
+
+{steps}'''
     print(text, end='')
+    OUT.write_text(folded(text), encoding='utf-8')
+    put('seconds', head + felt)
 
 
 if __name__ == '__main__':

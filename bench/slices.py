@@ -5,8 +5,8 @@
     bench/slices.py PROGRAM            for another build of it
     bench/slices.py --quick            a small size, once, to see that all goes
 
-Costs are instructions where valgrind is there to count them, and else processor time of whole processes, the best of 25. What a part of
-a script costs is the cost of the script less that of the script without it.
+Costs are instructions where valgrind is there to count them, and else processor time of whole processes, the best of
+25. What a part of a script costs is the cost of the script less that of the script without it.
 """
 import sys
 
@@ -58,7 +58,8 @@ def cells(size):
 
 
 class Bench:
-    """A program, whose scripts cost instructions where valgrind is there to count them, and else seconds: the best of so many rounds."""
+    """A program, whose scripts cost instructions where valgrind is there to count them, and else seconds: the best of
+    so many rounds."""
 
     def __init__(self, program, rounds):
         self.program, self.rounds, self.counts = Program(program), rounds, rounds > 1 and counting.is_there()
@@ -71,7 +72,8 @@ class Bench:
         return cost, spent.memory, spent.written.split('\n')
 
     def bests(self, source, scripts):
-        """The least cost of each script, with its memory and its replies. The scripts take turns, so that each has its quiet moments."""
+        """The least cost of each script, with its memory and its replies. The scripts take turns, so that each has its
+        quiet moments."""
         found = {}
         for _ in range(1 if self.counts else self.rounds):
             for name, lines in scripts.items():
@@ -91,16 +93,19 @@ def of_slices(bench, size):
     inputs = cells(size) + ['run each l o']
     edits = [f'set c{k}.number {k + 7}' for k in range(1, size + 1)]
     ones, hundreds, half = ['propagate 1'] * size, ['propagate 100'] * (-(-size // 100)), size // 2
-    found = bench.bests(EACH, {
-        'nothing': inputs + edits,
-        'at once': inputs + edits + ['propagate', 'work'],
-        'in slices of 100': inputs + edits + hundreds + ['work'],
-        'in slices of 1': inputs + edits + ones + ['work'],
-        'lines': inputs + edits + ['propagate', 'work'] + ones,
-        'half': inputs + edits + ones[:half],
-        'half with edits': inputs + edits + ['propagate 1', 'set o null'] * half,
-        'edits only': inputs + edits + ['set o null'] * half,
-    })
+    found = bench.bests(
+        EACH,
+        {
+            'nothing': inputs + edits,
+            'at once': inputs + edits + ['propagate', 'work'],
+            'in slices of 100': inputs + edits + hundreds + ['work'],
+            'in slices of 1': inputs + edits + ones + ['work'],
+            'lines': inputs + edits + ['propagate', 'work'] + ones,
+            'half': inputs + edits + ones[:half],
+            'half with edits': inputs + edits + ['propagate 1', 'set o null'] * half,
+            'edits only': inputs + edits + ['set o null'] * half,
+        },
+    )
     base, whole = found['nothing'][0], found['at once'][0] - found['nothing'][0]
     bare = found['lines'][0] - found['at once'][0]
     yield f'A repair of {size:,} stale reads, none of them inside another:'
@@ -113,11 +118,19 @@ def of_slices(bench, size):
             sys.exit(f'bench/slices.py: {name} the work is {replies[-2]} after {replies[-3]}')
         yield f'| {name} | {bench.told(cost - base)} | {(cost - base) / whole:.2f} | {memory:.0f} MB |'
     ones_cost = found['in slices of 1'][0] - base
-    yield f'| in slices of 1, less the bare lines | {bench.told(ones_cost - bare)} | {(ones_cost - bare) / whole:.2f} | |'
+    yield (
+        f'| in slices of 1, less the bare lines | {bench.told(ones_cost - bare)} | {(ones_cost - bare) / whole:.2f} | |'
+    )
     between, before = found['half with edits'][0] - found['half'][0], found['edits only'][0] - base
     yield ''
-    yield f'{size:,} lines `propagate 1` with nothing to repair, which are read and answered, cost {bench.told(bare)}. An edit between two slices'
-    yield f'costs {bench.told_each(between / half)}, and one before a repair {bench.told_each(before / half)}. With an edit after each of {half:,} slices of 1 the'
+    yield (
+        f'{size:,} lines `propagate 1` with nothing to repair, which are read and answered, cost {bench.told(bare)}. An'
+        ' edit between two slices'
+    )
+    yield (
+        f'costs {bench.told_each(between / half)}, and one before a repair {bench.told_each(before / half)}. With an'
+        f' edit after each of {half:,} slices of 1 the'
+    )
     yield f'process holds {found["half with edits"][1]:.0f} MB at most.'
 
 
@@ -125,16 +138,25 @@ def of_bound(bench, size):
     """What the line `bound` costs, as lines of text."""
     inputs = cells(size)
     edit = inputs + ['run map l o', 'set l x', 'propagate']
-    found = bench.bests(MAP, {
-        'inputs': inputs,
-        'run': inputs + ['run map l o', 'steps'],
-        'edit': edit,
-        'bound': edit + ['bound'],
-    })
+    found = bench.bests(
+        MAP,
+        {
+            'inputs': inputs,
+            'run': inputs + ['run map l o', 'steps'],
+            'edit': edit,
+            'bound': edit + ['bound'],
+        },
+    )
     steps, answer = int(found['run'][2][-2]), int(found['bound'][2][-2])
     taken, run = found['bound'][0] - found['edit'][0], found['run'][0] - found['inputs'][0]
-    yield f'The line `bound` after a run of {steps:,} steps over a list of {size:,} cells and the update for one more cell costs {bench.told(taken)}'
-    yield f'(it answers {answer:,}); the run by itself costs {bench.told(run)}. The process holds {found["bound"][1]:.0f} MB at most.'
+    yield (
+        f'The line `bound` after a run of {steps:,} steps over a list of {size:,} cells and the update for one more'
+        f' cell costs {bench.told(taken)}'
+    )
+    yield (
+        f'(it answers {answer:,}); the run by itself costs {bench.told(run)}. The process holds'
+        f' {found["bound"][1]:.0f} MB at most.'
+    )
 
 
 def section(program, quick):

@@ -1,4 +1,4 @@
-"""The tables of docs/PERFORMANCE.md."""
+"""The tables of bench/run."""
 import math
 
 
@@ -27,7 +27,8 @@ def middle(sizes):
 
 
 def counted_table(measured, names):
-    """Millions of instructions of a first run, thousands of an update, and what the first program needs of the second's."""
+    """Millions of instructions of a first run, thousands of an update, and what the first program needs of the
+    second's."""
     head = ['Program', 'Size']
     for what in ('first run, millions', 'update, thousands'):
         head += [f'{name}: {what}' for name in names] + (['ratio'] if len(names) > 1 else [])
@@ -35,7 +36,9 @@ def counted_table(measured, names):
     for key, sizes in measured.items():
         size, counts = middle(sizes)
         row = [key, f'{size:,}']
-        values = [it.instructions for it in counts], [mean([update.instructions for update in it.updates]) for it in counts]
+        values = [it.instructions for it in counts], [
+            mean([update.instructions for update in it.updates]) for it in counts
+        ]
         for at, (unit, found) in enumerate(zip((1e6, 1e3), values)):
             row += [f'{it / unit:,.1f}' for it in found]
             if len(found) > 1:
@@ -72,6 +75,40 @@ def growth_table(measured):
         (small, fewer), (large, more) = min(sizes.items()), max(sizes.items())
         for at, it in enumerate(fewer[0].updates):
             other = more[0].updates[at]
-            row = [key, it.name, f'{small:,}: work {it.work:,.0f}, {it.instructions:,.0f}', f'{large:,}: work {other.work:,.0f}, {other.instructions:,.0f}']
-            rows.append([*row, f'{other.work / it.work:.2f}' if it.work else '', f'{other.instructions / it.instructions:.2f}'])
+            row = [
+                key,
+                it.name,
+                f'{small:,}: work {it.work:,.0f}, {it.instructions:,.0f}',
+                f'{large:,}: work {other.work:,.0f}, {other.instructions:,.0f}',
+            ]
+            rows.append(
+                [*row, f'{other.work / it.work:.2f}' if it.work else '', f'{other.instructions / it.instructions:.2f}']
+            )
     return table(['Program', 'Edit', 'Small', 'Large', 'work grows', 'instructions grow'], rows)
+
+
+def short_table(measured, names):
+    """What the tables say in short: of each workload but one the middle size, and the memory of the largest."""
+    kept = {key: sizes for key, sizes in measured.items() if key != UNSEEN}
+    found = [middle(sizes)[1] for sizes in kept.values()]
+    values = {
+        'a first run': [[it.instructions for it in counts] for counts in found],
+        'an update': [[mean([update.instructions for update in it.updates]) for it in counts] for counts in found],
+        'memory': [[it.memory for it in max(sizes.items())[1]] for sizes in kept.values()],
+    }
+    if len(names) == 1:
+        units = {
+            'a first run': (1e6, 'million instructions'),
+            'an update': (1e3, 'thousand instructions'),
+            'memory': (1, 'MB'),
+        }
+        rows = [
+            (what, f'{mean([it[0] for it in rows]) / units[what][0]:,.1f} {units[what][1]}')
+            for what, rows in values.items()
+        ]
+        return table([f'Of {len(kept)} programs', 'geometric mean'], rows)
+    ratios = {what: [mine / other for mine, other in rows] for what, rows in values.items()}
+    head = [f'Beside {names[1]}, of {len(kept)} programs', 'geometric mean', 'least', 'most']
+    return table(
+        head, [(what, *(f'{it:.2f}' for it in (mean(rows), min(rows), max(rows)))) for what, rows in ratios.items()]
+    )

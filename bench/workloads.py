@@ -7,8 +7,8 @@ RUN = ['run', '--fuel', str(FUEL)]
 
 
 class Work:
-    """A script in parts: the lines that make inputs, the line that runs, and edits, each with its name, lines there and lines back; after
-    each line of an edit comes a propagation."""
+    """A script in parts: the lines that make inputs, the line that runs, and edits, each with its name, lines there and
+    lines back; after each line of an edit comes a propagation."""
 
     def __init__(self, inputs, run, edits):
         self.inputs, self.run, self.edits = inputs, run, edits
@@ -25,7 +25,10 @@ def numbers(count, seed, limit=1_000_000):
 
 def list_edits(last='tail'):
     """A cell put in before the first one and taken out again, and the same after the last one, which is c1."""
-    return lambda size: [('at the head', 'set l x', f'set l c{size}'), ('at the tail', f'set c1.{last} y', f'set c1.{last} null')]
+    return lambda size: [
+        ('at the head', 'set l x', f'set l c{size}'),
+        ('at the tail', f'set c1.{last} y', f'set c1.{last} null'),
+    ]
 
 
 def plain_list(run, outputs):
@@ -34,7 +37,12 @@ def plain_list(run, outputs):
     def work(size):
         heads = numbers(size + 2, 1)
         inputs = [f'new c{k} cell {heads[k - 1]} {f"c{k - 1}" if k > 1 else "null"}' for k in range(1, size + 1)]
-        inputs += [f'new x cell {heads[size]} c{size}', f'new y cell {heads[size + 1]} null', f'mod l cell c{size}', *outputs]
+        inputs += [
+            f'new x cell {heads[size]} c{size}',
+            f'new y cell {heads[size + 1]} null',
+            f'mod l cell c{size}',
+            *outputs,
+        ]
         return Work(inputs, run, list_edits()(size))
 
     return work
@@ -46,11 +54,22 @@ def named_list(run, outputs, is_number_modifiable):
     def work(size):
         heads = numbers(size + 3, 2)
         inputs = [f'new c{k} cell {k} {heads[k - 1]} {f"c{k - 1}" if k > 1 else "null"}' for k in range(1, size + 1)]
-        inputs += [f'new x cell {size + 1} {heads[size]} c{size}', f'new y cell {size + 2} {heads[size + 1]} null', f'mod l cell c{size}', *outputs]
+        inputs += [
+            f'new x cell {size + 1} {heads[size]} c{size}',
+            f'new y cell {size + 2} {heads[size + 1]} null',
+            f'mod l cell c{size}',
+            *outputs,
+        ]
         edits = list_edits()(size)
         if is_number_modifiable:
             middle = size // 2
-            edits.append(('in the middle', f'set c{middle}.number {heads[size + 2]}', f'set c{middle}.number {heads[middle - 1]}'))
+            edits.append(
+                (
+                    'in the middle',
+                    f'set c{middle}.number {heads[size + 2]}',
+                    f'set c{middle}.number {heads[middle - 1]}',
+                )
+            )
         return Work(inputs, run, edits)
 
     return work
@@ -73,28 +92,47 @@ def expression(size):
 
     root = grow(0, size - 1)
     end = size - 1
-    edits = [('first leaf', 'set f0.leaf 100', f'set f0.leaf {drawn[0] % 100}'), ('last leaf', f'set f{end}.leaf 100', f'set f{end}.leaf {drawn[end] % 100}')]
+    edits = [
+        ('first leaf', 'set f0.leaf 100', f'set f0.leaf {drawn[0] % 100}'),
+        ('last leaf', f'set f{end}.leaf 100', f'set f{end}.leaf {drawn[end] % 100}'),
+    ]
     return Work([*inputs, f'mod r node {root}', 'mod o int 0'], 'run eval r o', edits)
 
 
-def search(size):
-    """A balanced search tree of so many even keys, and a question for each; a question comes and goes, and so does a key."""
-    inputs = []
+def balanced(size, number):
+    """The lines that make a balanced tree, each node with a number that follows from its place; and the root."""
+    lines = []
 
     def grow(first, last):
         if first > last:
             return 'null'
         middle = (first + last) // 2
         left, right = grow(first, middle - 1), grow(middle + 1, last)
-        inputs.append(f'new n{middle} node {2 * middle} {left} {right}')
+        lines.append(f'new n{middle} node {number(middle)} {left} {right}')
         return f'n{middle}'
 
-    root = grow(1, size)
+    return lines, grow(1, size)
+
+
+def search(size):
+    """A balanced search tree of so many even keys, and a question for each; a question comes and goes, and so does a
+    key."""
+    inputs, root = balanced(size, lambda at: 2 * at)
     asked = numbers(size + 2, 4, 2 * size)
     inputs += [f'new q{k} question {asked[k - 1]} {f"q{k - 1}" if k > 1 else "null"}' for k in range(1, size + 1)]
-    inputs += [f'new x question {asked[size]} q{size}', f'new y question {asked[size + 1]} null', 'new k node 1 null null']
-    edits = [('at the head', 'set l x', f'set l q{size}'), ('at the tail', 'set q1.next y', 'set q1.next null'), ('a new key', 'set n1.left k', 'set n1.left null')]
-    return Work([*inputs, f'mod t node {root}', f'mod l question q{size}', 'mod o answer null'], 'run search t l o', edits)
+    inputs += [
+        f'new x question {asked[size]} q{size}',
+        f'new y question {asked[size + 1]} null',
+        'new k node 1 null null',
+    ]
+    edits = [
+        ('at the head', 'set l x', f'set l q{size}'),
+        ('at the tail', 'set q1.next y', 'set q1.next null'),
+        ('a new key', 'set n1.left k', 'set n1.left null'),
+    ]
+    return Work(
+        [*inputs, f'mod t node {root}', f'mod l question q{size}', 'mod o answer null'], 'run search t l o', edits
+    )
 
 
 def hull(size):
@@ -102,7 +140,12 @@ def hull(size):
     drawn = numbers(2 * size + 4, 5, 10_000)
     place = [f'{drawn[2 * k]} {drawn[2 * k + 1]}' for k in range(size + 2)]
     inputs = [f'new c{k} point {k} {place[k - 1]} {f"c{k - 1}" if k > 1 else "null"}' for k in range(1, size + 1)]
-    inputs += [f'new x point {size + 1} {place[size]} c{size}', f'new y point {size + 2} {place[size + 1]} null', f'mod l point c{size}', 'mod o corner null']
+    inputs += [
+        f'new x point {size + 1} {place[size]} c{size}',
+        f'new y point {size + 2} {place[size + 1]} null',
+        f'mod l point c{size}',
+        'mod o corner null',
+    ]
     return Work(inputs, 'run hull l o', list_edits('next')(size))
 
 
@@ -113,19 +156,13 @@ def by_turns(first, second, back):
 
 def tree(size):
     """A balanced tree; a leaf comes and goes below its leftmost node and below its rightmost one."""
-    inputs = []
-
-    def grow(first, last):
-        if first > last:
-            return 'null'
-        middle = (first + last) // 2
-        left, right = grow(first, middle - 1), grow(middle + 1, last)
-        inputs.append(f'new n{middle} node {middle % 7} {left} {right}')
-        return f'n{middle}'
-
-    root = grow(1, size)
+    inputs, root = balanced(size, lambda at: at % 7)
     inputs += ['new x node 1 null null', f'mod r node {root}', 'mod o int 0']
-    return Work(inputs, 'run sum r o', by_turns('set n1.left x', f'set n{size}.right x', ['set n1.left null', f'set n{size}.right null']))
+    return Work(
+        inputs,
+        'run sum r o',
+        by_turns('set n1.left x', f'set n{size}.right x', ['set n1.left null', f'set n{size}.right null']),
+    )
 
 
 def asked(run, more):
@@ -164,16 +201,25 @@ PROGRAMS = {
 def large_sources():
     """Three large source texts, for the word check."""
     yield 'one function of 65,000 writes', 'ceal f(mod int *m) {\n' + '  write(m, 1);\n' * 65000 + '}\n%%\n'
-    body = '{\n  int y = read(m);\n  if (y > x) { write(m, y + %d * x - (y / 3)); } else { f%d(m, x + 1); }\n  while (x > 0) { x = x - 1; }\n  write(m, x + y);\n}\n'
-    yield '8,000 small functions', ''.join(f'ceal f{k}(mod int *m, int x) ' + body % (k, (k + 1) % 8000) for k in range(8000)) + '%%\n'
-    yield '30,000 declarations in one function', 'ceal f(mod int *a) { int x = read(a);\n' + ''.join(f'  int v{k} = x + {k};\n' for k in range(30000)) + '}\n%%\n'
+    body = (
+        '{\n  int y = read(m);\n  if (y > x) { write(m, y + %d * x - (y / 3)); } else { f%d(m, x + 1); }\n  while (x >'
+        ' 0) { x = x - 1; }\n  write(m, x + y);\n}\n'
+    )
+    yield '8,000 small functions', ''.join(
+        f'ceal f{k}(mod int *m, int x) ' + body % (k, (k + 1) % 8000) for k in range(8000)
+    ) + '%%\n'
+    yield '30,000 declarations in one function', 'ceal f(mod int *a) { int x = read(a);\n' + ''.join(
+        f'  int v{k} = x + {k};\n' for k in range(30000)
+    ) + '}\n%%\n'
 
 
 def long_chains():
-    """Two functions of 60,000 declarations, each by the one before it, for the word list: few variables are live at once."""
+    """Two functions of 60,000 declarations, each by the one before it, for the word list: few variables are live at
+    once."""
     for title, first, more in (('copies', 'read(a)', ''), ('constants', '1', ' + 1')):
         chain = ''.join(f'  int v{k} = v{k - 1}{more};\n' for k in range(1, 60_000))
-        yield f'a chain of 60,000 {title}', f'ceal f(mod int *a, mod int *b) {{\n  int v0 = {first};\n{chain}  write(b, v59999);\n}}\n%%\n'
+        head = f'ceal f(mod int *a, mod int *b) {{\n  int v0 = {first};\n'
+        yield f'a chain of 60,000 {title}', f'{head}{chain}  write(b, v59999);\n}}\n%%\n'
 
 
 def input_of(name, lines):

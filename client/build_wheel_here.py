@@ -39,7 +39,9 @@ def _row(name: str, data: bytes) -> str:
     return f'{name},sha256={told},{len(data)}\n'
 
 
-def build_wheel(wheel_directory: str, config_settings: Settings = None, metadata_directory: Optional[str] = None) -> str:
+def build_wheel(
+    wheel_directory: str, config_settings: Settings = None, metadata_directory: Optional[str] = None
+) -> str:
     """Writes the wheel, and returns the name of its file (the hook of PEP 517)."""
     project = _project()
     info = f'{project["name"]}-{project["version"]}.dist-info'

@@ -21,7 +21,8 @@
  *
  * What each call requires. The library is proved for callers that keep these rules, and tests none of them:
  *   1. A `ceal *` is not NULL. It points to a struct that is CEAL_INIT or that a call of this library left so. The
- *      caller never reads, writes or copies its member: two copies are one session that would be freed twice.
+ *      caller never reads or writes its member. The struct may be moved, by a copy after which the old one is CEAL_INIT
+ *      or is never used again: two copies are one session that would be freed twice.
  *   2. Bytes, as (source, size), are `size` bytes that may be read, fewer than 2^63. The pointer is not NULL, not even
  *      for no bytes. They may be any bytes, need no 0 at the end, and are not kept after the call.
  *   3. What a call writes to (`out`, `fault`, `handle`, `number`, `length`, `count`) is not NULL, is aligned, may be

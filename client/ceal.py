@@ -12,17 +12,17 @@
         c['b']                      # 10
 
 A `Ceal` starts the program `ceal_serve`, writes the source text to it and then a line for each call, and waits for the
-reply to the line. The lines and their replies are those of docs/SCRIPT.md; docs/PYTHON.md is the page of this module,
-and says what holds of interrupts, threads and journals. It needs nothing but Python's own library, and a built
-`ceal_serve`.
+reply to the line. The lines and their replies are those of docs/SCRIPT.md; docs/TOOLS.md, 'CEAL from Python', says what
+this module does, and what holds of interrupts, threads and journals. It needs nothing but Python's own library, and a
+built `ceal_serve`.
 
 Values are Python's: an `int` is a number, `None` is null, and a `str` is the name of an input (`'b7'`) or of a place in
 one (`'b7.tail'`, `'b7.price[2]'`). What a call returns in their place (an `Input`, a `Node`) can be passed wherever a
 name can.
 
 The parts, from below: an `Exchange` is lines that are sent together with what has come of their replies; an `Engine`
-answers them: a `Server`, or a `Library` in this very process; a `Journal` keeps the lines that change a session; `Ceal` makes
-lines of calls.
+answers them: a `Server`, or a `Library` in this very process; a `Journal` keeps the lines that change a session; `Ceal`
+makes lines of calls.
 """
 from __future__ import annotations
 
@@ -421,8 +421,8 @@ def _pipe() -> tuple[io.FileIO, io.FileIO]:
 
 
 class Library:
-    """A session in this very process, over the shared library of client/ceal.h. Raises `SourceFault` if the source text is
-    not accepted.
+    """A session in this very process, over the shared library of client/ceal.h. Raises `SourceFault` if the source text
+    is not accepted.
 
     A line is one call of C, which nothing interrupts: what a signal's handler raises comes after it. The session stays
     on the thread that has opened it.
@@ -448,7 +448,8 @@ class Library:
             raise CealError('a session of the library stays on the thread that has opened it')
         lines = exchange.lines.split(b'\n')[:-1]
         while len(exchange.heard) < len(lines):
-            if len(exchange.heard) < len(exchange.sent):  # (the last line has a reply, which is kept until the next line)
+            # the last line has a reply, which is kept until the next line
+            if len(exchange.heard) < len(exchange.sent):
                 exchange.heard.append(self._session.reply())
                 continue
             if self._is_killed or self._ended:
@@ -624,9 +625,7 @@ class Ceal:
                 raise
 
     @classmethod
-    def again(
-        cls, journal: Path, *, program: Optional[Path] = None, server: bool = True, sync: bool = False
-    ) -> Ceal:
+    def again(cls, journal: Path, *, program: Optional[Path] = None, server: bool = True, sync: bool = False) -> Ceal:
         """Brings a session back from its journal, by making all its changes again, and goes on with both.
 
         Raises `NoJournal` if the file is none, or if another session has it.

@@ -31,8 +31,8 @@ __all__ = ['Session', 'Refused', 'SourceFault', 'NoLibrary', 'load', 'STATUSES',
 VERSION = 1
 #: The names of the statuses, by their numbers.
 STATUSES = (
-    'OK', 'C1', 'C2', 'C3', 'C4', 'C5', 'C6', 'C7', 'C8', 'OUT_OF_FUEL', 'MORE', 'NO_MEMORY', 'FAULT', 'CLOSED', 'IS_OPEN',
-    'BAD_FUEL', 'TOO_LONG', 'NO_NUMBER', 'NOT_READY', 'UNREADABLE', 'UNSOUND',
+    'OK', 'C1', 'C2', 'C3', 'C4', 'C5', 'C6', 'C7', 'C8', 'OUT_OF_FUEL', 'MORE', 'NO_MEMORY', 'FAULT', 'CLOSED',
+    'IS_OPEN', 'BAD_FUEL', 'TOO_LONG', 'NO_NUMBER', 'NOT_READY', 'UNREADABLE', 'UNSOUND',
 )  # fmt: skip
 OK, MORE, NO_MEMORY, FAULT, NOT_READY = (STATUSES.index(it) for it in ('OK', 'MORE', 'NO_MEMORY', 'FAULT', 'NOT_READY'))
 FAULT_SIZE = 128

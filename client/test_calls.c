@@ -168,6 +168,29 @@ static void try_lines(void) {
     IS(ceal_close(&c), CEAL_OK);
 }
 
+/* The deepest source texts that are accepted need no more stack than the header asks for. */
+static void try_deepest(void) {
+    static const struct {
+        const char *open, *close;
+        int depth;
+    } forms[] = {{"(", ")", 60}, {"-", "", 250}, {"if (x < 9) { ", "} ", 60}};
+    for (size_t i = 0; i < sizeof forms / sizeof *forms; i++) {
+        ceal c = CEAL_INIT;
+        char text[2048] = "ceal f(mod int *a, int x) { ";
+        int is_block = forms[i].depth == 60 && i > 0;
+        if (!is_block) strcat(text, "write(a, ");
+        for (int depth = 0; depth < forms[i].depth; depth++) strcat(text, forms[i].open);
+        strcat(text, is_block ? "write(a, x); " : "x");
+        for (int depth = 0; depth < forms[i].depth; depth++) strcat(text, forms[i].close);
+        strcat(text, is_block ? "}\n%%\n" : "); }\n%%\n");
+        IS(begin(&c, text), CEAL_OK);
+        line(&c, "mod a int 0");
+        IS(line(&c, "run f a 3"), CEAL_OK);
+        IS(named(&c, "a"), 3);
+        IS(ceal_close(&c), CEAL_OK);
+    }
+}
+
 /* Numbers by handles are those of lines, and other numbers stand for no modifiable. */
 static void try_handles(void) {
     ceal c = CEAL_INIT;
@@ -337,6 +360,7 @@ int main(int count, char **words) {
     IS(ceal_version(), CEAL_VERSION);
     try_opening();
     try_lines();
+    try_deepest();
     try_handles();
     try_parts();
     try_runs();

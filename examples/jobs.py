@@ -1,7 +1,8 @@
-"""What the three jobs of examples/ share: their command line, the figures that they print, and the comparison with Python.
+"""What the three jobs of examples/ share: their command line, the figures that they print, and the comparison with
+Python.
 
-Each job builds a session by client/ceal.py, runs it, and makes edits at random. After each update it compares every answer with an
-independent computation in Python, and stops at the first that differs.
+Each job builds a session by client/ceal.py, runs it, and makes edits at random. After each update it compares every
+answer with an independent computation in Python, and stops at the first that differs.
 """
 from __future__ import annotations
 
@@ -59,7 +60,9 @@ class Job:
         print(f'  answers        {self.answers:,}, each that of Python')
 
 
-def words_of(text: str, edits: int, more: Callable[[argparse.ArgumentParser], object] = lambda _: None) -> argparse.Namespace:
+def words_of(
+    text: str, edits: int, more: Callable[[argparse.ArgumentParser], object] = lambda _: None
+) -> argparse.Namespace:
     """The words of a job's command line."""
     parser = argparse.ArgumentParser(description=text)
     parser.add_argument('--edits', type=int, default=edits, help=f'how many edits are made ({edits})')

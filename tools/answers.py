@@ -1,10 +1,17 @@
-"""How the answers of the program are got: from the proved program where it is there, else from the same sources by `rt try`."""
-import os, pathlib, re, signal, subprocess, sys, time
+"""How the answers of the program are got: from the proved program where it is there, else from the same sources by `rt
+try`."""
+import os
+import pathlib
+import re
+import signal
+import subprocess
+import sys
+import time
 
 from tools.programs import PROVED, TOP, remember, why_unproved
 
 TRIED = TOP / 'crates/ceal/out/ceal.tried'
-# What the build takes: the sum of the first proofs of its crates, which were measured one by one (docs/GATE.md).
+# What the build takes: the sum of the first proofs of its crates, which were measured one by one (.ci/gate.md).
 BUILD_COST = 'some 90 minutes of processor time, and up to 5 GB of memory'
 TRY_COST = 'one to three minutes'
 WRITE_FAULT = 6  # (the status of a program whose output could not be written)
@@ -38,14 +45,16 @@ def end_on_signals():
 
 
 def start(words, **how):
-    """Starts a process that ends with this one. It leads a new session, so that whatever it starts can be ended with it."""
+    """Starts a process that ends with this one. It leads a new session, so that whatever it starts can be ended with
+    it."""
     process = subprocess.Popen(words, start_new_session=True, **how)
     running.append(process)
     return process
 
 
 def end_all():
-    """Ends what was started and still runs: first politely, since `rt` then ends what it started, and then in any case, with all below it."""
+    """Ends what was started and still runs: first politely, since `rt` then ends what it started, and then in any case,
+    with all below it."""
     if all(it.poll() is not None for it in running):
         return
     from tools import processes
@@ -146,7 +155,13 @@ def is_unread():
 def tried(words, folder, **how):
     """Runs `rt try` with the given words; returns what the program, and what `rt` wrote on standard error."""
     with open(f'{folder}/out', 'w+b') as out, open(f'{folder}/err', 'w+b') as err:
-        how, begun = {'stdin': subprocess.DEVNULL, 'stdout': out, 'stderr': err, 'cwd': TOP / 'crates/ceal', **how}, time.monotonic()
+        how, begun = {
+            'stdin': subprocess.DEVNULL,
+            'stdout': out,
+            'stderr': err,
+            'cwd': TOP / 'crates/ceal',
+            **how,
+        }, time.monotonic()
         wait(start(['rt', 'try', '--steps', '1', '--seconds', '600', *words], **how), 'compiling, with no proof')
         remember(TRIED, shown_time(time.monotonic() - begun))
         out.seek(0)
@@ -161,7 +176,7 @@ def by_try(calls):
     with tempfile.TemporaryDirectory(prefix='ceal-') as folder:
         if len(calls) > 1:
             return by_cases(calls, folder)
-        (words, given), = calls
+        ((words, given),) = calls
         with given.stream() as stream:
             output, errors = tried(['--', *words], folder, stdin=stream)
     found = LINE.search(errors)
@@ -198,7 +213,8 @@ def taken_apart(names, output, errors):
 
 
 def chosen(name='ceal'):
-    """The program that answers: the proved one, or else a draft, which is made where it is not there; None where neither can be had."""
+    """The program that answers: the proved one, or else a draft, which is made where it is not there; None where
+    neither can be had."""
     if name in found:
         return found[name]
     why = why_unproved(name)
@@ -217,7 +233,14 @@ def answers(calls, is_kept=True):
     if program:
         return [by_program(program, words, given, is_kept) for words, given in calls]
     last = f', {TRIED.read_text()} the last time' if TRIED.is_file() else ''
-    print(f'run: now all is compiled, as in each such call, in {TRY_COST}{last}; ./run FILE FILE .. compiles once for several', file=sys.stderr, flush=True)
+    print(
+        (
+            f'run: now all is compiled, as in each such call, in {TRY_COST}{last}; ./run FILE FILE .. compiles once for'
+            ' several'
+        ),
+        file=sys.stderr,
+        flush=True,
+    )
     got = by_try(calls)
     if not is_kept:
         for it in got:

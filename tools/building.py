@@ -1,10 +1,18 @@
 """Builds the proved programs, `ceal` and `ceal_serve`, and puts them where they will be used.
 
-A build leaves a record: the toolchain, the date, for each program a sum over the sums of its sources and the program, and for each crate the
-line that `rt` ended its proof with, or that `rt` kept its proof from before. A record is no proof, and nobody signs it: it says what was seen
-here. Who did not see it builds the programs again.
+A build leaves a record: the toolchain, the date, for each program a sum over the sums of its sources and the program,
+and for each crate the line that `rt` ended its proof with, or that `rt` kept its proof from before. A record is no
+proof, and nobody signs it: it says what was seen here. Who did not see it builds the programs again.
 """
-import datetime, hashlib, os, pathlib, re, shutil, subprocess, sys, time
+import datetime
+import hashlib
+import os
+import pathlib
+import re
+import shutil
+import subprocess
+import sys
+import time
 
 from tools import answers, libceal, programs
 from tools.answers import Fault
@@ -12,10 +20,11 @@ from tools.programs import NAMES, PROVED, TOP
 
 STARTED, LOG, RECORD = (TOP / 'crates/ceal/out' / it for it in ('ceal.started', 'build.log', 'ceal.record'))
 BY_BUILD, BY_GATE = './run --build', '.ci/run'
-# What `rt all check` says of a crate: its head and the last line of its proof, which is not there where the proof was kept; at the end, that all is well.
+# What `rt all check` says of a crate: its head and the last line of its proof, which is not there where the proof was
+# kept; at the end, that all is well.
 VERDICT, GOOD = re.compile(r'^== (\w+)$|^(logic=.*)$', re.M), re.compile(r'^(\w+): ok$', re.M)
 BY_PROOF, KEPT = 'logic=proved ', 'ok, by the proof that rt kept'
-# No process of a proof was seen to take much more gigabytes (docs/GATE.md).
+# No process of a proof was seen to take much more gigabytes (.ci/gate.md).
 MEMORY = 5
 
 
@@ -60,9 +69,16 @@ def watch(process, all_crates, begun):
             print('\r\033[K', end='')
         for name in done[told:]:
             told += 1
-            print(f'{told} of {all_crates} crates done: {name}, {answers.shown_time(time.time() - begun)} so far', flush=True)
+            print(
+                f'{told} of {all_crates} crates done: {name}, {answers.shown_time(time.time() - begun)} so far',
+                flush=True,
+            )
         if sys.stdout.isatty() and process.poll() is None:
-            print(f'{told} of {all_crates} crates done, {answers.shown_time(time.time() - begun)} so far ', end='', flush=True)
+            print(
+                f'{told} of {all_crates} crates done, {answers.shown_time(time.time() - begun)} so far ',
+                end='',
+                flush=True,
+            )
 
 
 def refuse(what):
@@ -74,9 +90,18 @@ def refuse(what):
 def prove(begun):
     """Proves each crate, as many at once as there are processors and each after those that it uses."""
     jobs, crates = at_once(), len(programs.dependencies())
-    print(f'1. {crates} crates are proved, {jobs} at once: {answers.BUILD_COST}, less for what was proved before', flush=True)
+    print(
+        f'1. {crates} crates are proved, {jobs} at once: {answers.BUILD_COST}, less for what was proved before',
+        flush=True,
+    )
     with open(LOG, 'wb') as log:
-        process = answers.start(['rt', 'all', 'check', '--jobs', str(jobs)], cwd=TOP / 'crates', stdin=subprocess.DEVNULL, stdout=log, stderr=subprocess.STDOUT)
+        process = answers.start(
+            ['rt', 'all', 'check', '--jobs', str(jobs)],
+            cwd=TOP / 'crates',
+            stdin=subprocess.DEVNULL,
+            stdout=log,
+            stderr=subprocess.STDOUT,
+        )
         watch(process, crates, begun)
     if process.returncode:
         refuse('a crate was refused or not proved')
@@ -110,10 +135,18 @@ def build():
     prove(begun)
     verdicts = verdicts_of(LOG.read_text(errors='replace'))
     for at, name in enumerate(NAMES, 2):
-        print(f'{at}. {name} is built, in a minute or two; {answers.shown_time(time.time() - begun)} so far', flush=True)
+        print(
+            f'{at}. {name} is built, in a minute or two; {answers.shown_time(time.time() - begun)} so far', flush=True
+        )
         link(name)
     for _ in libceal.here():
-        print(f'{len(made) + 1}. the library for C is made, in a minute or two; {answers.shown_time(time.time() - begun)} so far', flush=True)
+        print(
+            (
+                f'{len(made) + 1}. the library for C is made, in a minute or two;'
+                f' {answers.shown_time(time.time() - begun)} so far'
+            ),
+            flush=True,
+        )
         if not libceal.build(LOG):
             refuse('the library for C was refused or not made')
     if before != [it.sums() for it in made] or any(newest(it) > STARTED.stat().st_mtime_ns for it in made):
@@ -136,9 +169,15 @@ def verdicts_of(log):
 
 
 def keep(by, verdicts):
-    """From now on the programs that are there are the proved ones, as long as no source changes; a record says how they came to be."""
+    """From now on the programs that are there are the proved ones, as long as no source changes; a record says how they
+    came to be."""
     sums = {it: PROVED[it].sums_with_program() for it in NAMES}
-    head = [version(), f'toolchain {kit()}', f'proved by {by} on {datetime.date.today()}', *(sum_line(it, sums[it]) for it in NAMES)]
+    head = [
+        version(),
+        f'toolchain {kit()}',
+        f'proved by {by} on {datetime.date.today()}',
+        *(sum_line(it, sums[it]) for it in NAMES),
+    ]
     programs.put(RECORD, '\n'.join([*head, *verdicts, '']))
     for it in NAMES:
         PROVED[it].built.parent.mkdir(exist_ok=True)
@@ -152,14 +191,22 @@ def sum_line(name, sums):
 def record():
     """The record of the programs that are there, where it says that all of them was proved."""
     if not RECORD.is_file():
-        raise Fault(70, f'nothing here says that these programs were proved: {BY_BUILD} proves and builds them, and leaves a record')
+        raise Fault(
+            70,
+            (
+                f'nothing here says that these programs were proved: {BY_BUILD} proves and builds them, and leaves a'
+                ' record'
+            ),
+        )
     text = RECORD.read_text()
     lines = text.splitlines()
     if any(sum_line(it, PROVED[it].built.read_text()) not in lines for it in NAMES):
         raise Fault(70, f'the record of a proof is that of another program: {BY_BUILD} proves and builds these')
     is_by_gate = any(it.startswith(f'proved by {BY_GATE} ') for it in lines)
     needed = dict.fromkeys(it for name in NAMES for it in programs.crates(name))
-    unproved = [it for it in needed if not any(line.startswith((f'{it}: {BY_PROOF}', f'{it}: {KEPT}')) for line in lines)]
+    unproved = [
+        it for it in needed if not any(line.startswith((f'{it}: {BY_PROOF}', f'{it}: {KEPT}')) for line in lines)
+    ]
     if not is_by_gate and unproved:
         raise Fault(70, f'the record has no proof of {", ".join(unproved)}: {BY_BUILD} proves and builds the programs')
     return text

@@ -1,10 +1,14 @@
 """Calls of `./run` and what they have to end with, for the tests of `./run` itself."""
-import re, subprocess, sys, threading
+import re
+import subprocess
+import sys
+import threading
 
 from tools.programs import TOP
 
 RUN = str(TOP / 'run')
-PYTHON = (sys.executable, '-S', '-B')  # (which starts sooner than by the first line of ./run; a link and signals are tried by that)
+# It starts sooner than by the first line of ./run; a link and signals are tried by that.
+PYTHON = (sys.executable, '-S', '-B')
 # What a draft tells of itself, before all else.
 BY_DRAFT = re.compile(r'run: not proved: draft/.*\n')
 SOON = 60  # (seconds in which is refused what is refused at once)
@@ -21,8 +25,8 @@ def tell(name, faults):
 
 
 def call(name, words, status, output=None, told=None, given=subprocess.DEVNULL, seconds=600, run=RUN, **how):
-    """Calls ./run once, and says where it ends otherwise; `told` is looked for on standard error, and may be several texts in their
-    order; if it is empty, nothing may be told. That a draft answers may always be told."""
+    """Calls ./run once, and says where it ends otherwise; `told` is looked for on standard error, and may be several
+    texts in their order; if it is empty, nothing may be told. That a draft answers may always be told."""
     how = {'stdout': subprocess.PIPE, 'stderr': subprocess.PIPE, 'timeout': seconds, 'cwd': TOP, **how}
     how.update({'input': given} if isinstance(given, bytes) else {'stdin': given})
     try:

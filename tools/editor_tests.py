@@ -1,7 +1,14 @@
-"""Tries what is in editors/: that each grammar knows the words of the language and the lines of a script, that each completion knows the words
-of `./run`, and, where an editor or a shell is installed, what it makes of the examples. So is the manual page of the program, by groff.
+"""Tries what is in editors/: that each grammar knows the words of the language and the lines of a script, that each
+completion knows the words of `./run`, and, where an editor or a shell is installed, what it makes of the examples. So
+is the manual page of the program, by groff.
 """
-import json, pathlib, re, shutil, subprocess, sys, tempfile
+import json
+import pathlib
+import re
+import shutil
+import subprocess
+import sys
+import tempfile
 
 from tools import grammar, manual, words
 from tools.calls import tell
@@ -54,28 +61,47 @@ EMACS = '''
 (setq command-line-args-left nil)
 '''
 # What the first word of a line is to an editor: of a source text, and of a script.
-SOURCE = ((r'//', 'comment'), (r'(ceal|init|struct)\b', 'declaration'), (r'%%$', 'mark'), (r'(if|while|return)\b', 'control'))
+SOURCE = (
+    (r'//', 'comment'),
+    (r'(ceal|init|struct)\b', 'declaration'),
+    (r'%%$', 'mark'),
+    (r'(if|while|return)\b', 'control'),
+)
 SCRIPT = ((r'//', 'comment'), (r'(mod|new|set|run|propagate|get|show|blocks|steps|work|bound)\b', 'command'))
 IN_VIM = {
-    'comment': 'cealComment cealScriptComment', 'declaration': 'cealStructure', 'mark': 'cealMark',
-    'control': 'cealConditional cealRepeat cealStatement', 'command': 'cealCommand',
+    'comment': 'cealComment cealScriptComment',
+    'declaration': 'cealStructure',
+    'mark': 'cealMark',
+    'control': 'cealConditional cealRepeat cealStatement',
+    'command': 'cealCommand',
 }
 IN_EMACS = {
-    'comment': 'font-lock-comment-face font-lock-comment-delimiter-face', 'declaration': 'font-lock-keyword-face',
-    'mark': 'font-lock-preprocessor-face', 'control': 'font-lock-keyword-face', 'command': 'font-lock-keyword-face',
+    'comment': 'font-lock-comment-face font-lock-comment-delimiter-face',
+    'declaration': 'font-lock-keyword-face',
+    'mark': 'font-lock-preprocessor-face',
+    'control': 'font-lock-keyword-face',
+    'command': 'font-lock-keyword-face',
 }
 
 
 def commands():
     """The first words of the lines of a script."""
-    return {re.match(r'`(\w+)', row[0])[1] for row in manual.table(manual.PAGE.read_text(), 'Line', 'What it does', 'Reply')}
+    return {
+        re.match(r'`(\w+)', row[0])[1] for row in manual.table(manual.PAGE.read_text(), 'Line', 'What it does', 'Reply')
+    }
 
 
 def words_of_all():
     for name in GRAMMARS:
         missing = sorted((grammar.RESERVED | commands()) - set(re.findall(r'\w+', (EDITORS / name).read_text())))
         tell(f'the words of {name}', [f'it has no {it}' for it in missing])
-    wanted = {*words.MODES, 'gen', *words.OPTIONS, '--fuel', *(it for it in words.ALONE if it[:2] == '--' and it != '--built')}
+    wanted = {
+        *words.MODES,
+        'gen',
+        *words.OPTIONS,
+        '--fuel',
+        *(it for it in words.ALONE if it[:2] == '--' and it != '--built'),
+    }
     for name in COMPLETIONS:
         missing = sorted(wanted - set(re.findall(r'(?:--)?\w+', (EDITORS / name).read_text())))
         tell(f'the words of {name}', [f'it has no {it}' for it in missing])
@@ -97,7 +123,11 @@ def compare(editor, told, names):
     """What an editor tells of the lines of the examples, beside what they are."""
     seen = {tuple(it.split(' ')[:2]): it.split(' ', 2)[2] for it in told if it.count(' ') >= 2}
     lines = list(wanted())
-    wrong = [f'{path}:{at} is {seen.get((path, str(at)))}' for path, at, it in lines if seen.get((path, str(at))) not in names[it].split()]
+    wrong = [
+        f'{path}:{at} is {seen.get((path, str(at)))}'
+        for path, at, it in lines
+        if seen.get((path, str(at))) not in names[it].split()
+    ]
     tell(f'{editor} opens the examples', wrong[:5] or ([] if lines else ['there are none']))
 
 
@@ -112,43 +142,83 @@ def vim(folder):
     told = (folder / 'told').read_text().splitlines() if (folder / 'told').is_file() else []
     compare('vim', told, IN_VIM)
     made = [it for it in told if it.startswith('make ')]
-    tell(':make in vim', [] if len(made) == 1 and re.match(rf'make \S*{EXAMPLES[-1].name} 2 10 unexpected token', made[0]) else [f'told {made}'])
+    tell(
+        ':make in vim',
+        (
+            []
+            if len(made) == 1 and re.match(rf'make \S*{EXAMPLES[-1].name} 2 10 unexpected token', made[0])
+            else [f'told {made}']
+        ),
+    )
 
 
 def emacs(folder):
     (folder / 'tried.el').write_text(EMACS)
     call = ['emacs', '-Q', '--batch', '-L', str(EDITORS / 'emacs'), '-l', str(folder / 'tried.el'), *map(str, EXAMPLES)]
-    ended = subprocess.run(call, stdin=subprocess.DEVNULL, stdout=subprocess.PIPE, stderr=subprocess.PIPE, universal_newlines=True, timeout=300)
+    ended = subprocess.run(
+        call,
+        stdin=subprocess.DEVNULL,
+        stdout=subprocess.PIPE,
+        stderr=subprocess.PIPE,
+        universal_newlines=True,
+        timeout=300,
+    )
     compare('emacs', ended.stdout.splitlines(), IN_EMACS)
 
 
 def vscode(folder):
     for name in ('package.json', 'language-configuration.json', 'syntaxes/ceal.tmLanguage.json'):
         json.loads((EDITORS / 'vscode' / name).read_text())
-    patterns = re.findall(r'"(?:match|begin|end|regexp)": ("(?:[^"\\]|\\.)*")', ''.join(it.read_text() for it in (EDITORS / 'vscode').rglob('*.json')))
+    patterns = re.findall(
+        r'"(?:match|begin|end|regexp)": ("(?:[^"\\]|\\.)*")',
+        ''.join(it.read_text() for it in (EDITORS / 'vscode').rglob('*.json')),
+    )
     for it in patterns:
         re.compile(json.loads(it))
     tell('the patterns of vscode', [] if len(patterns) > 15 else ['there are too few'])
 
 
 def bash(folder):
-    for line, wanted in (('./run --d', '--dot --draft'), ('./run che', 'check'), ('./run gen ', 'list tree'), ('./run --wo', '--work')):
+    for line, wanted in (
+        ('./run --d', '--dot --draft'),
+        ('./run che', 'check'),
+        ('./run gen ', 'list tree'),
+        ('./run --wo', '--work'),
+    ):
         given = line.split(' ')
-        script = f'source {EDITORS}/completion/run.bash; COMP_WORDS=({line} {chr(39) * 2 if given[-1] == "" else ""}); COMP_CWORD={len(given) - 1}; _ceal_run; echo ${{COMPREPLY[*]}}'
-        said = subprocess.run(['bash', '-c', script], cwd=folder, stdout=subprocess.PIPE, universal_newlines=True).stdout.strip()
+        script = (
+            f'source {EDITORS}/completion/run.bash; COMP_WORDS=({line} {chr(39) * 2 if given[-1] == "" else ""});'
+            f' COMP_CWORD={len(given) - 1}; _ceal_run; echo ${{COMPREPLY[*]}}'
+        )
+        said = subprocess.run(
+            ['bash', '-c', script], cwd=folder, stdout=subprocess.PIPE, universal_newlines=True
+        ).stdout.strip()
         tell(f'bash completes {line}', [] if said == wanted else [f'by {said!r}'])
 
 
 def zsh(folder):
-    tell('zsh reads its completion', [] if subprocess.run(['zsh', '-n', str(EDITORS / 'completion/_run')]).returncode == 0 else ['it does not'])
+    tell(
+        'zsh reads its completion',
+        [] if subprocess.run(['zsh', '-n', str(EDITORS / 'completion/_run')]).returncode == 0 else ['it does not'],
+    )
 
 
 def groff(folder):
     page = '\n'.join(manual.manual(manual.PAGE.read_text(), 'ceal'))
-    ended = subprocess.run(['groff', '-man', '-Tutf8', '-ww'], input=page.encode(), stdout=subprocess.PIPE, stderr=subprocess.PIPE)
+    ended = subprocess.run(
+        ['groff', '-man', '-Tutf8', '-ww'], input=page.encode(), stdout=subprocess.PIPE, stderr=subprocess.PIPE
+    )
     shown = re.sub(rb'\x1b\[[0-9;]*m|.\x08', b'', ended.stdout).decode(errors='replace')
     faults = [ended.stderr.decode()] if ended.stderr else []
-    tell('the manual page', faults + [f'it does not show {it}' for it in ('propagate READS', 'refused', 'out of memory', 'gen KIND SEED SIZE') if it not in shown])
+    tell(
+        'the manual page',
+        faults
+        + [
+            f'it does not show {it}'
+            for it in ('propagate READS', 'refused', 'out of memory', 'gen KIND SEED SIZE')
+            if it not in shown
+        ],
+    )
 
 
 def all():

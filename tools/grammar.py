@@ -1,4 +1,5 @@
-"""The grammar of a source text (docs/LANGUAGE.md), read for the hints beside a fault: what could come at a place, and what a program declares.
+"""The grammar of a source text (docs/LANGUAGE.md), read for the hints beside a fault: what could come at a place, and
+what a program declares.
 
 It judges nothing: the program does. Where this reading and the program's differ, there is no hint.
 """
@@ -11,15 +12,20 @@ TOKEN = re.compile(
     r'|(?P<sign>->|&&|\|\||==|!=|<=|>=|[<>+\-*/%!&=(){},;\[\]])',
     re.S,
 )
-RESERVED = frozenset('struct int mod ceal init self read write alloc modref if else while return null break continue'.split())
+RESERVED = frozenset(
+    'struct int mod ceal init self read write alloc modref if else while return null break continue'.split()
+)
 LEVELS = (('||',), ('&&',), ('==', '!='), ('<', '<=', '>', '>='), ('+', '-'), ('*', '/', '%'))
 # What can come at a place is told by the words and signs themselves, or by one of these.
 NAME, NUMBER, END = 'a name', 'a number', 'the line %%'
 
-# A token's kind is that of its pattern, `name` for a word that is not reserved, `end` for the line %%, or `bad` for a byte that begins none.
+# A token's kind is that of its pattern, `name` for a word that is not reserved, `end` for the line %%, or `bad` for a
+# byte that begins none.
 Token = namedtuple('Token', 'kind text line column')
-Field = namedtuple('Field', 'name form type length')  # (the form is plain, mod or row; the type is its own, or what it holds)
-Function = namedtuple('Function', 'kind name parameters body')  # (parameters are pairs of a type and a name; `self` is the first of an `init`)
+# The form is plain, mod or row; the type is its own, or what it holds.
+Field = namedtuple('Field', 'name form type length')
+# Parameters are pairs of a type and a name; `self` is the first of an `init`.
+Function = namedtuple('Function', 'kind name parameters body')
 Program = namedtuple('Program', 'structs functions')
 Reading = namedtuple('Reading', 'program tokens at wanted first value level')  # (at is where it ends early, or None)
 

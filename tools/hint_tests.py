@@ -1,5 +1,6 @@
 """Tries the hints beside faults and refused lines: each row of 'If you know C' has one, and so has each refusal."""
-import pathlib, re
+import pathlib
+import re
 
 from tools import hints, refusals, scripts
 from tools.programs import TOP
@@ -52,7 +53,8 @@ MISTAKES = (
 
 
 def tables():
-    """Each fault of the tables of docs/LANGUAGE.md, without the program: what was expected is told, and all that is said of C."""
+    """Each fault of the tables of docs/LANGUAGE.md, without the program: what was expected is told, and all that is
+    said of C."""
     found = TABLE.findall((TOP / 'docs/LANGUAGE.md').read_text())
     for number, table in enumerate(found):
         for cells, source, code, line, column in CELL.findall(table):
@@ -101,7 +103,13 @@ def of_lines(made):
         path = folder / f'{name}.ceal'
         path.write_text(f'ceal f(mod int *m) {{ }}\n%%\nmod m int 1\n{line}\n')
         call(name, ['--strict', str(path)], 67, None, [f'run: {path}:4: {line}: refused C', why])
-    call('many without a session', ['many', 'examples/inc.ceal'], 0, b'refused C1: unreadable line\n' * 8, 'no line names its session')
+    call(
+        'many without a session',
+        ['many', 'examples/inc.ceal'],
+        0,
+        b'refused C1: unreadable line\n' * 8,
+        'no line names its session',
+    )
     call('--beside many without a session', ['many', '--beside', 'examples/inc.ceal'], 0, None)
 
 
@@ -113,7 +121,10 @@ def excerpts(made):
     said = call('a long line with a fault', ['check', str(path)], 1, None, 'run:   .. ')
     given = Input('x', path.read_bytes())
     lines = scripts.excerpt(given, said)
-    tell('the excerpt of a long line', [] if all(len(it) < 120 and it.isprintable() for it in lines) and '$' in lines[1] else [f'told {lines}'])
+    tell(
+        'the excerpt of a long line',
+        [] if all(len(it) < 120 and it.isprintable() for it in lines) and '$' in lines[1] else [f'told {lines}'],
+    )
     tell('its caret', [] if lines[1][lines[2].index('^')] == '$' else [f'told {lines}'])
 
 

@@ -1,6 +1,7 @@
 """Hints beside a fault: what was expected at its place, and how CEAL says what a C programmer probably meant.
 
-Each row of 'If you know C' in docs/LANGUAGE.md has one. A hint is a guess from the words near the fault, and no part of the answer.
+Each row of 'If you know C' in docs/LANGUAGE.md has one. A hint is a guess from the words near the fault, and no part of
+the answer.
 """
 import difflib
 from collections import namedtuple
@@ -26,16 +27,35 @@ CHOICE = 'there is no `c ? x : y`, and there are no labels: use an `if`'
 LOOPS = 'there is no `{}`: use `while`, or recursion'
 ROW = 'the only array is a row of modifiables in a struct, `mod int f[3];`, and `&p->f[i]` is the place of an element'
 TYPES = 'the types are `int`, `struct S *`, `mod int *` and `mod struct S *`'
-POINTER = 'a pointer to a block is a `struct S *`, and one to a modifiable a `mod int *` or `mod struct S *`: the `*` is part of the type'
+POINTER = (
+    'a pointer to a block is a `struct S *`, and one to a modifiable a `mod int *` or `mod struct S *`: the `*` is part'
+    ' of the type'
+)
 ONE_EACH = 'one name in each declaration: `int x = 1; int y = 2;`'
 ASSIGNED = 'there is no `++`, `--` or `+=`: `x = x + 1;`'
-SIGNS = {'#': 'there is no `#include` and no `#define`', "'": STRINGS, '"': STRINGS, '.': STRINGS, '~': BITS, '^': BITS, '|': BITS, '?': CHOICE, ':': CHOICE}
+SIGNS = {
+    '#': 'there is no `#include` and no `#define`',
+    "'": STRINGS,
+    '"': STRINGS,
+    '.': STRINGS,
+    '~': BITS,
+    '^': BITS,
+    '|': BITS,
+    '?': CHOICE,
+    ':': CHOICE,
+}
 WORDS = {
     **{it: LOOPS.format(it) for it in ('for', 'do', 'goto')},
     'switch': 'there is no `switch`: use `if` and `else if`',
-    **{it: f'there is no `{it}`' for it in ('typedef', 'enum', 'union', 'sizeof', 'const', 'static', 'extern', 'register', 'volatile')},
+    **{
+        it: f'there is no `{it}`'
+        for it in ('typedef', 'enum', 'union', 'sizeof', 'const', 'static', 'extern', 'register', 'volatile')
+    },
 }
-OTHER_TYPES = frozenset('void char short long unsigned signed float double bool _Bool size_t int8_t int16_t int32_t int64_t uint32_t uint64_t'.split())
+OTHER_TYPES = frozenset(
+    'void char short long unsigned signed float double bool _Bool size_t int8_t int16_t int32_t int64_t uint32_t'
+    ' uint64_t'.split()
+)
 UNKNOWN = {
     'NULL': 'the null pointer is `null`',
     'nullptr': 'the null pointer is `null`',
@@ -49,13 +69,17 @@ OF_CODE = {
     'S2': 'numbers have 64 bits; the least one is written `-9223372036854775807 - 1`',
     'S4': 'at most 64 may be open',
     'S6': 'at most 255 fields, parameters, arguments, or operators of one expression',
-    'U1': 'a plain field is set by the initialiser of its block, and never again: make what changes a modifiable, as `mod int f;`',
+    'U1': (
+        'a plain field is set by the initialiser of its block, and never again: make what changes a modifiable, as `mod'
+        ' int f;`'
+    ),
     'U2': 'an initialiser only has `self->f = E;` and `if`: no variable, no call and no `return`',
     'U3': 'an initialiser cannot read self, only its other parameters',
     'U4': 'an initialiser is run by `alloc`, as in `struct S *p = alloc S f(..);`',
     'U5': '`alloc S f(..)` takes an initialiser: `init f(struct S *self, ..) { .. }`',
 }
-# What a fault is met by: its code, itself with the tokens round it, where the statement and its value begin, and what was wanted.
+# What a fault is met by: its code, itself with the tokens round it, where the statement and its value begin, and what
+# was wanted.
 Spot = namedtuple('Spot', 'code token before after first value wanted level tokens at')
 
 
@@ -76,7 +100,9 @@ def hints(code, line, column, source):
     if is_early:
         found = wanted(spot), of_grammar(spot)
     else:
-        found = of_meaning(spot, reading.program, kinds.at_place(reading.program, line, column) if code in ('T1', 'T5') else None)
+        found = of_meaning(
+            spot, reading.program, kinds.at_place(reading.program, line, column) if code in ('T1', 'T5') else None
+        )
     return [it for it in found if it]
 
 
@@ -84,7 +110,18 @@ def spot_of(code, at, reading, is_early):
     tokens, nothing = reading.tokens, grammar.Token('nothing', '', 0, 0)
     before, after = tokens[at - 1] if at else nothing, tokens[at + 1] if at + 1 < len(tokens) else nothing
     value = tokens[reading.value] if reading.value >= reading.first else nothing
-    return Spot(code, tokens[at], before, after, tokens[reading.first], value, reading.wanted if is_early else [], reading.level, tokens, at)
+    return Spot(
+        code,
+        tokens[at],
+        before,
+        after,
+        tokens[reading.first],
+        value,
+        reading.wanted if is_early else [],
+        reading.level,
+        tokens,
+        at,
+    )
 
 
 def of_character(before, text):
@@ -111,7 +148,11 @@ def wanted(spot):
         if words <= left:
             told.append(sort)
             left -= words
-    told += [it if it in (grammar.NAME, grammar.NUMBER, grammar.END) or ' ' in it else f'`{it}`' for it in dict.fromkeys(spot.wanted) if it in left]
+    told += [
+        it if it in (grammar.NAME, grammar.NUMBER, grammar.END) or ' ' in it else f'`{it}`'
+        for it in dict.fromkeys(spot.wanted)
+        if it in left
+    ]
     return f'expected {" or ".join([", ".join(told[:-1]), told[-1]] if len(told) > 1 else told)}' if told else None
 
 
@@ -128,7 +169,11 @@ def two_kinds(found):
 
 def of_grammar(spot):
     """How CEAL says what has another form in C, at a token that cannot come there."""
-    for rule in (of_words, {'top': of_top, 'head': of_head, 'struct': of_field}.get(spot.level, of_statement), of_expression):
+    for rule in (
+        of_words,
+        {'top': of_top, 'head': of_head, 'struct': of_field}.get(spot.level, of_statement),
+        of_expression,
+    ):
         found = rule(spot)
         if found:
             return found
@@ -173,7 +218,9 @@ def of_field(spot):
     if spot.before.text == '}' and ';' in spot.wanted:
         return 'a struct ends with `};`'
     if '*' in spot.wanted and spot.token.kind == 'name' and spot.before.kind == 'name':
-        return 'a field is a pointer, `struct t *f;`, or a modifiable, `mod struct t f;`: there is no block inside a block'
+        return (
+            'a field is a pointer, `struct t *f;`, or a modifiable, `mod struct t f;`: there is no block inside a block'
+        )
     if spot.token.text == '[':
         return ROW
     if spot.token.text == ',' and ';' in spot.wanted:
@@ -245,21 +292,30 @@ def of_expression(spot):
     if is_next:
         return of_operand(text, before)
     if text == '(' and before.kind == 'name':
-        return 'a call is a statement, and no part of an expression: pass a modifiable that the function writes to, and read that'
+        return (
+            'a call is a statement, and no part of an expression: pass a modifiable that the function writes to, and'
+            ' read that'
+        )
     if text == '[':
         return ROW
     if text == '&':
         return BITS
     if text == '=' and spot.first.text in ('if', 'while'):
         return 'equal is `==`'
-    is_beside = before.kind == 'number' and (before.line, before.column + len(before.text)) == (spot.token.line, spot.token.column)
+    is_beside = before.kind == 'number' and (before.line, before.column + len(before.text)) == (
+        spot.token.line,
+        spot.token.column,
+    )
     return 'numbers are decimal digits' if is_beside and spot.token.kind == 'name' else None
 
 
 def of_operand(text, before):
     """A sign where an operand is expected."""
     if text == '*':
-        return 'there is no `*p`: only `->` leads from a pointer to what it points to, and `read` to what a modifiable holds'
+        return (
+            'there is no `*p`: only `->` leads from a pointer to what it points to, and `read` to what a modifiable'
+            ' holds'
+        )
     if text in ('<', '>') and before.text == text:
         return BITS
     if text in ('+', '=', ';') and before.text in ('+', '-'):
@@ -318,7 +374,10 @@ def of_no_modifiable(spot):
 
 def signature(function):
     """What a function takes."""
-    told = [f'{kind}{"" if kind.endswith("*") else " "}{name}' for kind, name in function.parameters[function.kind == 'init' :]]
+    told = [
+        f'{kind}{"" if kind.endswith("*") else " "}{name}'
+        for kind, name in function.parameters[function.kind == 'init' :]
+    ]
     return f'{function.name}({", ".join(told)}) takes {len(told)} argument{"s" * (len(told) != 1)}'
 
 

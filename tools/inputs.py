@@ -1,4 +1,5 @@
-"""Inputs: what the program is given, from one file or put together from several, with the file and line that each line is from."""
+"""Inputs: what the program is given, from one file or put together from several, with the file and line that each line
+is from."""
 import os
 
 from tools import scripts
@@ -10,9 +11,9 @@ LONGEST_INPUT = 4_194_304
 
 
 class Input:
-    """What the program is given: a name for people, and bytes, or a file that it reads itself. Where it was put together of files, its pieces
-    tell for each the number of its first line here, its name, and the number of that line there. `added` is how many bytes at its end no
-    file has."""
+    """What the program is given: a name for people, and bytes, or a file that it reads itself. Where it was put
+    together of files, its pieces tell for each the number of its first line here, its name, and the number of that line
+    there. `added` is how many bytes at its end no file has."""
 
     def __init__(self, name, text=None, path=None, pieces=(), added=0):
         self.name, self.path, self.held, self.pieces, self.added = name, path, text, pieces, added
@@ -88,10 +89,11 @@ def opened(name):
 
 
 def put_together(*parts):
-    """One input of parts, each some lines, the file that they are from and the number of the first one there; a line %% comes between."""
+    """One input of parts, each some lines, the file that they are from and the number of the first one there; a line %%
+    comes between."""
     text, pieces = b'', []
     for lines, name, there in parts:
-        text += (b'%%\n' if pieces else b'')
+        text += b'%%\n' if pieces else b''
         pieces.append((text.count(b'\n') + 1, name, there))
         text += lines if not lines or lines.endswith(b'\n') or len(pieces) == len(parts) else lines + b'\n'
     return Input(parts[0][1], text, pieces=pieces)
@@ -126,11 +128,18 @@ def look_at_order(first, second):
     """Refuses two files in the wrong order, as their first words tell; no source text that begins so is accepted."""
     what = scripts.no_source(first.text())
     if what and scripts.first_word(second.text()) in scripts.OF_SOURCE:
-        raise Fault(64, f'{first.name} begins as {what} and {second.name} as a source text, which comes first: {second.name} {first.name}')
+        raise Fault(
+            64,
+            (
+                f'{first.name} begins as {what} and {second.name} as a source text, which comes first:'
+                f' {second.name} {first.name}'
+            ),
+        )
 
 
 def inputs(mode, names):
-    """The inputs that the files make: a source text without a line %% goes with the file that follows it, or is looked at by itself."""
+    """The inputs that the files make: a source text without a line %% goes with the file that follows it, or is looked
+    at by itself."""
     given = [opened(name) for name in names]
     if mode == 'verify' and len(given) == 2:
         return [joined(*given)]

@@ -1,8 +1,11 @@
-"""Tries the Python client, and the three jobs of examples/ beside their computations in Python: `python3 -m tools.job_tests SERVER`.
+"""Tries the Python client, and the three jobs of examples/ beside their computations in Python: `python3 -m
+tools.job_tests SERVER`.
 
 SERVER is a built `ceal_serve`. The jobs run side by side, each over some hundred random edits.
 """
-import os, subprocess, sys
+import os
+import subprocess
+import sys
 
 from tools.programs import TOP
 
@@ -19,7 +22,13 @@ TRIED = {
 
 def main(server):
     how = {'env': {**os.environ, 'CEAL_SERVE': os.path.abspath(server)}}
-    how |= {'cwd': TOP, 'stdin': subprocess.DEVNULL, 'stdout': subprocess.PIPE, 'stderr': subprocess.STDOUT, 'text': True}
+    how |= {
+        'cwd': TOP,
+        'stdin': subprocess.DEVNULL,
+        'stdout': subprocess.PIPE,
+        'stderr': subprocess.STDOUT,
+        'text': True,
+    }
     running = {name: subprocess.Popen([sys.executable, '-B', *words], **how) for name, words in TRIED.items()}
     failed = 0
     for name, process in running.items():

@@ -1,9 +1,13 @@
 """Runs the tests of the three crates of tests with no proof: `python3 -m tools.joined_tests`.
 
-`rt try --test` compiles all crates below again for each crate. So the three are put together as one crate, in a copy of the
-sources that is thrown away: each is a module of it, with the modules that it has. The tests are the same.
+`rt try --test` compiles all crates below again for each crate. So the three are put together as one crate, in a copy of
+the sources that is thrown away: each is a module of it, with the modules that it has. The tests are the same.
 """
-import pathlib, re, shutil, sys, tempfile
+import pathlib
+import re
+import shutil
+import sys
+import tempfile
 
 from tools import answers, programs
 from tools.programs import TOP
@@ -38,7 +42,9 @@ def join(tree):
 def main():
     with tempfile.TemporaryDirectory(prefix='ceal-') as folder:
         tree = pathlib.Path(folder, 'tree')
-        shutil.copytree(TOP / 'crates', tree / 'crates', ignore=shutil.ignore_patterns('out', 'proofs', 'must-fail', 'data'))
+        shutil.copytree(
+            TOP / 'crates', tree / 'crates', ignore=shutil.ignore_patterns('out', 'proofs', 'must-fail', 'data')
+        )
         shutil.copy(TOP / 'crates.txt', tree / 'crates.txt')
         join(tree)
         words = ['rt', 'try', '--test', '--seconds', '600']

@@ -1,6 +1,8 @@
-"""The types of a program that was read (tools/grammar.py): for each place where two differ, what is expected there and what is there instead.
+"""The types of a program that was read (tools/grammar.py): for each place where two differ, what is expected there and
+what is there instead.
 
-They are for the hint beside a fault `kinds differ`. A type is written as in a program; one that is not known is None, and differs from none.
+They are for the hint beside a fault `kinds differ`. A type is written as in a program; one that is not known is None,
+and differs from none.
 """
 from tools.grammar import modifiable
 
@@ -33,7 +35,9 @@ class Kinds:
     def block(self, statements, variables):
         variables = dict(variables)
         for statement in statements:
-            getattr(self, statement[0].replace('if', 'choice').replace('while', 'loop'), self.nothing)(variables, *statement[1:])
+            getattr(self, statement[0].replace('if', 'choice').replace('while', 'loop'), self.nothing)(
+                variables, *statement[1:]
+            )
 
     def nothing(self, *_):
         """`return`, `break` and `continue` have no types."""
@@ -99,7 +103,9 @@ class Kinds:
         if function and function.kind == 'init':
             self.arguments(self.parameters(maker), given, variables)
             if function.parameters[0][0] != f'struct {struct.text} *':
-                self.differ(struct, f'{struct_of(function.parameters[0][0])}, which {maker.text} makes', f'struct {struct.text}')
+                self.differ(
+                    struct, f'{struct_of(function.parameters[0][0])}, which {maker.text} makes', f'struct {struct.text}'
+                )
         return f'struct {struct.text} *'
 
     # -- expressions
@@ -181,7 +187,11 @@ def held_by(kind):
 
 def form_of(field):
     kind = struct_of(field.type)
-    return f'the row of modifiables mod {kind} {field.name}[{field.length}]' if field.form == 'row' else f'the modifiable mod {kind} {field.name}'
+    return (
+        f'the row of modifiables mod {kind} {field.name}[{field.length}]'
+        if field.form == 'row'
+        else f'the modifiable mod {kind} {field.name}'
+    )
 
 
 def told(expression, kind):

@@ -1,5 +1,7 @@
-"""Writes the manual page of the program, from the tables of docs/SCRIPT.md: `python3 -B -m tools.manual > ceal.1`, shown by `man -l ceal.1`."""
-import re, sys
+"""Writes the manual page of the program, from the tables of docs/SCRIPT.md: `python3 -B -m tools.manual > ceal.1`,
+shown by `man -l ceal.1`."""
+import re
+import sys
 
 from tools.programs import TOP
 
@@ -36,7 +38,9 @@ def terms(rows):
     for first, *others in rows:
         yield '.TP'
         yield roff(first)
-        yield '\n'.join(f'{roff(it)[0].upper()}{roff(it)[1:]}.' if it and it[0].isalpha() else roff(it) for it in others if it)
+        yield '\n'.join(
+            f'{roff(it)[0].upper()}{roff(it)[1:]}.' if it and it[0].isalpha() else roff(it) for it in others if it
+        )
 
 
 def statuses(page):
@@ -54,8 +58,13 @@ def manual(page, version):
     yield f'.SH DESCRIPTION\nIt reads {roff(FORMAT)}.'
     yield from terms(table(page, 'Words', 'What it does'))
     yield '.SH LINES OF A SCRIPT'
-    yield from terms([line, what, f'Reply: {reply}'] for line, what, reply in table(page, 'Line', 'What it does', 'Reply'))
-    yield '.SH REFUSALS\nA line that cannot be done is answered \\fBrefused\\fR with a code and a text, and changes nothing.'
+    yield from terms(
+        [line, what, f'Reply: {reply}'] for line, what, reply in table(page, 'Line', 'What it does', 'Reply')
+    )
+    yield (
+        '.SH REFUSALS\nA line that cannot be done is answered \\fBrefused\\fR with a code and a text, and changes'
+        ' nothing.'
+    )
     yield from terms(table(page, 'Code', 'Text', 'When'))
     yield '.SH EXIT STATUS'
     yield from terms(statuses(page))

@@ -1,14 +1,20 @@
-"""The programs of the repository, each with the sums of what it was made of: `ceal`, which answers a whole script, and `ceal_serve`, which
-answers line by line.
+"""The programs of the repository, each with the sums of what it was made of: `ceal`, which answers a whole script, and
+`ceal_serve`, which answers line by line.
 
-Each is there in up to two forms: the proved one in its crate's folder out/, and the draft, which no proof was made of, in the folder draft/.
+Each is there in up to two forms: the proved one in its crate's folder out/, and the draft, which no proof was made of,
+in the folder draft/.
 """
-import os, pathlib, time
+import os
+import pathlib
+import time
 
 TOP = pathlib.Path(__file__).resolve().parent.parent
 NAMES = ('ceal', 'ceal_serve')
 # What a program that was just made has to answer: to which words, to which input.
-SMALLEST = {'ceal': (['check'], b'%%\n', b'accepted\n'), 'ceal_serve': ([], b'%%\n?\n', b'refused C1: unreadable line\n')}
+SMALLEST = {
+    'ceal': (['check'], b'%%\n', b'accepted\n'),
+    'ceal_serve': ([], b'%%\n?\n', b'refused C1: unreadable line\n'),
+}
 # A file that was changed less than this many seconds ago may be changed once more at what seems to be the same time.
 TICK = 2
 
@@ -57,20 +63,23 @@ def remember(path, text):
 
 
 class Program:
-    """A program, and the sums and stats of the sources that it was made of; `parts` are the folders of a crate that count."""
+    """A program, and the sums and stats of the sources that it was made of: the crate `top` and those below it, of
+    which the folders `parts` count."""
 
-    def __init__(self, name, folder, parts):
-        self.name, self.path, self.parts = name, folder / name, parts
+    def __init__(self, name, folder, parts, top=None):
+        self.name, self.path, self.parts, self.top = name, folder / name, parts, top or name
         self.built, self.seen = folder / f'{name}.built', folder / f'{name}.seen'
 
     def sources(self):
         """The sources of the program, as paths from the top."""
         yield 'crates.txt'
-        for crate in crates(self.name):
+        for crate in crates(self.top):
             for part in self.parts:
                 for folder, folders, names in os.walk(TOP / 'crates' / crate / part):
                     folders.sort()
-                    yield from (os.path.relpath(f'{folder}/{it}', TOP) for it in sorted(names) if it.endswith(('.rt', '.antt')))
+                    yield from (
+                        os.path.relpath(f'{folder}/{it}', TOP) for it in sorted(names) if it.endswith(('.rt', '.antt'))
+                    )
 
     def sums(self):
         """A line for each source, with a sum of what is in it."""
@@ -84,8 +93,8 @@ class Program:
         return os.access(self.path, os.X_OK) and self.built.is_file()
 
     def stats(self):
-        """A line for each source, the program and its sums: the size, the times and the number of the file. While none of these is another,
-        as `git` and `make` take it too, neither is what is in the files."""
+        """A line for each source, the program and its sums: the size, the times and the number of the file. While none
+        of these is another, as `git` and `make` take it too, neither is what is in the files."""
 
         def line(path, it):
             return f'{path} {it.st_size} {it.st_mtime_ns} {it.st_ctime_ns} {it.st_ino}'
@@ -99,13 +108,14 @@ class Program:
                         yield line(it.path, it.stat())
 
         lines = [line(it, os.stat(it)) for it in (TOP / 'crates.txt', self.path, self.built)]
-        for crate in crates(self.name):
+        for crate in crates(self.top):
             for folder in (f'{TOP}/crates/{crate}/{part}' for part in self.parts):
                 lines += below(folder) if os.path.isdir(folder) else ()
         return '\n'.join(lines)
 
     def is_current(self):
-        """Whether the program was built from just these sources: by their sums, or where those have been looked at, by the stats of the files."""
+        """Whether the program was built from just these sources: by their sums, or where those have been looked at, by
+        the stats of the files."""
         seen, now = self.stats(), time.time()
         try:
             if self.seen.read_text() == seen:
@@ -130,4 +140,8 @@ def why_unproved(name='ceal'):
     program = PROVED[name]
     if not program.is_there():
         return f'the proved program{"" if name == "ceal" else f" {name}"} is not built'
-    return None if program.is_current() else f'sources have changed since the proved program{"" if name == "ceal" else f" {name}"} was built'
+    return (
+        None
+        if program.is_current()
+        else f'sources have changed since the proved program{"" if name == "ceal" else f" {name}"} was built'
+    )

@@ -1,11 +1,16 @@
-"""Random edits of the examples: `python3 -m tools.random_tests PROGRAM [ROUNDS [SEED]]`, 20 rounds from seed 1 if nothing is said.
+"""Random edits of the examples: `python3 -m tools.random_tests PROGRAM [ROUNDS [SEED]]`, 20 rounds from seed 1 if
+nothing is said.
 
-A round makes the inputs of an example, runs it, and then edits modifiables at random, each time with an update by `propagate` or by slices.
-After each update what the built PROGRAM answers to every question must be what it answers where the inputs have these bases from the start
-and nothing is ever updated. Once more, a session that was saved after half of the edits must go on with the same answers. A difference is
-printed with its script. No proof says anything of this tool; it looks at the built program from outside.
+A round makes the inputs of an example, runs it, and then edits modifiables at random, each time with an update by
+`propagate` or by slices. After each update what the built PROGRAM answers to every question must be what it answers
+where the inputs have these bases from the start and nothing is ever updated. Once more, a session that was saved after
+half of the edits must go on with the same answers. A difference is printed with its script. No proof says anything of
+this tool; it looks at the built program from outside.
 """
-import random, re, subprocess, sys
+import random
+import re
+import subprocess
+import sys
 
 from tools.programs import TOP
 from tools.scripts import parts
@@ -41,7 +46,9 @@ class Inputs:
                 self.blocks.setdefault(kind, []).append(name)
                 self.places += [(f'{name}.{field}', held) for field, held in structs.get(kind, ()) if held]
         names = [line.split()[1] for line in self.made]
-        self.questions = [f'get {place}' for place, _ in self.places] + [f'show {name}' for name in names] + ['steps', 'blocks']
+        self.questions = (
+            [f'get {place}' for place, _ in self.places] + [f'show {name}' for name in names] + ['steps', 'blocks']
+        )
 
     def edit(self, draws):
         place, kind = draws.choice(self.places)

@@ -1,7 +1,8 @@
-"""What is told beside a refused line of a script: which part of it is at fault, what it may have meant, and which line is the reason.
+"""What is told beside a refused line of a script: which part of it is at fault, what it may have meant, and which line
+is the reason.
 
-The replies are the program's. This goes along the script beside them and keeps what is needed for a guess; where it does not know, it tells
-nothing. docs/SCRIPT.md has the lines and the refusals.
+The replies are the program's. This goes along the script beside them and keeps what is needed for a guess; where it
+does not know, it tells nothing. docs/SCRIPT.md has the lines and the refusals.
 """
 import re
 
@@ -21,7 +22,15 @@ FORMS = {
 }
 OF_MANY = 'with `many` a line begins with the name of its session, as @NAME LINE'
 # How many words a line has, at least and at most.
-COUNTS = {'mod': (4, 4), 'new': (3, 10**6), 'set': (3, 3), 'run': (2, 10**6), 'propagate': (1, 2), 'get': (2, 2), 'show': (2, 2)}
+COUNTS = {
+    'mod': (4, 4),
+    'new': (3, 10**6),
+    'set': (3, 3),
+    'run': (2, 10**6),
+    'propagate': (1, 2),
+    'get': (2, 2),
+    'show': (2, 2),
+}
 NAME, NUMBER = re.compile(r'(?!null\Z)[A-Za-z_]\w*', re.A), re.compile(r'-?[0-9]+')
 FIELD = re.compile(r'[A-Za-z_]\w*(\[(0|[1-9][0-9]{0,2})\])?', re.A)
 
@@ -67,13 +76,20 @@ class Session:
         if NUMBER.fullmatch(word) or word == 'null':
             return None
         if name not in self.inputs:
-            lost = f'; line {self.lost[name]}, which would make it, was refused' if name in self.lost else like(name, self.inputs)
+            lost = (
+                f'; line {self.lost[name]}, which would make it, was refused'
+                if name in self.lost
+                else like(name, self.inputs)
+            )
             return f'there is no input {name}{lost}'
         form, struct = self.inputs[name]
         if dot and form == 'mod':
             return f'{name} is one modifiable, and has no fields'
         if dot and field not in self.fields(struct):
-            return f'{name} is a {struct}, with the fields {", ".join(self.fields(struct))}{like(field, self.fields(struct))}'
+            return (
+                f'{name} is a {struct}, with the fields'
+                f' {", ".join(self.fields(struct))}{like(field, self.fields(struct))}'
+            )
         return None
 
     def type_of(self, word):
@@ -94,7 +110,11 @@ class Session:
     def misfit(self, wanted, word, what):
         """What is told where a value has another type than is wanted."""
         found = self.type_of(word)
-        return None if found is None or fits(wanted, found) else f'{what} is {article(wanted)}, and {word} is {article(found)}'
+        return (
+            None
+            if found is None or fits(wanted, found)
+            else f'{what} is {article(wanted)}, and {word} is {article(found)}'
+        )
 
     # -- the refusals, by their codes
 
@@ -107,7 +127,9 @@ class Session:
             return f'there is no struct {words[2]}{like(words[2], known)}'
         if words[0] == 'run' and words[1] not in self.program.functions:
             return f'there is no function {words[1]}{like(words[1], self.program.functions)}'
-        return next(filter(None, map(self.unknown, words[2 if words[0] == 'run' else 3 if known is not None else 1 :])), None)
+        return next(
+            filter(None, map(self.unknown, words[2 if words[0] == 'run' else 3 if known is not None else 1 :])), None
+        )
 
     def of_c3(self, words):
         return f'line {self.lines[words[1]]} made {words[1]}' if words[1] in self.lines else None
@@ -128,8 +150,13 @@ class Session:
         """Which value of a new block does not fit, or how many there should be."""
         fields, given = self.fields(words[2]), words[3:]
         if len(fields) != len(given):
-            return f'a {words[2]} takes {len(fields)} value{"s" * (len(fields) != 1)}, not {len(given)}: {", ".join(fields)}'
-        found = (self.misfit(field.type, word, f'the field {name}') for (name, field), word in zip(fields.items(), given))
+            return (
+                f'a {words[2]} takes {len(fields)} value{"s" * (len(fields) != 1)}, not {len(given)}:'
+                f' {", ".join(fields)}'
+            )
+        found = (
+            self.misfit(field.type, word, f'the field {name}') for (name, field), word in zip(fields.items(), given)
+        )
         return next(filter(None, found), None)
 
     def of_c5(self, words):
@@ -140,11 +167,18 @@ class Session:
             return f'{words[1]} is an initialiser; `run` names a core function, `ceal {words[1]}(..)`'
         if len(function.parameters) != len(words) - 2:
             return f'{signature(function)}, not {len(words) - 2}'
-        found = (self.misfit(kind, word, f'the parameter {name}') for (kind, name), word in zip(function.parameters, words[2:]))
+        found = (
+            self.misfit(kind, word, f'the parameter {name}')
+            for (kind, name), word in zip(function.parameters, words[2:])
+        )
         return next(filter(None, found), None)
 
     def of_c6(self, _):
-        return f'line {self.run} is the run; another one is for another script, or for another session of ./run many' if self.run else None
+        return (
+            f'line {self.run} is the run; another one is for another script, or for another session of ./run many'
+            if self.run
+            else None
+        )
 
     def of_c7(self, _):
         return f'line {self.out_of_fuel} was out of fuel' if self.out_of_fuel else 'nothing ran yet'
@@ -185,8 +219,12 @@ def unreadable(words):
     least, most = COUNTS.get(command, (1, 1))
     if not least <= len(words) <= most or command == 'propagate':
         return f'the form is {FORMS[command]}'
-    names, values = {'mod': (more[:2], more[2:]), 'new': (more[:2], more[2:]), 'run': (more[:1], more[1:])}.get(command, ([], more))
-    wrong = [f'{it} is no name' for it in names if not NAME.fullmatch(it)] + [f'{it} is {what}' for it in values for what in [no_value(it)] if what]
+    names, values = {'mod': (more[:2], more[2:]), 'new': (more[:2], more[2:]), 'run': (more[:1], more[1:])}.get(
+        command, ([], more)
+    )
+    wrong = [f'{it} is no name' for it in names if not NAME.fullmatch(it)] + [
+        f'{it} is {what}' for it in values for what in [no_value(it)] if what
+    ]
     return wrong[0] if wrong else f'the form is {FORMS[command]}'
 
 
@@ -200,7 +238,8 @@ def no_value(word):
 
 
 def explained(given, output, mode):
-    """Gives each line of a script with its place, FILE:NUMBER, the lines that it is answered, and why it was refused, where that is known."""
+    """Gives each line of a script with its place, FILE:NUMBER, the lines that it is answered, and why it was refused,
+    where that is known."""
     reading, sessions = grammar.read(scripts.parts(given.text())[0]), {}
     first, script = scripts.script_of(given.text(), mode)
     name, own = given.place(first)
@@ -210,7 +249,11 @@ def explained(given, output, mode):
         if taken and words and reading and mode != 'resume':
             state = sessions.setdefault(session, Session(reading.program))
             why = answered(state, number, words, taken[0].decode(errors='replace'), session.decode(errors='replace'))
-            why = OF_MANY if mode == 'many' and scripts.REFUSED.match(taken[0]) and not taken[0].startswith(session[1:] + b': ') else why
+            why = (
+                OF_MANY
+                if mode == 'many' and scripts.REFUSED.match(taken[0]) and not taken[0].startswith(session[1:] + b': ')
+                else why
+            )
         yield f'{name}:{number}', line, taken, why
 
 
@@ -225,7 +268,10 @@ def answered(state, number, words, reply, session):
 
 def beside(given, output, mode):
     """The script of an input, each line with its number in its file, its reply beside it, and why it was refused."""
-    rows = [(place.rsplit(':', 1)[1], scripts.printable(line).expandtabs(8), taken, why) for place, line, taken, why in explained(given, output, mode)]
+    rows = [
+        (place.rsplit(':', 1)[1], scripts.printable(line).expandtabs(8), taken, why)
+        for place, line, taken, why in explained(given, output, mode)
+    ]
     width = max([20, *(len(line) for _, line, taken, _ in rows if taken)]) + 3
     digits = max((len(number) for number, *_ in rows), default=1)
     for number, line, taken, why in rows:

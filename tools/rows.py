@@ -1,21 +1,27 @@
 """Runs the rows of rows.txt: `python3 -m tools.rows PROGRAM [NAME ..]`, with names only the rows of these names.
 
-PROGRAM is a built program, or the word `try`: then the sources are compiled once, with no proof, and the large rows are left out unless they
-are named. The form of a row is told at the head of crates/ceal_rows/src/main.rt. That a stream drips or fails is not tried here, where streams
-are files.
+PROGRAM is a built program, or the word `try`: then the sources are compiled once, with no proof, and the large rows are
+left out unless they are named. The form of a row is told at the head of crates/ceal_rows/src/main.rt. That a stream
+drips or fails is not tried here, where streams are files.
 """
-import os, pathlib, re, subprocess, sys, tempfile
+import os
+import pathlib
+import re
+import subprocess
+import sys
+import tempfile
 
 from tools import answers
 from tools.programs import TOP
 
 ROWS = TOP / 'crates/ceal_rows/data/rows.txt'
 STATUSES = {'Done': 0, 'Refused': 1, 'Usage': 2, 'TooLong': 3}
-# These run for millions of steps, or have megabytes to read. A built program takes a second for all of them; the slow code that `rt try`
-# compiles, with its checks, takes eight minutes. So with `try` they are run only by name.
+# These run for millions of steps, or have megabytes to read. A built program takes a second for all of them; the slow
+# code that `rt try` compiles, with its checks, takes eight minutes. So with `try` they are run only by name.
 LARGE = frozenset(
-    'loop-makes-modifiables input-just-fits blocks-65535-list gen-list-40000 deep-recursion-too-deep loop-out-of-fuel-and-back '
-    'endless-recursion deep-recursion-fits blocks-65537 blocks-65535 blocks-65536 blocks-65536-run blocks-of-other-shapes'.split()
+    'loop-makes-modifiables input-just-fits blocks-65535-list gen-list-40000 deep-recursion-too-deep'
+    ' loop-out-of-fuel-and-back endless-recursion deep-recursion-fits blocks-65537 blocks-65535 blocks-65536'
+    ' blocks-65536-run blocks-of-other-shapes'.split()
 )
 
 
@@ -68,7 +74,8 @@ def difference(row, program):
 
 
 def tried_as_one():
-    """Passes all rows but the large ones by ceal_rows, which is compiled with no proof, and returns its status: a row costs hardly a moment."""
+    """Passes all rows but the large ones by ceal_rows, which is compiled with no proof, and returns its status: a row
+    costs hardly a moment."""
     with tempfile.NamedTemporaryFile(prefix='ceal-') as file:
         own, row = b'', Row()
         for line in ROWS.read_bytes().splitlines(keepends=True):
@@ -84,7 +91,8 @@ def tried_as_one():
 
 
 def tried(all_rows):
-    """The rows that `rt try` answers otherwise, each with how. Each row is a process of its own, which takes a second or more."""
+    """The rows that `rt try` answers otherwise, each with how. Each row is a process of its own, which takes a second
+    or more."""
     with tempfile.TemporaryDirectory(prefix='ceal-') as folder:
         for row in all_rows:
             path = pathlib.Path(folder, row.name)
@@ -92,7 +100,9 @@ def tried(all_rows):
             path.with_name(f'{row.name}.args').write_bytes(b''.join(it + b'\n' for it in row.words))
             path.with_name(f'{row.name}.stdout').write_bytes(b''.join(row.output))
         words = ['rt', 'try', '--steps', '1', '--seconds', '600', '--cases', folder]
-        process = answers.start(words, cwd=TOP / 'crates/ceal', stdin=subprocess.DEVNULL, stdout=subprocess.DEVNULL, stderr=subprocess.PIPE)
+        process = answers.start(
+            words, cwd=TOP / 'crates/ceal', stdin=subprocess.DEVNULL, stdout=subprocess.DEVNULL, stderr=subprocess.PIPE
+        )
         said = process.communicate()[1].decode(errors='replace')
     told = dict(re.findall(r'^case=(\S+) (.*)$', said, re.M))
     if not told:

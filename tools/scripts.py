@@ -24,7 +24,8 @@ def parts(text):
 
 
 def script_of(text, mode):
-    """The number of the first line of an input's script, and the script; with `resume` a save and a second line %% come before it."""
+    """The number of the first line of an input's script, and the script; with `resume` a save and a second line %% come
+    before it."""
     source, mark, script = parts(text)
     first = source.count(b'\n') + 2
     if mode == 'resume':
@@ -103,7 +104,9 @@ def names_no_session(given):
 
 def printable(text):
     """Bytes for people: what would move a terminal's cursor, or is no text, is one sign each."""
-    return ''.join(it if it.isprintable() or it == '\t' else '\ufffd' for it in text.decode(errors='replace').rstrip('\r\n'))
+    return ''.join(
+        it if it.isprintable() or it == '\t' else '\ufffd' for it in text.decode(errors='replace').rstrip('\r\n')
+    )
 
 
 def excerpt(given, output):
@@ -116,7 +119,11 @@ def excerpt(given, output):
     line = lines[number - 1] if number <= len(lines) else b''
     name, own = given.place(number)
     place = [f'{name}:{own}:{column}: {found[4].decode()}']
-    return place + shown(line, column) + [f'  {it}' for it in hints(found[1].decode(), number, column, text, given.added == 0)]
+    return (
+        place
+        + shown(line, column)
+        + [f'  {it}' for it in hints(found[1].decode(), number, column, text, given.added == 0)]
+    )
 
 
 def shown(line, column):
@@ -133,7 +140,8 @@ def shown(line, column):
 
 
 def hints(code, line, column, text, needs_mark=True):
-    """What is told of a fault besides: what may be missing, what was expected, and how to say what was probably meant."""
+    """What is told of a fault besides: what may be missing, what was expected, and how to say what was probably
+    meant."""
     from tools import hints
 
     source, mark, _ = parts(text)

@@ -1,4 +1,5 @@
-"""Why `--strict` fails: refused lines, a run that is out of fuel at the end, nothing that could be saved or dumped, a dump that is not verified."""
+"""Why `--strict` fails: refused lines, a run that is out of fuel at the end, nothing that could be saved or dumped, a
+dump that is not verified."""
 from tools import refusals, scripts
 
 UNFINISHED = b'no finished run\n'
@@ -28,4 +29,6 @@ def out_of_fuel(lines, mode):
         session, words = scripts.session_and_words(line, mode)
         if words[:1] in ([b'run'], [b'propagate']) and taken and not scripts.REFUSED.match(taken[0]):
             last[session] = place, line, taken[0].endswith(b'out of fuel')
-    yield from (f'{place}: {scripts.printable(line.strip())}: out of fuel' for place, line, is_out in last.values() if is_out)
+    yield from (
+        f'{place}: {scripts.printable(line.strip())}: out of fuel' for place, line, is_out in last.values() if is_out
+    )

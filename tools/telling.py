@@ -25,4 +25,7 @@ def unresumable(mode, status, output):
     """What there is to tell of a save that no `resume` reads, since an input has a limit."""
     if mode != 'save' or status or len(output) <= LONGEST_INPUT:
         return []
-    return [f'the save has {len(output):,} bytes, and `./run resume` reads at most {LONGEST_INPUT:,}: this one can not be resumed']
+    return [
+        f'the save has {len(output):,} bytes, and `./run resume` reads at most {LONGEST_INPUT:,}: this one can not be'
+        ' resumed'
+    ]

@@ -1,17 +1,26 @@
 """Runs every test that needs no proof, in parts that run side by side: `./run --test`.
 
-A part is the rows, the tests of a crate, the pages, the streams of the program, the server, its client in Python with the jobs of
-examples/, the library for C, or `./run` itself. Where the proved programs are there they answer; else their drafts do, which are made first.
-Where no draft can be made, `rt try` answers the rows and `./run`, and compiles each part again. The library is tried where it is proved.
+A part is the rows, the tests of a crate, the pages, the streams of the program, the server, its client in Python with
+the jobs of examples/, the library for C, or `./run` itself. Where the proved programs are there they answer; else their
+drafts do, which are made first. Where no draft can be made, `rt try` answers the rows and `./run`, and compiles each
+part again. The library for C is tried where there is a C compiler; its part makes the draft, if that is what is tried.
 """
-import os, re, subprocess, sys, tempfile, time
+import os
+import re
+import subprocess
+import sys
+import tempfile
+import time
 
 from tools import answers, libceal, rows
 from tools.programs import PROVED, TOP, why_unproved
 
 ROWS = TOP / 'crates/ceal_rows/data/rows.txt'
 PASSED = re.compile(r'(\d+) passed[,;] (\d+) failed')
-NOTHING = 'Nothing of this proves anything: tests try some inputs, and a proof speaks of all. `bash .ci/run` proves (CONTRIBUTING.md).'
+NOTHING = (
+    'Nothing of this proves anything: tests try some inputs, and a proof speaks of all. `bash .ci/run` proves'
+    ' (CONTRIBUTING.md).'
+)
 
 
 class Part:
@@ -48,15 +57,29 @@ def parts(how, program, server):
     tests = Part('tests of three crates', python('-m', 'tools.joined_tests'))
     if program is None:
         return [tests, own, Part('rows', python('-m', 'tools.rows', 'try')), pages], [
-            'the streams of the program, the server, its client in Python and the jobs of examples/: they need programs that are kept',
-            f'{len(rows.LARGE)} large rows: `python3 -B -m tools.rows try NAME` tries one, which takes up to a few minutes',
+            (
+                'the streams of the program, the server, its client in Python and the jobs of examples/: they need'
+                ' programs that are kept'
+            ),
+            (
+                f'{len(rows.LARGE)} large rows: `python3 -B -m tools.rows try NAME` tries one, which takes up to a few'
+                ' minutes'
+            ),
         ]
-    made = [own, Part('rows', python('-m', 'tools.rows', str(program))), Part('streams', python('.ci/program', str(program))), pages]
+    made = [
+        own,
+        Part('rows', python('-m', 'tools.rows', str(program))),
+        Part('streams', python('.ci/program', str(program))),
+        pages,
+    ]
     told = []
     if server is None:
         told.append('the server, its client in Python and the jobs of examples/: they need a ceal_serve')
     else:
-        made[1:1] = [Part('client and jobs', python('-m', 'tools.job_tests', str(server))), Part('the server', python('.ci/serving', str(server)))]
+        made[1:1] = [
+            Part('client and jobs', python('-m', 'tools.job_tests', str(server))),
+            Part('the server', python('.ci/serving', str(server))),
+        ]
     why = libceal.why_not()
     if why:
         told.append(f'the library for C: {why}')
@@ -80,7 +103,6 @@ def chosen(name):
 
 def wait_for(running):
     """Waits until a part has ended, and returns it; on a terminal it shows that time goes on."""
-    begun = time.monotonic()
     while True:
         for part in running:
             if part.process.poll() is not None:
@@ -111,7 +133,10 @@ def main():
         more, wrong, said = part.result()
         passed, failed = passed + more, failed + wrong
         start = '\r\033[K' if sys.stdout.isatty() else ''
-        print(f'{start}{part.name}: {more} passed, {wrong} failed, {answers.shown_time(time.monotonic() - part.begun)}', flush=True)
+        print(
+            f'{start}{part.name}: {more} passed, {wrong} failed, {answers.shown_time(time.monotonic() - part.begun)}',
+            flush=True,
+        )
         if said:
             print('\n'.join(said.splitlines()[-30:]), flush=True)
     for it in skipped:

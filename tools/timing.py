@@ -1,11 +1,15 @@
-"""Tells how long each run and each update of a script takes, measured from outside by the processor time of whole processes.
+"""Tells how long each run and each update of a script takes, measured from outside by the processor time of whole
+processes.
 
-A run is measured in one session, or in several of one process where one is too short. An update is made and undone in one process, as often as
-it takes to tell, and so is told with the time of its lines. The run from scratch on the inputs after the update is measured beside it. Each is
-the difference between two inputs, tried in turn; it is told if it is well above what tries of one input differ by, and else how long it
-takes at most.
+A run is measured in one session, or in several of one process where one is too short. An update is made and undone in
+one process, as often as it takes to tell, and so is told with the time of its lines. The run from scratch on the inputs
+after the update is measured beside it. Each is the difference between two inputs, tried in turn; it is told if it is
+well above what tries of one input differ by, and else how long it takes at most.
 """
-import os, subprocess, sys, time
+import os
+import subprocess
+import sys
+import time
 
 from tools import answers, grammar, scripts
 from tools.answers import Fault
@@ -13,8 +17,10 @@ from tools.inputs import LONGEST_INPUT, Input
 from tools.telling import hand_on
 
 TRIES, WHOLE = 7, 60  # (tries of one input; seconds for a whole script)
-LEAST, CLEAR = 0.0001, 5  # (seconds that can't be told from noise at all; how many times the noise a difference has to be)
-MORE, MOST_SESSIONS = 64, 64  # (how many times more at most is measured next where a difference is not clear; the sessions of one process)
+# Seconds that can't be told from noise at all; how many times the noise a difference has to be.
+LEAST, CLEAR = 0.0001, 5
+# How many times more at most is measured next where a difference is not clear; the sessions of one process.
+MORE, MOST_SESSIONS = 64, 64
 
 
 class Took:
@@ -59,7 +65,8 @@ def spent(words, given):
 
 
 def difference(words, texts, count, until):
-    """By how much one input takes longer than another, tried in turn, and by how much tries of one differ, of the fourth part that took least."""
+    """By how much one input takes longer than another, tried in turn, and by how much tries of one differ, of the
+    fourth part that took least."""
     tries, inputs = ([], []), [Input('', it) for it in texts]
     for at in range(count):
         for taken, given in zip(tries, inputs):
@@ -72,7 +79,8 @@ def difference(words, texts, count, until):
 
 
 def took(words, texts, until):
-    """How long something takes: `texts` gives two inputs by how many times it is done in the second one, or None where that is too many."""
+    """How long something takes: `texts` gives two inputs by how many times it is done in the second one, or None where
+    that is too many."""
     times, least, count = 1, None, TRIES
     while least is None or time.monotonic() < until:
         more, noise = difference(words(times), texts(times), count, until)
@@ -90,7 +98,8 @@ def took(words, texts, until):
 
 
 class Session:
-    """What a script has done up to one of its lines: the inputs as they are made and edited, the run, and what changed since."""
+    """What a script has done up to one of its lines: the inputs as they are made and edited, the run, and what changed
+    since."""
 
     def __init__(self, fields):
         self.fields, self.inputs, self.bases, self.edits, self.run, self.is_whole = fields, [], {}, {}, None, False
@@ -133,7 +142,9 @@ def fields_of(source):
     """The names of the fields of each struct, each element of a row by itself."""
     reading = grammar.read(source)
     structs = reading.program.structs if reading else {}
-    return {name.encode(): [it.encode() for field in fields for it in elements(field)] for name, fields in structs.items()}
+    return {
+        name.encode(): [it.encode() for field in fields for it in elements(field)] for name, fields in structs.items()
+    }
 
 
 def elements(field):
@@ -179,7 +190,10 @@ class Measured:
     def update(self, at, session):
         """An update, made and undone; of the two the mean."""
         done, pair = self.lines[: at + 1], session.undo_and_make()
-        texts = lambda times: both(text_of(self.head, done), text_of(self.head, done, pair * times))
+
+        def texts(times):
+            return both(text_of(self.head, done), text_of(self.head, done, pair * times))
+
         found = took(lambda _: self.words, texts, self.until())
         return Took(found.seconds / 2, found.is_clear)
 
@@ -190,7 +204,11 @@ def works(words, head, lines, timed):
     script = b'\n'.join([*script, b''])
     answer = answers.by_program(answers.chosen(), words, Input('', head + script), True)
     replies = iter([taken for line, taken in scripts.replies(script, answer.output)] if answer.status == 0 else [])
-    told = [(next(replies), next(replies) if at in timed else []) for at in range(len(lines))] if answer.status == 0 else []
+    told = (
+        [(next(replies), next(replies) if at in timed else []) for at in range(len(lines))]
+        if answer.status == 0
+        else []
+    )
     return answer, told
 
 
@@ -233,6 +251,10 @@ def main(words, given):
         session.take(lines[at], reply)
         if before is None:
             continue
-        figure, more = ('', reply.decode()) if scripts.REFUSED.match(reply) else figures(measured, at, session, before, reply, work)
+        figure, more = (
+            ('', reply.decode())
+            if scripts.REFUSED.match(reply)
+            else figures(measured, at, session, before, reply, work)
+        )
         print(f'{first + at:4}  {scripts.printable(lines[at]):{width}}{figure:>14}   {more}', flush=True)
     return 0

@@ -1,9 +1,13 @@
 """Draws a trace: the reads of a run as intervals along its steps, and what the last update of a script did to it.
 
-A trace is had as a dump (docs/DUMP.md). For an update there are two, of the trace before and after it. They are gone through side by side by
-the rules of repair (docs/REPAIR.md), which say what was kept, reused, re-executed and revoked; the steps re-executed are the update's work.
+A trace is had as a dump (docs/SAVES.md). For an update there are two, of the trace before and after it. They are gone
+through side by side by the rules of repair (docs/REPAIR.md), which say what was kept, reused, re-executed and revoked;
+the steps re-executed are the update's work.
 """
-import bisect, collections, html, re
+import bisect
+import collections
+import html
+import re
 
 from tools import answers, scripts
 from tools.answers import Fault
@@ -11,14 +15,29 @@ from tools.inputs import Input
 from tools.telling import hand_on
 
 WIDTH, HEIGHT, ROW = 1000, 420, 18  # (a panel's pixels, and those of a row where there is room)
-COLOURS = {'kept': '#c3cad5', 'taken': '#7fc492', 'anew': '#f2a65a', 'revoked': '#d9646f', 'stale': '#fde8cd', 'run': '#8fb4dc'}
-TOLD = {'kept': 'kept', 'taken': 'reused', 'anew': 're-executed', 'revoked': 'revoked', 'stale': 'stale read', 'run': 'run'}
+COLOURS = {
+    'kept': '#c3cad5',
+    'taken': '#7fc492',
+    'anew': '#f2a65a',
+    'revoked': '#d9646f',
+    'stale': '#fde8cd',
+    'run': '#8fb4dc',
+}
+TOLD = {
+    'kept': 'kept',
+    'taken': 'reused',
+    'anew': 're-executed',
+    'revoked': 'revoked',
+    'stale': 'stale read',
+    'run': 'run',
+}
 EACH = 4000  # (up to this many items, each is drawn by itself and named)
 PLACE = re.compile(r'([ic]\d+)(?:\.(\d+))?')
 
 
 class Trace:
-    """The items of a dump, flat: the words of each, where each read ends, how deep each is, and how many steps come before it."""
+    """The items of a dump, flat: the words of each, where each read ends, how deep each is, and how many steps come
+    before it."""
 
     def __init__(self, dump):
         lines = dump.decode().splitlines()
@@ -56,7 +75,10 @@ class Update:
     def __init__(self, old, new):
         self.old, self.new, self.names, self.work, self.pairs = old, new, {}, 0, []
         self.cursor, self.limit, self.label = 0, None, 'kept'  # (no limit: the old items are kept one by one)
-        self.stale, self.reused = [], []  # (reads, by their old and new places, and the new places of the parts that are reused)
+        self.stale, self.reused = (
+            [],
+            [],
+        )  # (reads, by their old and new places, and the new places of the parts that are reused)
         self.places = collections.defaultdict(list)
         for at, item in enumerate(old.items):
             if item[0] in 'ar':
@@ -152,7 +174,11 @@ class Names:
         self.structs = re.findall(r'\bstruct\s+(\w+)\s*\{', text)
         self.functions = re.findall(r'\b(?:ceal|init)\s+(\w+)\s*\(', text)
         self.made = {at: self.structs.index(it) for at, it in self.initialisers(text) if it in self.structs}
-        self.inputs = [line.split()[1].decode() for line, taken in pairs if line.split()[:1] in ([b'mod'], [b'new']) and taken == [b'ok']]
+        self.inputs = [
+            line.split()[1].decode()
+            for line, taken in pairs
+            if line.split()[:1] in ([b'mod'], [b'new']) and taken == [b'ok']
+        ]
 
     def initialisers(self, text):
         for at, (kind, parameters) in enumerate(re.findall(r'\b(ceal|init)\s+\w+\s*\(([^)]*)\)', text)):
@@ -162,6 +188,21 @@ class Names:
 
     def field(self, struct, at):
         return self.fields[struct][at] if struct is not None and at < len(self.fields[struct]) else str(at)
+
+    def word(self, word, inputs, structs, called):
+        """A word of a trace for people: `inputs` are the shapes of its inputs, `structs` those of the blocks that it
+        made, and `called` names these."""
+        found = PLACE.fullmatch(word)
+        if not found:
+            return word
+        number = int(found[1][1:])
+        if word[0] == 'i':
+            name = self.inputs[number] if number < len(self.inputs) else found[1]
+            shape = inputs[number] if number < len(inputs) else 'i'
+            struct = int(shape[1:]) if shape[0] == 's' else None
+        else:
+            name, struct = called(found[1]), structs.get(found[1])
+        return name if found[2] is None or struct is None else f'{name}.{self.field(struct, int(found[2]))}'
 
 
 def fields_of(body):
@@ -185,17 +226,7 @@ class Panel:
         self.structs = {}
 
     def word(self, word):
-        found = PLACE.fullmatch(word)
-        if not found:
-            return word
-        number = int(found[1][1:])
-        if word[0] == 'i':
-            name = self.names.inputs[number] if number < len(self.names.inputs) else found[1]
-            shape = self.trace.inputs[number]
-            struct = int(shape[1:]) if shape[0] == 's' else None
-        else:
-            name, struct = self.called(found[1]), self.structs.get(found[1])
-        return name if found[2] is None or struct is None else f'{name}.{self.names.field(struct, int(found[2]))}'
+        return self.names.word(word, self.trace.inputs, self.structs, self.called)
 
     def told(self, item):
         """An item for people."""
@@ -236,7 +267,13 @@ class Panel:
     def box(self, depth, first, last, label, told, is_named, is_step=False):
         left, width = 20 + first * self.scale, (last - first) * self.scale
         height = self.row * 0.86 if self.row > 3 else self.row
-        edge = ' stroke="#c2620e"' if label == 'stale' else ' stroke="#fff" stroke-width="0.5"' if self.row > 3 and self.scale > 3 else ''
+        edge = (
+            ' stroke="#c2620e"'
+            if label == 'stale'
+            else ' stroke="#fff" stroke-width="0.5"'
+            if self.row > 3 and self.scale > 3
+            else ''
+        )
         faint = ' opacity="0.55"' if is_step else ''
         title = f'<title>{html.escape(told)}</title>' if told else ''
         top = self.top + depth * self.row
@@ -244,7 +281,10 @@ class Panel:
         if is_named and self.row > 12 and width > 40:
             shown = told if len(told) * 6.8 < width - 6 else told[: max(0, int((width - 6) / 6.8) - 1)] + '…'
             text = f'<text x="{left + 3:.1f}" y="{top + height - 4:.1f}">{html.escape(shown)}</text>'
-        return f'<rect x="{left:.2f}" y="{top:.2f}" width="{width:.2f}" height="{height:.2f}" fill="{COLOURS[label]}"{edge}{faint}>{title}</rect>{text}'
+        return (
+            f'<rect x="{left:.2f}" y="{top:.2f}" width="{width:.2f}" height="{height:.2f}"'
+            f' fill="{COLOURS[label]}"{edge}{faint}>{title}</rect>{text}'
+        )
 
 
 def bands(pairs, scale, top, bottom):
@@ -257,19 +297,29 @@ def bands(pairs, scale, top, bottom):
             runs.append([old, old + 1, new, new + 1, label])
     for first, last, begin, end, label in runs:
         xs = [20 + it * scale for it in (first, last, end, begin)]
-        yield f'<polygon points="{xs[0]:.2f},{top:.1f} {xs[1]:.2f},{top:.1f} {xs[2]:.2f},{bottom:.1f} {xs[3]:.2f},{bottom:.1f}" fill="{COLOURS[label]}" opacity="0.35"/>'
+        yield (
+            '<polygon'
+            f' points="{xs[0]:.2f},{top:.1f} {xs[1]:.2f},{top:.1f} {xs[2]:.2f},{bottom:.1f} {xs[3]:.2f},{bottom:.1f}"'
+            f' fill="{COLOURS[label]}" opacity="0.35"/>'
+        )
 
 
 def legend(counts, top):
     left = 20
     for label, text in counts:
         edge = ' stroke="#c2620e"' if label == 'stale' else ''
-        yield f'<rect x="{left}" y="{top - 10}" width="12" height="12" fill="{COLOURS[label]}"{edge}/><text x="{left + 17}" y="{top}">{text}</text>'
+        yield (
+            f'<rect x="{left}" y="{top - 10}" width="12" height="12" fill="{COLOURS[label]}"{edge}/><text'
+            f' x="{left + 17}" y="{top}">{text}</text>'
+        )
         left += 30 + 7 * len(text)
 
 
 def document(height, parts):
-    head = f'<svg xmlns="http://www.w3.org/2000/svg" viewBox="0 0 {WIDTH + 40} {height:.0f}" font-family="monospace" font-size="11">'
+    head = (
+        f'<svg xmlns="http://www.w3.org/2000/svg" viewBox="0 0 {WIDTH + 40} {height:.0f}" font-family="monospace"'
+        ' font-size="11">'
+    )
     return '\n'.join([head, '<rect width="100%" height="100%" fill="#fff"/>', *parts, '</svg>', ''])
 
 
@@ -283,7 +333,14 @@ def of_run(title, trace, names):
     panel = Panel(trace, names, 60, WIDTH / max(1, trace.count), lambda it: f'#{int(it[1:]) + 1}')
     drawn = list(panel.drawn())
     nodes = trace.nodes('run')
-    return document(panel.bottom + 20, [line(title, 22, ' font-size="13"'), *legend([('run', f'{trace.count} steps, {nodes} reads, writes and blocks')], 45), *drawn])
+    return document(
+        panel.bottom + 20,
+        [
+            line(title, 22, ' font-size="13"'),
+            *legend([('run', f'{trace.count} steps, {nodes} reads, writes and blocks')], 45),
+            *drawn,
+        ],
+    )
 
 
 def of_update(title, update, names):
@@ -301,9 +358,16 @@ def of_update(title, update, names):
             numbers[block] = f'c{made - 1}'
     before = Panel(old, names, 82, scale, lambda it: f'#{int(it[1:]) + 1}')
     after = Panel(new, names, before.bottom + 78, scale, lambda it: f'#{int(numbers[it][1:]) + 1}')
-    counts = [(it, f'{TOLD[it]}: {(old if it == "revoked" else new).nodes(it)}') for it in ('kept', 'stale', 'taken', 'anew', 'revoked')]
+    counts = [
+        (it, f'{TOLD[it]}: {(old if it == "revoked" else new).nodes(it)}')
+        for it in ('kept', 'stale', 'taken', 'anew', 'revoked')
+    ]
     parts = [line(title, 22, ' font-size="13"'), *legend(counts, 45), line('before', 76), *before.drawn()]
-    parts += [*bands(update.pairs, scale, before.bottom + 2, after.top - 18), line('after', after.top - 6), *after.drawn()]
+    parts += [
+        *bands(update.pairs, scale, before.bottom + 2, after.top - 18),
+        line('after', after.top - 6),
+        *after.drawn(),
+    ]
     return document(after.bottom + 20, parts)
 
 

@@ -1,5 +1,6 @@
 """The words of a call of `./run`: its mode, its options and its files, and which of them go together."""
-import os, re
+import os
+import re
 
 from tools.answers import Fault
 
@@ -11,14 +12,15 @@ USAGE = """usage: ./run FILE ..                   runs programs with their scrip
        ./run resume FILE SAVE SCRIPT   the same, where source text and save are two files
        ./run gen KIND SEED SIZE        runs a generated workload: list or tree
        ./run --test                    runs the tests that need no proof
-       ./run --draft                   compiles the program and the server once, with no proof, and keeps them
+       ./run --draft                   compiles the program, the server and the library for C once, with no proof, and
+                                       keeps them
        ./run --build                   proves and builds the program and the server
        ./run --install FOLDER          puts the proved program and the server into a folder
        ./run --version                 says which version this is
-FILE may be - for standard input. Options come before, between or after the other words; what comes after a word -- is no option:
+FILE may be - for standard input. Options come before, between or after the other words; a word -- ends them:
        --fuel N    a run takes at most N steps: with run, dump, many, save
-       --strict    fails, and says why, if a line was refused or the last run was out of fuel, if there is nothing to save or to dump,
-                   and if a dump is not verified: with run, many, resume, save, dump, verify
+       --strict    fails, and says why, if a line was refused or the last run was out of fuel, if there is nothing to
+                   save or to dump, and if a dump is not verified: with run, many, resume, save, dump, verify
        --beside    each line of the script with its number, and its reply beside it: with run, many, resume
        --dot       the last graph of the replies in the language of Graphviz: with run
        --trace     a picture of the trace, and of what the last update did to it: with run
@@ -38,7 +40,17 @@ OPTIONS = {
 }
 TOGETHER = ({'--strict', '--beside'}, {'--strict', '--dot'})
 # How many words there are with an option that takes no program.
-ALONE = {'--help': 1, '-h': 1, '--version': 1, '-V': 1, '--build': 1, '--draft': 1, '--test': 1, '--install': 2, '--built': 2}
+ALONE = {
+    '--help': 1,
+    '-h': 1,
+    '--version': 1,
+    '-V': 1,
+    '--build': 1,
+    '--draft': 1,
+    '--test': 1,
+    '--install': 2,
+    '--built': 2,
+}
 SPELT_OUT = {'help': '--help', 'version': '--version', '-h': '--help', '-V': '--version'}
 LARGEST_FUEL, LARGEST_SEED, LARGEST_SIZE = 4_194_304, 2_147_483_647, 40_000
 
@@ -100,14 +112,20 @@ class Words:
         for option in self.options:
             if self.mode not in OPTIONS[option]:
                 why = ', which ends with 1 by itself if a text is not accepted' if option == '--strict' else ''
-                raise Fault(64, f'{option} does not go with {self.mode}{why}; it goes with {", ".join(OPTIONS[option])}')
+                raise Fault(
+                    64, f'{option} does not go with {self.mode}{why}; it goes with {", ".join(OPTIONS[option])}'
+                )
         if len(self.options) > 1 and set(self.options) not in TOGETHER:
             raise Fault(64, f'{" and ".join(self.options)} do not go together: ./run --help tells which do')
 
     def look_at_names(self):
         first, last = self.names[0], self.names[-1]
         if len(self.names) > 1 and re.fullmatch(r'\w+', first) and not os.path.exists(first):
-            raise Fault(64, unknown('mode', first, [*MODES, 'gen', 'help', 'version']) + f'; the modes are {", ".join(MODES)} and gen')
+            raise Fault(
+                64,
+                unknown('mode', first, [*MODES, 'gen', 'help', 'version'])
+                + f'; the modes are {", ".join(MODES)} and gen',
+            )
         if len(self.names) > 1 and last in MODES and not os.path.exists(last):
             raise Fault(64, f'the mode comes before the files: ./run {last} {" ".join(self.names[:-1])}')
 

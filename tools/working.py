@@ -1,15 +1,18 @@
-"""Tells why each update was as large as it was: its steps by function and line, the reads that were stale, and what was reused.
+"""Tells why each update was as large as it was: its steps by function and line, the reads that were stale, and what was
+reused.
 
-It stands on dumps of the traces before and after an update, as pictures of traces do (`tools.tracing`). Each step that was re-executed is told
-with the read that it follows, the innermost one of those that it is in. The steps of all rows are the update's work, as the program tells it.
+It stands on dumps of the traces before and after an update, as pictures of traces do (`tools.tracing`). Each step that
+was re-executed is told with the read that it follows, the innermost one of those that it is in. The steps of all rows
+are the update's work, as the program tells it.
 """
-import collections, re
+import collections
+import re
 
 from tools import answers, grammar, scripts
 from tools.answers import Fault
 from tools.inputs import Input
 from tools.telling import hand_on, tell
-from tools.tracing import PLACE, Names, Trace, Update
+from tools.tracing import Names, Trace, Update
 
 MOST_UPDATES, MOST_STALE = 50, 3  # (the updates of a script, and the stale reads of a row, that are told)
 COMMAND = re.compile(r'\s*v\d+ = read\(.*\) u(\d+)\(')
@@ -18,7 +21,8 @@ HEADING = '     steps  stale reads  reused  where'
 
 
 class Row:
-    """What was re-executed after one read: how many steps, the reads that were stale, and how many parts were reused there."""
+    """What was re-executed after one read: how many steps, the reads that were stale, and how many parts were reused
+    there."""
 
     def __init__(self):
         self.steps, self.stale, self.reused = 0, [], 0
@@ -53,7 +57,8 @@ class Sources:
         return found
 
     def take(self, function, units, there):
-        """The reads of a function in its trace code are those of its text, one by one; where their number differs, only the function is told."""
+        """The reads of a function in its trace code are those of its text, one by one; where their number differs, only
+        the function is told."""
         lines = there.get(function, [])
         for at, unit in enumerate(units):
             self.reads[unit].append((function, lines[at] if len(lines) == len(units) else None))
@@ -65,7 +70,11 @@ class Sources:
         places = self.reads.get(unit, [('?', None)])
         numbers = ' or '.join(str(line) for _, line in places if line)
         text = self.lines[places[0][1] - 1].strip() if len(places) == 1 and numbers else ''
-        return f'{places[0][0]}' + (f', line {numbers}' if numbers else '') + (f': {scripts.printable(text.encode())}' if text else '')
+        return (
+            f'{places[0][0]}'
+            + (f', line {numbers}' if numbers else '')
+            + (f': {scripts.printable(text.encode())}' if text else '')
+        )
 
 
 class Worked:
@@ -74,7 +83,11 @@ class Worked:
     def __init__(self, before, after, names):
         self.update, self.names = Update(before, after), names
         self.rows = collections.defaultdict(Row)
-        self.structs = {it[1]: names.made.get(int(it[2][1:])) for it in (*before.items, *after.items) if it[0] == 'a' and it[2][0] == 'f'}
+        self.structs = {
+            it[1]: names.made.get(int(it[2][1:]))
+            for it in (*before.items, *after.items)
+            if it[0] == 'a' and it[2][0] == 'f'
+        }
         opened, reused = [None], set(self.update.reused)
         stale = {now: was for was, now in self.update.stale}
         for at, item in enumerate(after.items):
@@ -90,17 +103,7 @@ class Worked:
                 self.rows[opened[-1]].stale.append((before.items[stale[at]], item))
 
     def word(self, word):
-        found = PLACE.fullmatch(word)
-        if not found:
-            return word
-        number = int(found[1][1:])
-        if word[0] == 'i':
-            name = self.names.inputs[number] if number < len(self.names.inputs) else found[1]
-            shape = self.update.new.inputs[number] if number < len(self.update.new.inputs) else 'i'
-            struct = int(shape[1:]) if shape[0] == 's' else None
-        else:
-            name, struct = f'#{number + 1}', self.structs.get(found[1])
-        return name if found[2] is None or struct is None else f'{name}.{self.names.field(struct, int(found[2]))}'
+        return self.names.word(word, self.update.new.inputs, self.structs, lambda it: f'#{int(it[1:]) + 1}')
 
     def lines(self, sources, called):
         for unit, row in sorted(self.rows.items(), key=lambda it: (-it[1].steps, -len(it[1].stale))):
@@ -124,11 +127,12 @@ def updates(lines, told):
 
 
 def replies(words, head, lines):
-    """The answer to a script that asks for work and steps after each run and update; what each was answered, and the rest of the answer."""
+    """The answer to a script that asks for work and steps after each run and update; what each was answered, and the
+    rest of the answer."""
     timed = [at for at, it in enumerate(lines) if it.split()[:1] in ([b'run'], [b'propagate'])]
     script = [it for at, line in enumerate(lines) for it in ([line, b'work', b'steps'] if at in set(timed) else [line])]
     text = b'\n'.join([*script, b''])
-    answer, = answers.answers([(words, Input('', head + text))])
+    (answer,) = answers.answers([(words, Input('', head + text))])
     pairs = list(scripts.replies(text, answer.output)) if answer.status == 0 else []
     told, at = {}, 0
     for number in range(len(lines)):
@@ -151,14 +155,15 @@ def main(words, given):
     if len(found) > MOST_UPDATES:
         tell([f'only the last {MOST_UPDATES} of {len(found):,} runs and updates are told'])
         found = found[-MOST_UPDATES:]
-    listed, = answers.answers([(['list'], Input('', head))])
+    (listed,) = answers.answers([(['list'], Input('', head))])
     sources, names = Sources(source, listed.output), Names(source, pairs)
     first, traces = scripts.script_of(given.text(), 'run')[0], {}
 
     def trace(at):
-        """The trace after a line, and the number of the function that was called; the last one is kept, for the update that comes next."""
+        """The trace after a line, and the number of the function that was called; the last one is kept, for the update
+        that comes next."""
         if at not in traces:
-            got, = answers.answers([(['dump', *words[1:]], Input('', head + b'\n'.join([*lines[: at + 1], b''])))])
+            (got,) = answers.answers([(['dump', *words[1:]], Input('', head + b'\n'.join([*lines[: at + 1], b''])))])
             called = re.search(rb'^run (\d+)', got.output, re.M)
             traces.clear()
             traces[at] = got.output, int(called[1]) if called else 0
@@ -174,5 +179,10 @@ def main(words, given):
         worked = Worked(old, trace(at)[0], names)
         if worked.update.work != work:
             raise Fault(71, f'the table has work {worked.update.work}, and the program says {work}')
-        print(f'\n{HEADING}' if worked.rows else '', *worked.lines(sources, called), sep='\n' if worked.rows else '', flush=True)
+        print(
+            f'\n{HEADING}' if worked.rows else '',
+            *worked.lines(sources, called),
+            sep='\n' if worked.rows else '',
+            flush=True,
+        )
     return 0

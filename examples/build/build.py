@@ -4,8 +4,8 @@
     python3 examples/build/build.py             the targets in an order (order.ceal)
     python3 examples/build/build.py --marks     the same by a walk with marks (marks.ceal), which finds cycles
 
-Files are edited, targets are made, and uses are added and dropped at random. After each update the keys, levels and marks of all
-targets are compared with a computation in Python. Files are not written: an edit of one is another sum.
+Files are edited, targets are made, and uses are added and dropped at random. After each update the keys, levels and
+marks of all targets are compared with a computation in Python. Files are not written: an edit of one is another sum.
 """
 from __future__ import annotations
 
@@ -79,7 +79,12 @@ class Repository:
 
 
 def paths_of(name: str) -> list[pathlib.Path]:
-    return [it for part in ('src', 'specs', 'proofs') for it in sorted((TOP / 'crates' / name / part).rglob('*')) if it.is_file()]
+    return [
+        it
+        for part in ('src', 'specs', 'proofs')
+        for it in sorted((TOP / 'crates' / name / part).rglob('*'))
+        if it.is_file()
+    ]
 
 
 class Build:
@@ -122,7 +127,9 @@ class Build:
 
     def set_order(self, order: list[int]) -> None:
         """Writes the targets of the places in the order that have other ones now."""
-        self.session.edit((f'order{at}.target', f't{it}') for at, (was, it) in enumerate(zip(self.order, order)) if was != it)
+        self.session.edit(
+            (f'order{at}.target', f't{it}') for at, (was, it) in enumerate(zip(self.order, order)) if was != it
+        )
         self.order = order
 
     def touch(self) -> None:
@@ -161,7 +168,11 @@ class Build:
         """How many answers were compared: the key, the level and the mark of each target."""
         keys, levels = self.repository.computed()
         count, targets = 0, range(len(keys))
-        for name, expected in (('key', keys), ('level', levels), ('dirty', [int(key != made) for key, made in zip(keys, self.repository.made)])):
+        for name, expected in (
+            ('key', keys),
+            ('level', levels),
+            ('dirty', [int(key != made) for key, made in zip(keys, self.repository.made)]),
+        ):
             count += same(name, self.session.numbers(f't{it}.{name}' for it in targets), expected) * len(keys)
         return count + (same('cycles', self.session['cycles'], 0) if self.has_marks else 0)
 
@@ -180,7 +191,9 @@ def cycle_is_found(build: Build) -> None:
 
 
 def main() -> None:
-    words = words_of(__doc__ or '', 300, lambda it: it.add_argument('--marks', action='store_true', help='by a walk with marks'))
+    words = words_of(
+        __doc__ or '', 300, lambda it: it.add_argument('--marks', action='store_true', help='by a walk with marks')
+    )
     name = 'marks' if words.marks else 'order'
     with Ceal(HERE / f'{name}.ceal', program=words.program, fuel=4_194_304) as session:
         repository = Repository()

@@ -3,8 +3,8 @@
 
     python3 examples/flow/flow.py [--blocks N]
 
-Statements and edges are edited at random. After each update what each variable holds after each block is compared with a computation
-in Python, which begins from nothing each time.
+Statements and edges are edited at random. After each update what each variable holds after each block is compared with
+a computation in Python, which begins from nothing each time.
 """
 from __future__ import annotations
 
@@ -110,7 +110,9 @@ class Analysis:
 
 
 def main() -> None:
-    words = words_of(__doc__ or '', 300, lambda it: it.add_argument('--blocks', type=int, default=60, help='of the program (60)'))
+    words = words_of(
+        __doc__ or '', 300, lambda it: it.add_argument('--blocks', type=int, default=60, help='of the program (60)')
+    )
     with Ceal(HERE / 'flow.ceal', program=words.program, fuel=4_194_304) as session:
         program = Program(words.blocks)
         analysis, job = Analysis(program, session), Job('flow', session)

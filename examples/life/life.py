@@ -3,8 +3,9 @@
 
     python3 examples/life/life.py [--width N] [--height N] [--picture FILE.svg]
 
-Cells of the beginning are turned at random. After each update every cell at every time is compared with a computation in Python. The
-picture shows the last update: each time from left to right, living cells in grey, and what the update changed in red.
+Cells of the beginning are turned at random. After each update every cell at every time is compared with a computation
+in Python. The picture shows the last update: each time from left to right, living cells in grey, and what the update
+changed in red.
 """
 from __future__ import annotations
 
@@ -28,7 +29,9 @@ class Torus:
     def __init__(self, width: int, height: int) -> None:
         self.width, self.height = width, height
         self.cells = range(width * height)
-        self.around = [[(at // width + dy) % height * width + (at % width + dx) % width for dx, dy in AROUND] for at in self.cells]
+        self.around = [
+            [(at // width + dy) % height * width + (at % width + dx) % width for dx, dy in AROUND] for at in self.cells
+        ]
 
     def simulated(self, first: list[int]) -> World:
         world = [first]
@@ -46,7 +49,9 @@ class Simulation:
         self.torus, self.first, self.session = torus, first, session
         for at in torus.cells:
             session.new(f'c{at}', 'cell', *[None] * 8, first[at], *[0] * (TIMES - 1))
-        session.edit((f'c{at}.around[{number}]', f'c{it}') for at in torus.cells for number, it in enumerate(torus.around[at]))
+        session.edit(
+            (f'c{at}.around[{number}]', f'c{it}') for at in torus.cells for number, it in enumerate(torus.around[at])
+        )
         last = None
         for at in reversed(torus.cells):
             last = session.new(f'l{at}', 'line', f'c{at}', last)
@@ -72,7 +77,10 @@ def picture(torus: Torus, old: World, new: World) -> str:
     for time in range(TIMES):
         left, top = time % 7 * (torus.width * size + gap), time // 7 * (torus.height * size + gap + 14)
         fields.append(f'<text x="{left}" y="{top + 10}" font-size="10" font-family="sans-serif">time {time}</text>')
-        fields.append(f'<rect x="{left}" y="{top + 14}" width="{torus.width * size}" height="{torus.height * size}" fill="#f6f6f6"/>')
+        fields.append(
+            f'<rect x="{left}" y="{top + 14}" width="{torus.width * size}" height="{torus.height * size}"'
+            ' fill="#f6f6f6"/>'
+        )
         for at in torus.cells:
             is_changed, lives = old[time][at] != new[time][at], new[time][at] == 1
             if is_changed or lives:
@@ -81,7 +89,9 @@ def picture(torus: Torus, old: World, new: World) -> str:
                 squares[colour].append(f'M{x} {y}h{size}v{size}h-{size}')
     drawn = [f'<path fill="{colour}" d="{"".join(paths)}"/>' for colour, paths in squares.items()]
     width, height = 7 * (torus.width * size + gap), 3 * (torus.height * size + gap + 14)
-    return f'<svg xmlns="http://www.w3.org/2000/svg" width="{width}" height="{height}">{"".join(fields + drawn)}</svg>\n'
+    return (
+        f'<svg xmlns="http://www.w3.org/2000/svg" width="{width}" height="{height}">{"".join(fields + drawn)}</svg>\n'
+    )
 
 
 def more(parser: argparse.ArgumentParser) -> None:

@@ -3,6 +3,7 @@
 pub mod OneMode
 -- what only this crate cites
 pub mod AskedMode
+pub mod FirstWord
 pub mod FoundWords
 pub mod OptionText
 pub mod PlainWords

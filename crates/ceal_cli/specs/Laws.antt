@@ -1,5 +1,5 @@
 -- Laws of outputs, and of the generated workloads.
-use Rattle.std.specs.Prelude.{◌≡◌, ℕ, ◌<◌, ◌≤◌, ◌^◌, Some, None, List, length}
+use Rattle.std.specs.Prelude.{◌≡◌, ◌↔◌, ℕ, ◌<◌, ◌≤◌, ◌^◌, Some, None, List, length}
 use Rattle.ceal_base.specs.Finished.{Finished}
 use Rattle.ceal_base.specs.Same.{Same}
 use Rattle.ceal_base.specs.Trace.{Trace, flat, steps_in, blocks_of}
@@ -16,7 +16,7 @@ use Rattle.ceal_mean.specs.Fresh.{fresh}
 use Rattle.ceal_traceck.specs.Laws.{block_of}
 use Rattle.ceal_traceck.specs.declared.verdict.Verdict.TheVariants.{Yes}
 use Rattle.ceal_cli.specs.Modes.{ReadsInput}
-use Rattle.ceal_cli.specs.Output.{IsAnswer, IsGenerated, IsOutput, IsRefusal, IsTaken, bytes_after_mark}
+use Rattle.ceal_cli.specs.Output.{accepted_text, IsAnswer, IsGenerated, IsOutput, IsRefusal, IsTaken, bytes_after_mark}
 use Rattle.ceal_cli.specs.Verdicts.{verdict_text}
 use Rattle.ceal_cli.specs.declared.words.Mode.{Mode}
 use Rattle.ceal_cli.specs.declared.words.Mode.TheVariants.{Check, List as Listing, Run, Dump, Verify, Many, Save}
@@ -45,6 +45,10 @@ AnsweredLaw = (mode : Mode) (input out : List ℕ) → IsTaken mode input → Is
 abbrev pub UntakenLaw : Type 0
 UntakenLaw = (mode : Mode) (input out : List ℕ) → ReadsInput mode → ¬ IsTaken mode input
     → IsOutput mode input out → IsRefusal mode input out
+
+-- `check` writes `accepted` exactly when `run` takes the input, whatever its fuel.
+abbrev pub CheckIsRunLaw : Type 0
+CheckIsRunLaw = (input : List ℕ) (fuel : ℕ) → IsOutput Check input accepted_text ↔ IsTaken (Run fuel) input
 
 -- Each input is checked: there is a word, or a line, that is written for it.
 abbrev pub CheckedLaw : Type 0

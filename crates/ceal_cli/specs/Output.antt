@@ -96,6 +96,13 @@ Begins P out = (out ≡ []) ⊎ (whole : List ℕ) × P whole × IsPrefix out wh
 abbrev pub IsGenerated : Workload → ℕ → ℕ → List ℕ → Type 0
 IsGenerated kind seed size out = IsOutputFromRun (workload_text kind seed size) out
 
+-- Nothing, or the replies to the first lines of the script, each of them whole, and to no further line.
+abbrev pub AreFirstReplies : ℕ → List ℕ → List ℕ → Type 0
+AreFirstReplies fuel input out =
+    (out ≡ [])
+    ⊎ (p : Programmed input) × (front : List (List ℕ)) × (back : List (List ℕ))
+    × (lines_after_mark p ≡ front ++ back) × IsReplied p.code (first_state p fuel) front out
+
 -- What is written for an accepted input: `accepted`, the text of its trace code, or, from a state
 -- without inputs, the replies to the lines of its script, the dump or the save after them, or the replies
 -- of many sessions. Or it is what the checker says of the dump after the mark, or the replies to the script

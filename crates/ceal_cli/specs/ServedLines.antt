@@ -1,7 +1,9 @@
 -- What a session has answered line by line, and what a sink has of it.
-use Rattle.std.specs.Prelude.{◌≡◌, ◌⊎◌, List, [], ◌∷◌, ◌++◌, ℕ, Option}
+use Rattle.std.specs.Prelude.{◌≡◌, ◌⊎◌, List, [], ◌∷◌, ◌++◌, ℕ, Option, Result, IsErrOf}
 use Rattle.ceal_base.specs.declared.recorded.Record.{Record}
 use Rattle.ceal_dump.specs.DumpText.{IsDump}
+use Rattle.ceal_io.specs.declared.streams.Stopped.{Stopped}
+use Rattle.ceal_io.specs.declared.streams.Stopped.TheVariants.{Memory}
 use Rattle.ceal_session.specs.Questions.{IsReady}
 use Rattle.ceal_session.specs.AfterLine.{IsAfterLine}
 use Rattle.ceal_session.specs.RunRecord.{IsRecorded}
@@ -11,9 +13,11 @@ use Rattle.ceal_session.specs.State.{Situation, numbers_in}
 use Rattle.ceal_snap.specs.SaveText.{Save, save_text, IsSave}
 use Rattle.ceal_theory.specs.Pasts.{goes}
 use Rattle.ceal_cli.specs.Dumps.{no_run_text}
-use Rattle.ceal_cli.specs.SinkGrowth.{Grows}
+use Rattle.ceal_cli.specs.SinkGrowth.{Grows, WritesFirst}
 use Rattle.ceal_cli.specs.Output.{IsPrefix, IsRunLine}
 use Rattle.ceal_cli.specs.Saves.{with_source}
+use Rattle.ceal_cli.specs.declared.words.Mode.{Mode}
+use Rattle.ceal_cli.specs.declared.words.Mode.TheVariants.{Run}
 
 -- A session answers the line by the text, and this is left of it.
 pub record Serves (m : Situation) (line text : List ℕ) (n : Situation) : Type 0 where
@@ -34,6 +38,18 @@ BeginServed m (line ∷ lines) out =
     (out ≡ [])
     ⊎ (text : List ℕ) × (next : Situation) × Serves m line text next
     × (IsPrefix out text ⊎ (rest : List ℕ) × (out ≡ text ++ rest) × BeginServed next lines rest)
+
+-- The text is the replies to the first of the lines, each of them whole.
+abbrev pub FirstAreServed : Situation → List (List ℕ) → List ℕ → Type 0
+FirstAreServed m lines out =
+    (front : List (List ℕ)) × (back : List (List ℕ)) × (lines ≡ front ++ back) × AreServed m front out
+
+-- Where memory ran out in a call that replies to a script, and it was not the sink that had none, the replies to the
+-- first lines were written, each of them whole.
+abbrev pub StopsBetween
+    : {A : Type 0} → Result A Stopped → Type 0 → Option (List ℕ) → Option (List ℕ) → Mode → List ℕ → Type 0
+StopsBetween result takes_memory old now mode input =
+    IsErrOf result Memory → ¬ takes_memory → (fuel : ℕ) → mode ≡ Run fuel → WritesFirst old now fuel input
 
 -- by the replies to lines
 abbrev pub WritesReplies

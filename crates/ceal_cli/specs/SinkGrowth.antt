@@ -4,7 +4,7 @@ use Rattle.std.specs.Io.KnownBytes.{Appends}
 use Rattle.ceal_io.specs.Streams.{Rose}
 use Rattle.ceal_io.specs.declared.streams.Stopped.{Stopped}
 use Rattle.ceal_io.specs.declared.streams.Stopped.TheVariants.{Failed}
-use Rattle.ceal_cli.specs.Output.{Begins, IsAnswer, IsRefusal, IsOutput, IsGenerated}
+use Rattle.ceal_cli.specs.Output.{AreFirstReplies, Begins, IsAnswer, IsRefusal, IsOutput, IsGenerated}
 use Rattle.ceal_cli.specs.declared.words.Mode.{Mode}
 use Rattle.ceal_gen.specs.declared.kind.Workload.{Workload}
 
@@ -49,6 +49,10 @@ WritesOutput old now mode input = Grows old now (λ out. IsOutput mode input out
 abbrev pub WritesPrefix : Option (List ℕ) → Option (List ℕ) → Mode → List ℕ → Type 0
 WritesPrefix old now mode input =
     Grows old now (λ out. Begins (λ whole. IsOutput mode input whole) out)
+
+-- by the replies to the first lines of the script, each of them whole
+abbrev pub WritesFirst : Option (List ℕ) → Option (List ℕ) → ℕ → List ℕ → Type 0
+WritesFirst old now fuel input = Grows old now (λ out. AreFirstReplies fuel input out)
 
 -- by the output for a workload
 abbrev pub WritesGenerated : Option (List ℕ) → Option (List ℕ) → Workload → ℕ → ℕ → Type 0

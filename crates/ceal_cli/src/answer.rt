@@ -1,14 +1,16 @@
 // What is written for an input that was read.
 
-ghost use Rattle.std.specs.Prelude.{◌≢◌, ◌<◌, ◌^◌, ◌↔◌, IsTrue, length, IfOk, OnOk};
+ghost use Rattle.std.specs.Io.KnownBytes.{Keeps};
+ghost use Rattle.std.specs.Prelude.{◌≢◌, ◌<◌, ◌^◌, ◌↔◌, IsTrue, length, IfOk, OnOk, IsErrOf};
 ghost use Rattle.ceal_compile.specs.Compiled.{IsCompiled};
 ghost use Rattle.ceal_compile.specs.Source.{IsFirstFault, IsProgram};
 ghost use Rattle.ceal_lex.specs.Parts.{IsSplit};
-ghost use Rattle.ceal_cli.specs.SinkGrowth.{Writes};
+ghost use Rattle.ceal_cli.specs.SinkGrowth.{Grows, Writes};
+ghost use Rattle.ceal_cli.specs.ServedLines.{StopsBetween};
 ghost use Rattle.ceal_cli.specs.Limits.{KeepsLimits};
 ghost use Rattle.ceal_cli.specs.Members.{Opens};
 ghost use Rattle.ceal_cli.specs.Modes.{ReadsInput};
-ghost use Rattle.ceal_cli.specs.Output.{IsOutput, IsTaken};
+ghost use Rattle.ceal_cli.specs.Output.{AreFirstReplies, IsOutput, IsTaken};
 ghost use Rattle.ceal_cli.specs.ReadBack.{WritesReadable};
 
 use crate::dump::dump;
@@ -45,6 +47,8 @@ fn refuse<K: Sink>(
     requires first { IsFirstFault input.now fault }
     ensures writes { Writes result (K.written sink.old) (K.written sink.new)
         (K.faults sink.old) (K.faults sink.new) (IsOutput mode input.now) }
+    ensures memory { IsErrOf result Stopped.Memory → ¬ K.takes_memory
+        → Keeps (K.written sink.old) (K.written sink.new) }
 {
     let line = fault_line(alloc, input, fault)?;
     write_all(sink, line.items())
@@ -87,6 +91,9 @@ fn run<K: Sink>(
     requires opens { Opens input.bytes.now program fuel }
     ensures writes { Writes result (K.written sink.old) (K.written sink.new)
         (K.faults sink.old) (K.faults sink.new) (IsOutput (Mode.Run fuel) input.entry.bytes.now) }
+    ensures cut { IsErrOf result Stopped.Memory → ¬ K.takes_memory
+        → Grows (K.written sink.old) (K.written sink.new)
+        (AreFirstReplies fuel input.entry.bytes.now) }
 {
     // for the proof: a session keeps to its situation, in which each line has a reply
     kept_line();
@@ -117,6 +124,8 @@ fn answer<K: Sink>(
         (K.faults sink.old) (K.faults sink.new) (IsOutput mode input.entry.bytes.now) }
     ensures readable { OnOk result (WritesReadable (K.written sink.old) (K.written sink.new)
         mode input.entry.bytes.now) }
+    ensures cut { StopsBetween result K.takes_memory
+        (K.written sink.old) (K.written sink.new) mode input.entry.bytes.now }
 {
     match mode {
         Mode::Check => accept(input.bytes, &program.typed, sink),
@@ -149,6 +158,8 @@ fn take<K: Sink>(
         (K.faults sink.old) (K.faults sink.new) (IsOutput mode input.entry.bytes.now) }
     ensures readable { IfOk result (λ taken. IsTrue taken → WritesReadable
         (K.written sink.old) (K.written sink.new) mode input.entry.bytes.now) }
+    ensures cut { StopsBetween result K.takes_memory
+        (K.written sink.old) (K.written sink.new) mode input.entry.bytes.now }
 {
     if let Mode::Resume = mode {
         return resume(alloc, input, program, sink);
@@ -198,6 +209,8 @@ fn compiled<K: Sink>(
         (K.faults sink.old) (K.faults sink.new) (IsOutput mode input.entry.bytes.now) }
     ensures readable { IfOk result (λ taken. IsTrue taken → WritesReadable
         (K.written sink.old) (K.written sink.new) mode input.entry.bytes.now) }
+    ensures cut { StopsBetween result K.takes_memory
+        (K.written sink.old) (K.written sink.new) mode input.entry.bytes.now }
 {
     one_answer();
     match compile_part(alloc, input.bytes, &input.part) {
@@ -225,6 +238,8 @@ pub fn write_answer<K: Sink>(
         (K.faults sink.old) (K.faults sink.new) (IsOutput mode input.now) }
     ensures readable { IfOk result (λ taken. IsTrue taken → WritesReadable
         (K.written sink.old) (K.written sink.new) mode input.now) }
+    ensures cut { StopsBetween result K.takes_memory
+        (K.written sink.old) (K.written sink.new) mode input.now }
 {
     let input = Input::new(input);
     if let Mode::Check = mode {

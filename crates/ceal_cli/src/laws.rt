@@ -10,7 +10,7 @@ ghost use Rattle.ceal_cli.specs.ManyLaws.{ManyIsRunLaw};
 ghost use Rattle.ceal_cli.specs.StrangerOutput.{StrangerOutputLaw};
 ghost use Rattle.ceal_cli.specs.Laws.{AcceptedLaw, ShortLaw, OneOutputLaw, AnsweredLaw, UntakenLaw, CheckedLaw};
 ghost use Rattle.ceal_cli.specs.Laws.{ListedLaw, RefusedLaw, RepliedLaw, DumpedLaw, SavedLaw, ToldLaw, JudgedLaw};
-ghost use Rattle.ceal_cli.specs.Laws.{TakenLaw, UnresumedLaw, SomeOutputLaw, GeneratedLaw, VerifiedLaw};
+ghost use Rattle.ceal_cli.specs.Laws.{TakenLaw, UnresumedLaw, SomeOutputLaw, GeneratedLaw, VerifiedLaw, CheckIsRunLaw};
 
 use crate::members::Member;
 use crate::top::INPUT_LIMIT;
@@ -58,6 +58,12 @@ pub fn one_side()
     ceal_compile::laws::one_code();
     ceal_snap::laws::one_save_law();
 }
+
+/// `check` writes `accepted` exactly when `run` takes the input, and so ends as Done unless a read or a write fails or
+/// memory runs out.
+pub fn check_is_run()
+    ensures law { CheckIsRunLaw }
+{}
 
 /// An input has an output in each mode that reads: the line of its fault where it is not accepted, and otherwise what
 /// is asked for. So it has one where the bytes after the mark are the dump of no record, or where there is no save that
@@ -147,7 +153,8 @@ pub fn resumed_output()
 }
 
 /// For a save that holds, whoever wrote it, `resume` writes the replies of a session that has the first trace of the
-/// call, line by line, but for the numbers of `work` and `bound` before the next completed run or repair.
+/// call, line by line, but for the numbers of `work` and `bound` before the next completed run or repair. From where
+/// the numbers are the same on, all that it writes is the same.
 pub fn stranger_output()
     ensures law { StrangerOutputLaw }
 {
@@ -156,6 +163,7 @@ pub fn stranger_output()
     ceal_compile::laws::one_code();
     ceal_compile::laws::accepted_is_compiled();
     ceal_session::laws::some_reply();
+    ceal_session::laws::one_reply();
     ceal_session::laws::stranger_law();
 }
 

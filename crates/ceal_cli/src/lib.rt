@@ -23,6 +23,7 @@ mod lines;
 mod many;
 mod members;
 mod numerals;
+mod process;
 mod replies;
 mod resume;
 mod save;
@@ -30,5 +31,6 @@ mod top;
 mod verify;
 mod words;
 
+pub use process::{finish, words_of};
 pub use top::{INPUT_LIMIT, Status, ceal_main, status_line, status_number};
 pub use words::{Mode, asked_mode};

@@ -1,11 +1,11 @@
 // The top call.
 
-ghost use Rattle.std.specs.Prelude.{◌≡◌, ◌≢◌, ◌≤◌, ◌⊎◌, ◌+◌, ◌^◌, ℕ, length, IfSome};
+ghost use Rattle.std.specs.Prelude.{◌≡◌, ◌≢◌, ◌<◌, ◌≤◌, ◌⊎◌, ◌+◌, ◌^◌, ℕ, length, IfSome};
 ghost use Rattle.std.specs.Io.KnownBytes.{Keeps, IsAtEnd};
 ghost use Rattle.ceal_io.specs.Streams.{Rose, LosesAtMost, LosesCount};
 ghost use Rattle.ceal_cli.specs.Answers.{IsWhole, IsAfterReading, IsSilent, status_number as number_of, status_text};
 ghost use Rattle.ceal_cli.specs.SinkGrowth.{WritesAnswer, WritesRefusal, WritesOutput, WritesPrefix, WritesGenerated};
-ghost use Rattle.ceal_cli.specs.SinkGrowth.{WritesGeneratedPrefix};
+ghost use Rattle.ceal_cli.specs.SinkGrowth.{WritesFirst, WritesGeneratedPrefix};
 ghost use Rattle.ceal_cli.specs.Limits.{KeepsLimits};
 ghost use Rattle.ceal_cli.specs.Output.{IsTaken};
 ghost use Rattle.ceal_cli.specs.ReadBack.{WritesDump, WritesSave, WritesReadable};
@@ -34,7 +34,7 @@ pub enum Status {
     Usage,
     /// the input has more than `INPUT_LIMIT` bytes
     TooLong,
-    /// there was no memory
+    /// there was no memory, or a count of a dump, of a save or of a session's inputs has no room in 32 bits
     Memory,
     /// the input could not be read
     ReadFault,
@@ -72,6 +72,12 @@ fn answer_input<S: Source, K: Sink>(
     ensures prefix { IfSome (S.left source.old)
         (λ input. WritesPrefix (K.written sink.old) (K.written sink.new) mode input) }
     ensures silent { IsSilent result → Keeps (K.written sink.old) (K.written sink.new) }
+    ensures cut { result ≡ Status.Memory → ¬ K.takes_memory → (fuel : ℕ) → mode ≡ Mode.Run fuel
+        → IfSome (S.left source.old)
+        (λ input. WritesFirst (K.written sink.old) (K.written sink.new) fuel input) }
+    ensures first { IsAtEnd (S.left source.new) ⊎ Keeps (K.written sink.old) (K.written sink.new) }
+    ensures beyond { IfSome (S.left source.old) (λ input. INPUT_LIMIT < length input
+        → Keeps (K.written sink.old) (K.written sink.new)) }
     ensures done { result ≡ Status.Done
         → IfSome (S.left source.old) (λ input. IsTaken mode input) }
     ensures refused { result ≡ Status.Refused
@@ -164,9 +170,18 @@ pub fn ceal_main<S: Source, K: Sink>(
     ensures prefix { (mode : ModeOf) → Asks (texts words.now) mode → IfSome (S.left source.old)
         (λ input. WritesPrefix (K.written sink.old) (K.written sink.new) mode input) }
     ensures silent { IsSilent result → Keeps (K.written sink.old) (K.written sink.new) }
+    // Where memory ran out, and not in the sink, `run` has written the replies to the first lines, each whole.
+    ensures cut { result ≡ Status.Memory → ¬ K.takes_memory → (fuel : ℕ)
+        → Asks (texts words.now) (Mode.Run fuel) → IfSome (S.left source.old)
+        (λ input. WritesFirst (K.written sink.old) (K.written sink.new) fuel input) }
 
-    // The input is read whole, up to the limit, before anything is written of it; where none is asked for, none is
-    // read.
+    // Where something was written of an input, it was read whole first, however the call ended, and it is within the
+    // limit. Where no input is asked for, none is read.
+    ensures first { AskToRead (texts words.now) → IsAtEnd (S.left source.new)
+        ⊎ Keeps (K.written sink.old) (K.written sink.new) }
+    ensures beyond { AskToRead (texts words.now) → IfSome (S.left source.old)
+        (λ input. INPUT_LIMIT < length input
+        → Keeps (K.written sink.old) (K.written sink.new)) }
     ensures read { IsAfterReading result → AskToRead (texts words.now)
         → IsAtEnd (S.left source.new) }
     ensures within { IsAfterReading result → AskToRead (texts words.now)

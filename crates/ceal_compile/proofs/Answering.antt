@@ -32,7 +32,7 @@ pub settled_fails : (tree : Tree) (e : FrontError) → Fails e (checked tree) �
 settled_fails tree Memory fails = tt
 settled_fails tree (FaultError f) fails = rw (settled, fails) refl
 
--- what a part comes to whose tree was read
+-- what all phases say of a part whose tree was read
 pub comes_of : (input : List ℕ) (part : Split) (ts : List Token) (tree : Tree) (r : Answer) → AreTokens (source_of input part) part.marked ts
     → Accepts ts tree → settled tree ≡ r → PartComes input part r
 comes_of input part ts tree r lexed accepted same =

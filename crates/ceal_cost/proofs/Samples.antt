@@ -14,6 +14,7 @@ use Rattle.ceal_code.specs.Step.{stack_after_quiet, next, chosen, bound, woven}
 use Rattle.ceal_code.specs.Value.{expr_value, values, set, unset}
 use Rattle.ceal_cost.specs.Bounds.{first_cost}
 use Rattle.ceal_cost.specs.Along.{along}
+use Rattle.ceal_cost.specs.Apart.{apart_from, first_apart}
 use Rattle.ceal_cost.specs.Side.{steps_inside}
 use Rattle.ceal_cost.specs.Ways.{way_of, with_items}
 use Rattle.ceal_cost.specs.declared.aligned.Way.TheVariants.{On, Over, Apart}
@@ -32,6 +33,12 @@ its_work : adjusted inc (inputs 9 0) 0 2 (items 4 5) ≡ Some (record { items = 
 unfolding adjusted rerun next stack_after_quiet chosen bound woven set unset expr_value values bases input_plain
     plain_of stored hidden-the_row-CodeExpr-0 shape-the_row-CodeExpr-0 denote.Hole.Carrier.hidden
 its_work = refl
+
+-- and one read is apart
+one_read : first_apart inc 2 (inputs 4 0) (inputs 9 0) 0 args ≡ 1
+unfolding first_of rerun apart_from cost_from next stack_after_quiet chosen bound woven set unset expr_value values bases input_plain
+    stored take_read hidden-the_row-CodeExpr-0 shape-the_row-CodeExpr-0 denote.Hole.Carrier.hidden
+one_read = refl
 
 -- the value of b is not read, and costs nothing
 same_value : first_cost inc 2 (inputs 4 0) (inputs 4 7) 0 args ≡ 0

@@ -1,7 +1,8 @@
 // An engine that a program drives by calls: the square of a number, kept up to date.
 
-ghost use Rattle.std.specs.Prelude.{◌≡◌, IfOk};
+ghost use Rattle.std.specs.Prelude.{◌≡◌, ◌∷◌, [], pos, IfOk};
 ghost use Rattle.ceal_base.specs.declared.word.BlockId.TheVariants.{Input};
+ghost use Rattle.ceal_embedding.specs.Engines.{call_of, one_word};
 ghost use Rattle.ceal_engine.specs.Engine.{IsPresent};
 ghost use Rattle.ceal_engine.specs.declared.phase.Phase.TheVariants.{Finished};
 
@@ -39,6 +40,11 @@ pub fn area() -> Place
 pub fn open(alloc: Global) -> Result<Engine, Trouble>
     ensures present { IfOk result IsPresent }
     ensures finished { IfOk result (λ engine. engine.phase ≡ Finished) }
+    ensures fuel { IfOk result (λ engine. engine.fuel ≡ 1000) }
+    ensures inputs { IfOk result (λ engine. engine.inputs
+        ≡ one_word (Shape.ModInt, Word.Num (pos 3))
+        ∷ one_word (Shape.ModInt, Word.Num (pos 0)) ∷ []) }
+    ensures called { IfOk result (λ engine. engine.call ≡ call_of 0) }
 {
     let example = Example {
         source: SOURCE,

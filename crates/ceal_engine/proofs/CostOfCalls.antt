@@ -1,5 +1,5 @@
 -- How many contents the calls of an engine look at.
-use Rattle.std.proofs.Common.{◌≡◌, ◌≤◌, ◌+◌, ◌*◌, ℕ, Option, None, Some, List, length, refl, sym, ap, ◌∙◌, subst, arith}
+use Rattle.std.proofs.Common.{◌≡◌, ◌≤◌, ◌+◌, ◌*◌, ℕ, inl, inr, Option, None, Some, List, length, refl, sym, ap, ◌∙◌, subst, arith}
 use Rattle.ceal_base.specs.Block.{Block}
 use Rattle.ceal_base.specs.declared.call.Call.{Call}
 use Rattle.ceal_base.specs.declared.kind.Shape.{Shape}
@@ -11,7 +11,8 @@ use Rattle.ceal_code.specs.Program.{Code}
 use Rattle.ceal_engine.proofs.Carrying.{same-as}
 use Rattle.ceal_engine.specs.Engine.{EngineState}
 use Rattle.ceal_engine.specs.Keeping.{Keeps, marked_kept, phase_at, running_in, state_of, timeline_in}
-use Rattle.ceal_engine.specs.Cost.{due, nodes_of, touched_of, CostOfEdit, CostOfInput, CostOfRepair, LooksAtQueued, Updates, CostLaw}
+use Rattle.ceal_engine.specs.Room.{Within, RoomLaw}
+use Rattle.ceal_engine.specs.Cost.{due, nodes_of, touched_of, touches_of, room_of, CostOfEdit, CostOfInput, CostOfRepair, LooksAtQueued, Updates, CostLaw}
 use Rattle.ceal_engine.specs.Partial.{spent_in}
 use Rattle.ceal_engine.specs.Runs.{opened, edited_at, same_stage, OfRuns, SetsBase, SetsInput}
 use Rattle.ceal_engine.specs.declared.phase.Phase.TheVariants.{Finished}
@@ -98,6 +99,13 @@ module _ (code : Code) (fuel : ℕ) (inputs : List Block) (call : Option Call) w
         counted = pays.differed ∙ ap (raised pays.stale) a;
         paid = omega (arith, p, b, d, w, s.spent);
         touched = omega (arith, h, t, s.spent);
+        touches = (let u = k.touched in let v = ap (λ (t : Tables). t.trace.touched) s.tables in omega (arith, u, v));
+        room = λ few.
+            let y = ap (λ (t : Tables). length t.trace.nodes) s.tables in
+            let z = ap (λ (t : Tables). length t.trace.nodes + t.trace.spare) s.tables in elim ((k.grows few).room) [
+              | inl r ↦ inl (omega (arith, r, z))
+              | inr r ↦ inr (omega (arith, r, h, y, s.spent))
+            ];
       }
   cost-repair its.Dropped run run' is pays after = none-some run is
 
@@ -134,6 +142,8 @@ cost-idle e h d = record {
   counted = refl;
   paid = rw h (omega arith);
   touched = rw h (omega arith);
+  touches = omega arith;
+  room = λ few. inl (omega arith);
 }
 
 -- what is as it was
@@ -167,6 +177,23 @@ pub cost-law : CostLaw
 cost-law s n edits steps stale u =
     let r = counted u in
     let t = touched-so u in record { looks = omega (arith, r); touches = omega (arith, t) }
+
+-- ---- the room of the nodes
+
+pub room-law : RoomLaw
+room-law most s n Within.none counted = inl (omega arith)
+room-law most s n (Within.edit u h) counted = elim (room-law most s _ u (let t = ap touches_of h.nodes in omega (arith, counted, t))) [
+  | inl r ↦ (let t = ap room_of h.nodes in inl (omega (arith, r, t)))
+  | inr r ↦ (let t = ap room_of h.nodes in inr (omega (arith, r, t)))
+]
+room-law most s n (Within.input u h) counted = elim (room-law most s _ u (let t = ap touches_of h.nodes in omega (arith, counted, t))) [
+  | inl r ↦ (let t = ap room_of h.nodes in inl (omega (arith, r, t)))
+  | inr r ↦ (let t = ap room_of h.nodes in inr (omega (arith, r, t)))
+]
+room-law most s n (Within.repair {e = e} u h steps few within) counted = elim (h.room counted) [
+  | inl r ↦ elim (room-law most s e u (let t = h.touches in omega (arith, counted, t))) [ inl q ↦ inl (omega (arith, q, r)) | inr q ↦ inr (omega (arith, q, r)) ]
+  | inr r ↦ (let k = stale-revalued (nodes_of e.timeline) (nodes_of n.timeline) h.fresh h.stale h.reuses in inr (omega (arith, r, k, few, within)))
+]
 
 -- ---- what is marked
 

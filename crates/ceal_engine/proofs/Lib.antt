@@ -19,5 +19,6 @@ pub mod Restored
 pub mod EngineLaws
 pub mod TraceSoFar
 pub mod CostOfCalls
+pub mod ReadsApart
 pub mod Samples
 pub mod Settled

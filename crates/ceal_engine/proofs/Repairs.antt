@@ -127,7 +127,7 @@ module _ (code : Code) (fuel : ℕ) (inputs : List Block) (call : Call) (fits : 
   -- a first run can be kept, and its trace is the first one
   pub first-of : (run : Running) → IsFirstRun code inputs call.function call.args fuel run → IsFirstOf code fuel inputs (Some call) run
   first-of run k = record {
-    cost = record { paid = k.pays.looks; touched = k.pays.touches; differed = k.pays.differed };
+    cost = record { paid = k.pays.looks; touched = k.pays.touches; differed = k.pays.differed; room = k.pays.room };
     unmarked = k.unmarked;
     kept = kept-as k.trace run k.is_run;
     first = subst (λ o. IsSomeAnd o (IsFirst (finished code fuel inputs (Some call) run))) (sym (trace-is k.trace run k.is_run)) (record {

@@ -7,6 +7,7 @@ use Rattle.ceal_base.specs.declared.call.Call.{Call}
 use Rattle.ceal_code.specs.Program.{Code}
 use Rattle.ceal_code.specs.Replay.{bases}
 use Rattle.ceal_engine.proofs.Carrying.{begun, begun-kept, comes-done}
+use Rattle.ceal_engine.proofs.ReadsApart.{apart-idle}
 use Rattle.ceal_engine.proofs.CostOfCalls.{cost-idle, distinct-nodes}
 use Rattle.ceal_engine.proofs.NoneStale.{left, there}
 use Rattle.ceal_engine.proofs.Present.{sound-present}
@@ -96,6 +97,7 @@ module _ (code : Code) (fuel : ℕ) (inputs : List Block) (kept : Kept) (run : R
       run = ap has_run is;
       front = front-same e (record e { work = 0 }) refl;
       cost = cost-idle e is (distinct-nodes code fuel inputs run kept.call s.keeps);
+      apart = apart-idle e (distinct-nodes code fuel inputs run kept.call s.keeps);
       idle = λ l t h. record { looked = omega arith; differed = refl };
       marked = refl;
     };

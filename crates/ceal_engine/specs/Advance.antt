@@ -3,6 +3,7 @@ use Rattle.std.specs.Prelude.{◌≡◌, ◌⊎◌, ℕ, true, Option, Some, Non
 use Rattle.std.specs.Option.{IsSomeAnd}
 use Rattle.ceal_base.specs.Trace.{Trace}
 use Rattle.ceal_code.specs.Replay.{IsHonest}
+use Rattle.ceal_engine.specs.Apart.{RevaluesApart}
 use Rattle.ceal_engine.specs.Calls.{Advances, IsRunAnew}
 use Rattle.ceal_engine.specs.Cost.{CostOfRepair, LooksAtQueued}
 use Rattle.ceal_engine.specs.Engine.{EngineState, IsPresent, IsWhole, has_run, trace}
@@ -19,11 +20,13 @@ use Rattle.ceal_theory.specs.Repair.{own}
 use Rattle.ceal_theory.specs.Slices.{Repair, sliced}
 
 -- A run was repaired, whole or in part. The nodes before the first stale read stay, and the distance of the traces pays
--- for what was done; where no read is stale only queued reads are looked at. What was marked is marked still.
+-- for what was done, and reads that got another value are apart in the traces. Where no read is stale only queued reads
+-- are looked at. What was marked is marked still.
 pub record Repairs (e n : EngineState) : Type 0 where
   pub run : has_run e.phase ≡ true
   pub front : KeepsFront e n
   pub cost : CostOfRepair e n
+  pub apart : RevaluesApart e n
   pub idle : (l : Trace) → trace e ≡ Some l → IsHonest e.code e.inputs l → LooksAtQueued e n
   pub marked : n.marked ≡ e.marked
 

@@ -1,12 +1,13 @@
 -- How many contents an engine looks at, and how many nodes of its trace it touches. All is paid by the edits, by the
 -- steps that are re-executed, by the reads that have another value then and by the writes that the trace loses,
 -- whatever the size of the trace.
-use Rattle.std.specs.Prelude.{◌≡◌, ◌≤◌, ◌+◌, ◌*◌, ℕ, Option, None, Some, List, [], length}
+use Rattle.std.specs.Prelude.{◌≡◌, ◌⊎◌, ◌≤◌, ◌<◌, ◌+◌, ◌-◌, ◌*◌, ◌^◌, ℕ, Option, None, Some, List, [], length}
 use Rattle.std.specs.Option.{IsSomeAnd}
 use Rattle.ceal_engine.specs.Engine.{EngineState, IsWhole, trace}
 use Rattle.ceal_engine.specs.Partial.{spent_in}
 use Rattle.ceal_engine.specs.Repaired.{IsFirst}
 use Rattle.ceal_engine.specs.declared.phase.Phase.TheVariants.{Dropped}
+use Rattle.ceal_order.specs.Stamps.{room_beyond}
 use Rattle.ceal_repair.specs.Distance.{Reuses, revalued_reads}
 use Rattle.ceal_repair.specs.Looks.{raised}
 use Rattle.ceal_trace.specs.Nodes.{Entry, Timeline}
@@ -29,6 +30,19 @@ abbrev pub touched_of : Option Timeline → ℕ
 touched_of None = 0
 touched_of (Some t) = t.touched + length t.nodes
 
+-- how often nodes were touched, and whether that is counted still: it stays at the end of its type
+abbrev pub touches_of : Option Timeline → ℕ
+touches_of None = 0
+touches_of (Some t) = t.touched
+
+abbrev pub IsCounted : EngineState → Type 0
+IsCounted e = touches_of e.timeline < 2 ^ 64 - 1
+
+-- for how many nodes there is room, those counted that there are
+abbrev pub room_of : Option Timeline → ℕ
+room_of None = 0
+room_of (Some t) = length t.nodes + t.spare
+
 -- an edit looks at nothing and queues one read at most; no node is touched
 pub record CostOfEdit (e n : EngineState) : Type 0 where
   pub looked : n.looked ≡ e.looked
@@ -48,7 +62,8 @@ pub record CostOfInput (e n : EngineState) : Type 0 where
 
 -- A repair. Of the nodes `fresh` are new, `stale` are reads that the old nodes have at their stamps with another value,
 -- and each other one is an old node at its stamp. Each step that was re-executed pays for two new nodes, for five looks
--- and for five touches, and each of those reads for two looks and two touches. No count falls.
+-- and for five touches, and each of those reads for two looks and two touches. No count falls. There is room for no
+-- more nodes than before, or for twice the nodes before, what those steps and reads pay for, and few beyond.
 pub record CostOfRepair (e n : EngineState) : Type 0 where
   pub looked : e.looked ≤ n.looked
   pub differed : e.differed ≤ n.differed
@@ -59,17 +74,23 @@ pub record CostOfRepair (e n : EngineState) : Type 0 where
   pub counted : n.differed ≡ raised stale e.differed
   pub paid : due n + 5 * spent_in e.phase e.work ≤ due e + 5 * n.work + 2 * stale
   pub touched : touched_of n.timeline + 5 * spent_in e.phase e.work ≤ touched_of e.timeline + 5 * n.work + 2 * stale
+  pub touches : touches_of e.timeline ≤ touches_of n.timeline
+  pub room : IsCounted n → (room_of n.timeline ≤ room_of e.timeline)
+      ⊎ (room_of n.timeline + 5 * spent_in e.phase e.work
+      ≤ 2 * length (nodes_of e.timeline) + 5 * n.work + 2 * stale + room_beyond)
 
 -- a repair in which no read is stale: each queued read is looked at once at most, and none is found stale
 pub record LooksAtQueued (e n : EngineState) : Type 0 where
   pub looked : n.looked + n.queued ≤ e.looked + e.queued
   pub differed : n.differed ≡ e.differed
 
--- A run from nothing: its steps pay for what it looks at and touches, and no read is found stale. The root is a node.
+-- A run from nothing: its steps pay for what it looks at and touches, and for the room for nodes but for some beyond.
+-- No read is found stale. The root is a node.
 pub record CostOfRun (e : EngineState) : Type 0 where
   pub paid : due e ≤ 5 * e.work
   pub touched : touched_of e.timeline ≤ 5 * e.work + 1
   pub differed : e.differed ≡ 0
+  pub room : IsCounted e → room_of e.timeline ≤ 5 * e.work + 2 + room_beyond
 
 -- From one engine to another by edits, new inputs and repairs, whole or in parts, in any order. The numbers are that of
 -- the edits, a bound of the steps that were re-executed, and that of the reads that got another value, which the nodes

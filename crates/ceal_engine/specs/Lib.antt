@@ -5,6 +5,8 @@ pub mod Keeping
 pub mod Runs
 pub mod Partial
 pub mod Cost
+pub mod Room
+pub mod Apart
 pub mod Marks
 pub mod Calls
 pub mod Advance

@@ -2,6 +2,7 @@
 
 ghost use Rattle.ceal_engine.specs.Cost.{CostLaw};
 ghost use Rattle.ceal_engine.specs.Partial.{BeginsLaw, KeptLaw};
+ghost use Rattle.ceal_engine.specs.Room.{RoomLaw};
 
 /// An engine with a run carries the repair that begins from its trace.
 pub fn begins_law()
@@ -18,4 +19,10 @@ pub fn kept_law()
 /// size.
 pub fn cost_law()
     ensures law { CostLaw }
+{}
+
+/// Over any list of edits, new inputs and repairs there is room for no more nodes than at first, or than the largest
+/// repair among them needs, however many they are.
+pub fn room_law()
+    ensures law { RoomLaw }
 {}

@@ -75,6 +75,42 @@ fn numbers_are_told_and_set(rt: HostRuntime) -> Result<(), Fail> {
     told
 }
 
+/// These have changed since the mark.
+fn have_changed<R: Abort>(rt: &R, session: &Session, wanted: &[Handle]) -> Result<(), Fail> {
+    let told = session.changed().expect(rt, "an answer");
+    let changed = told.expect(rt, "a mark");
+    equal(rt, changed.as_slice(), wanted);
+    drop(changed);
+    Ok(())
+}
+
+/// A mark, an edit, and the edit that takes it back.
+fn changes<R: Abort>(rt: &R, session: &mut Session) -> Result<(), Fail> {
+    told(rt, session, &["mod a int 4", "mod b int 0", "run inc a b"])?;
+    let a = handle(rt, session, "a");
+    let b = handle(rt, session, "b");
+    equal(rt, session.mark(), Ok(()));
+    have_changed(rt, session, &[])?;
+    equal(rt, session.set_number(a, 9), Ok(()));
+    let pending = Err(ValueError::Refused(Refusal::C8));
+    equal(rt, session.mark(), pending);
+    told(rt, session, &["propagate"])?;
+    have_changed(rt, session, &[a, b])?;
+    equal(rt, session.set_number(a, 4), Ok(()));
+    told(rt, session, &["propagate"])?;
+    have_changed(rt, session, &[])
+}
+
+#[test]
+fn what_has_changed_is_told(rt: HostRuntime) -> Result<(), Fail> {
+    let alloc = rt.alloc();
+    let program = program(alloc, INC)?;
+    let mut session = Session::new(alloc, program, 1_000_000)?;
+    let told = changes(&rt, &mut session);
+    drop(session);
+    told
+}
+
 /// What is no modifiable of a number: a word that is no name, a name that is not there, a block, a plain field, a
 /// pointer, and a place of no input.
 fn refusals<R: Abort>(rt: &R, session: &mut Session) -> Result<(), Fail> {

@@ -87,6 +87,8 @@ impl Sink for DripSink {
 
     ghost faults = { λ _. 0 };
 
+    ghost takes_memory = { Unit {0} };
+
     fn write(&mut self, bytes: &[u8]) -> Result<usize, Stopped>
         ensures bound { WritesAtMost result bytes.now }
         ensures some { IfOk result (λ n. 0 < length bytes.now → 0 < n) }

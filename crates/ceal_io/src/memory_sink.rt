@@ -61,6 +61,8 @@ impl Sink for MemSink {
 
     ghost faults = { λ s. s.calls.faults };
 
+    ghost takes_memory = { Unit {0} };
+
     fn write(&mut self, bytes: &[u8]) -> Result<usize, Stopped>
         ensures bound { WritesAtMost result bytes.now }
         ensures some { IfOk result (λ n. 0 < length bytes.now → 0 < n) }
@@ -106,6 +108,8 @@ impl Sink for SoundSink {
     ghost written = { λ s. Some s };
 
     ghost faults = { λ _. 0 };
+
+    ghost takes_memory = { Unit {0} };
 
     fn write(&mut self, bytes: &[u8]) -> Result<usize, Stopped>
         ensures bound { WritesAtMost result bytes.now }

@@ -61,6 +61,9 @@ pub trait Sink {
     /// How many writes have failed.
     ghost faults: { Self → ℕ };
 
+    /// Whether a write takes memory, of which there may be none.
+    ghost takes_memory: { Type 0 };
+
     /// Writes bytes from the front of a slice, at least one where there is one, and answers how many. A write that
     /// stopped wrote nothing.
     fn write(&mut self, bytes: &[u8]) -> Result<usize, Stopped>
@@ -68,5 +71,6 @@ pub trait Sink {
         ensures some { IfOk result (λ n. 0 < length bytes.now → 0 < n) }
         ensures bytes { WriteAppends (written self.old) (written self.new) result bytes.now }
         ensures cause { IsErrOf result Stopped.Failed → Rose (faults self.old) (faults self.new) }
+        ensures memory { IsErrOf result Stopped.Memory → takes_memory }
         ensures later { faults self.old ≤ faults self.new };
 }

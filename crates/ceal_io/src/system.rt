@@ -85,6 +85,8 @@ impl<W: Write> Sink for StdSink<W> {
 
     ghost faults = { λ s. s.faults };
 
+    ghost takes_memory = { ⊥ };
+
     fn write(&mut self, bytes: &[u8]) -> Result<usize, Stopped>
         ensures bound { WritesAtMost result bytes.now }
         ensures some { IfOk result (λ n. 0 < length bytes.now → 0 < n) }

@@ -76,6 +76,7 @@ pub fn write_all<K: Sink>(sink: &mut K, bytes: &[u8]) -> Result<(), Stopped>
     ensures all { OnOk result (Appends (K.written sink.old) (K.written sink.new) bytes.now) }
     ensures prefix { GrowsByPrefix (K.written sink.old) (K.written sink.new) bytes.now }
     ensures fault { IsErrOf result Stopped.Failed → Rose (K.faults sink.old) (K.faults sink.new) }
+    ensures memory { IsErrOf result Stopped.Memory → K.takes_memory }
     ensures later { K.faults sink.old ≤ K.faults sink.new }
 {
     let mut done = 0;

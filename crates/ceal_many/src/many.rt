@@ -104,8 +104,9 @@ impl<M: Maker> Many<M> {
 
     /// The reply to a line, which has no line end: that of the session that the line names, with `NAME: ` before each
     /// of its lines. A session is made when its name first comes; where 64 are there, a line for another is refused as
-    /// C9. After running out of memory the other sessions are as before. One that was not there is not there, and one
-    /// that was there is as its own command leaves it.
+    /// C9. After running out of memory the other sessions are as before. One that was not there is not there. One that
+    /// was there is as its own command leaves it without memory, or has carried out the line and lost its reply; then
+    /// the same line, given again, may be refused.
     pub fn command(&mut self, line: &[u8]) -> Result<Text, NoMemory>
         requires sessions { IsReady (StandFor M.Made.stands) (AllMeet M.Made.needs)
             self.old.sessions }

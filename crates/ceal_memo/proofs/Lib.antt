@@ -2,6 +2,7 @@
 pub mod Holding
 -- what only this crate cites
 pub mod Numbers
+pub mod Spares
 pub mod Chaining
 pub mod Grouping
 pub mod Linking

@@ -34,7 +34,7 @@ with_itself number among = rw (eq-eqb number number refl) refl
 with_all : (number : ℕ) (among : ℕ → Bool) (n : ℕ) → among n ≡ true → with_one number among n ≡ true
 with_all number among n is = elim (eqb_tells n number) [ inl p ↦ rw p.0 refl | inr p ↦ rw p.0 is ]
 
-with_others : (number : ℕ) (among : ℕ → Bool) (n : ℕ) → n ≢ number → with_one number among n ≡ true → among n ≡ true
+pub with_others : (number : ℕ) (among : ℕ → Bool) (n : ℕ) → n ≢ number → with_one number among n ≡ true → among n ≡ true
 with_others number among n other is = elim (eqb_tells n number) [ inl p ↦ absurd (other p.1) | inr p ↦ rw p.0 at is ]
 
 one_bucket : (among : ℕ → Bool) (size : ℕ) (groups : List Group) (n c d : ℕ) → IsIn among size groups n c → IsIn among size groups n d → c ≡ d

@@ -1,7 +1,8 @@
 -- Groups of stamps by hash, in chains
 -- (hash tables with separate chaining: Knuth, *The Art of Computer Programming*, volume 3, 6.4).
-use Rattle.std.specs.Prelude.{◌≡◌, ◌*◌, ◌/◌, ◌^◌, ◌<◌, ◌≤◌, ◌==◌, ℕ, suc, Bool, true, List, [], ◌∷◌, length}
+use Rattle.std.specs.Prelude.{◌≡◌, ◌*◌, ◌/◌, ◌^◌, ◌<◌, ◌≤◌, ◌==◌, ℕ, suc, Bool, true, false, List, [], ◌∷◌, length}
 use Rattle.std.specs.Prelude.{slice_index_or, set, if◌then◌else◌}
+use Rattle.ceal_order.specs.Stamps.{is_in, Distinct}
 use Rattle.ceal_memo.specs.Lists.{has_stamps}
 use Rattle.ceal_memo.specs.declared.chains.Group.{Group}
 
@@ -74,3 +75,32 @@ pub record IsBefore (chosen : ℕ → Bool) (heads : List ℕ) (groups : List Gr
 pub record IsLinked (heads : List ℕ) (groups : List Group) : Type 0 where
   pub chained : Chained (length groups) (stamped groups) heads groups
   pub few : length groups ≤ length heads
+
+-- stands for no group: there are fewer groups than this
+abbrev pub no_group : ℕ
+no_group = 4294967295
+
+-- a group is there and has no stamps
+pub record IsEmptyAt (groups : List Group) (n : ℕ) : Type 0 where
+  pub within : n < length groups
+  pub empty : stamped groups n ≡ false
+
+-- a number is that of the first of these groups, the link of each is the number of the next one, and that of the last
+-- one stands for no group
+abbrev pub LeadsThrough : (ℕ → ℕ) → ℕ → List ℕ → Type 0
+LeadsThrough next first [] = first ≡ no_group
+LeadsThrough next first (n ∷ ns) = (first ≡ n) × LeadsThrough next (next n) ns
+
+-- those without stamps can be filled again: a number leads through all of them, each once
+pub record HasSpares (groups : List Group) (free : ℕ) : Type 0 where
+  pub spares : List ℕ
+  pub leads : LeadsThrough (next_at groups) free spares
+  pub once : Distinct spares
+  pub empty : (n : ℕ) → is_in n spares ≡ true → IsEmptyAt groups n
+  pub all : (n : ℕ) → IsEmptyAt groups n → is_in n spares ≡ true
+  pub few : length groups ≤ no_group
+
+-- groups with stamps are found by their buckets, and the others can be filled again
+pub record IsWhole (heads : List ℕ) (groups : List Group) (free : ℕ) : Type 0 where
+  pub linked : IsLinked heads groups
+  pub spares : HasSpares groups free

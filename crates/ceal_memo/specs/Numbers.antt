@@ -1,5 +1,5 @@
 -- Lists of stamps by their numbers.
-use Rattle.std.specs.Prelude.{◌≡◌, ◌≢◌, ℕ, List, [], ◌∷◌, Some, slice_get, unwrap_or}
+use Rattle.std.specs.Prelude.{◌≡◌, ◌≢◌, ◌⊎◌, ◌≤◌, ◌+◌, ℕ, List, [], ◌∷◌, Some, length, slice_get, unwrap_or}
 use Rattle.std.specs.Map.{keys_of, values_of}
 use Rattle.ceal_order.specs.Stamps.{without}
 use Rattle.ceal_memo.specs.Lists.{stamps_at}
@@ -30,3 +30,12 @@ pub record IsEntered (old new : List (ℕ × List ℕ)) (hash n : ℕ) (stamps :
 pub record IsWithout (s : ℕ) (old new : List (ℕ × List ℕ)) : Type 0 where
   pub hashes : hashes_in new ≡ hashes_in old
   pub lists : (n : ℕ) → list_at new n ≡ without s (list_at old n)
+
+-- how many stamps the lists have
+abbrev pub stamp_count : List (ℕ × List ℕ) → ℕ
+stamp_count [] = 0
+stamp_count (l ∷ ls) = length l.1 + stamp_count ls
+
+-- there are no more lists than before, or no more than stamps: one that is empty is used before another is made
+abbrev pub UsesEmpty : List (ℕ × List ℕ) → List (ℕ × List ℕ) → Type 0
+UsesEmpty old new = (length new ≤ length old) ⊎ (length new ≤ stamp_count new)

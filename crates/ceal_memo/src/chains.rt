@@ -3,7 +3,7 @@
 ghost use Rattle.std.specs.Prelude.{◌≡◌, ◌≢◌, ◌<◌, ◌≤◌, ◌+◌, ◌*◌, ◌^◌, ℕ, suc, Bool, true, false, length, IfSome};
 ghost use Rattle.std.specs.Prelude.{IfNone, OnOk, OnErr, IsTrue};
 ghost use Rattle.ceal_memo.specs.Chains.{bucket, group_at, head_at, next_at, lists_of, with_one, stamped, IsBefore};
-ghost use Rattle.ceal_memo.specs.Chains.{Chained, IsLinked};
+ghost use Rattle.ceal_memo.specs.Chains.{Chained, IsLinked, IsEmptyAt};
 
 use ceal_base::no_memory::NoMemory;
 use ceal_order::rising::Rising;
@@ -122,6 +122,8 @@ pub fn chain(heads: &mut [u32], groups: &mut [Group], number: u32)
     requires chained { Chained (length groups.old) (stamped groups.old) heads.old groups.old }
     ensures size { length heads.new ≡ length heads.old }
     ensures lists { lists_of groups.new ≡ lists_of groups.old }
+    ensures next { (n : ℕ) → n ≢ number → IsEmptyAt groups.old n
+        → next_at groups.new n ≡ next_at groups.old n }
     ensures chained { Chained (length groups.new) (with_one number (stamped groups.new))
         heads.new groups.new }
 {
@@ -142,6 +144,8 @@ pub fn unchain(heads: &mut [u32], groups: &mut [Group], number: u32)
         heads.old groups.old }
     ensures size { length heads.new ≡ length heads.old }
     ensures lists { lists_of groups.new ≡ lists_of groups.old }
+    ensures next { (n : ℕ) → n ≢ number → IsEmptyAt groups.old n
+        → next_at groups.new n ≡ next_at groups.old n }
     ensures chained { Chained (length groups.new) (stamped groups.new) heads.new groups.new }
 {
     let group = &groups[number as usize];
@@ -160,6 +164,7 @@ pub fn chain_first(heads: &mut [u32], groups: &mut [Group], number: u32)
     requires chained { Chained number (stamped groups.old) heads.old groups.old }
     ensures size { length heads.new ≡ length heads.old }
     ensures lists { lists_of groups.new ≡ lists_of groups.old }
+    ensures next { (n : ℕ) → n ≢ number → next_at groups.new n ≡ next_at groups.old n }
     ensures chained { Chained (suc number) (stamped groups.new) heads.new groups.new }
 {
     let group = &mut groups[number as usize];
@@ -175,6 +180,7 @@ fn chain_all(heads: &mut [u32], groups: &mut [Group])
     requires empty { (b : ℕ) → head_at heads.old b ≡ 0 }
     ensures size { length heads.new ≡ length heads.old }
     ensures lists { lists_of groups.new ≡ lists_of groups.old }
+    ensures next { (n : ℕ) → IsEmptyAt groups.old n → next_at groups.new n ≡ next_at groups.old n }
     ensures chained { Chained (length groups.new) (stamped groups.new) heads.new groups.new }
 {
     for number in 0..groups.len() {
@@ -191,6 +197,7 @@ fn widen(heads: &mut Vec<u32>, groups: &mut [Group]) -> Result<(), NoMemory>
     requires linked { IsLinked heads.old.items groups.old }
     ensures linked { IsLinked heads.new.items groups.new }
     ensures lists { lists_of groups.new ≡ lists_of groups.old }
+    ensures next { (n : ℕ) → IsEmptyAt groups.old n → next_at groups.new n ≡ next_at groups.old n }
     ensures room { OnOk result (length groups.new < length heads.new.items) }
 {
     let size = heads.len().saturating_mul(2).max(FEWEST_BUCKETS);
@@ -207,6 +214,7 @@ pub fn make_buckets(heads: &mut Vec<u32>, groups: &mut [Group]) -> Result<(), No
     requires linked { IsLinked heads.old.items groups.old }
     ensures linked { IsLinked heads.new.items groups.new }
     ensures lists { lists_of groups.new ≡ lists_of groups.old }
+    ensures next { (n : ℕ) → IsEmptyAt groups.old n → next_at groups.new n ≡ next_at groups.old n }
     ensures room { OnOk result (length groups.new < length heads.new.items) }
 {
     if groups.len() < heads.len() {

@@ -5,8 +5,9 @@ ghost use Rattle.std.specs.Prelude.{IfNone, IfOk, OnOk, OnErr, IsTrue};
 ghost use Rattle.ceal_order.specs.Stamps.{is_in, without};
 ghost use Rattle.ceal_order.specs.Rising.{IsRising};
 ghost use Rattle.ceal_memo.specs.Lists.{stamps_at, with_stamp};
-ghost use Rattle.ceal_memo.specs.Numbers.{list_at, hashes_in, OneList, IsEntered};
-ghost use Rattle.ceal_memo.specs.Chains.{group_at, lists_of, with_list, with_one, stamped, Chained, IsLinked};
+ghost use Rattle.ceal_memo.specs.Numbers.{list_at, hashes_in, OneList, IsEntered, UsesEmpty};
+ghost use Rattle.ceal_memo.specs.Chains.{group_at, next_at, lists_of, with_list, with_one, stamped, no_group};
+ghost use Rattle.ceal_memo.specs.Chains.{Chained, IsLinked, IsEmptyAt, HasSpares};
 
 use crate::chains::{Group, chain, chain_first, find, make_buckets, unchain};
 use ceal_base::no_memory::NoMemory;
@@ -24,7 +25,7 @@ const MOST_LISTS: usize = 4294967295;
 const NO_GROUP: u32 = u32::MAX;
 
 /// A list of stamps for each hash. A list has a number, which stays its own as long as it has stamps; the number of a
-/// list that has become empty goes to the next new hash.
+/// list that has become empty goes to the next new hash. The empty lists are linked one after another.
 #[derive(Drop)]
 pub struct Lists {
     heads: Vec<u32>,
@@ -34,13 +35,13 @@ pub struct Lists {
 
 impl Model for Lists {
     ghost use Rattle.std.specs.Prelude.{List, ℕ};
-    ghost use Rattle.ceal_memo.specs.Chains.{lists_of, IsLinked};
+    ghost use Rattle.ceal_memo.specs.Chains.{lists_of, IsWhole};
 
     ghost Value = { List (ℕ × List ℕ) };
 
     ghost view = { λ l. lists_of l.groups.items };
 
-    ghost invariant = { λ l. IsLinked l.heads.items l.groups.items };
+    ghost invariant = { λ l. IsWhole l.heads.items l.groups.items l.free };
 }
 
 impl Lists {
@@ -65,6 +66,7 @@ impl Lists {
         ensures few { IfOk result (λ n. n < 4294967295) }
         ensures ok { IfOk result (λ n. IsEntered self.old self.new hash n
             (with_stamp order.now.stamps stamp.0 (stamps_at self.old hash))) }
+        ensures room { OnOk result (UsesEmpty self.old self.new) }
         ensures err { OnErr result (self.new ≡ self.old) }
     {
         match find(&self.heads, &self.groups, hash) {
@@ -150,20 +152,12 @@ fn take_at(groups: &mut [Group], number: u32, order: &Order, stamp: Stamp) -> bo
 }
 
 // The group that was emptied last, if there is one.
-fn spare(groups: &[Group], free: u32) -> Option<u32>
-    ensures within { IfSome result (λ n. n < length groups.now) }
-    ensures few { IfSome result (λ n. n < 4294967295) }
-    ensures empty { IfSome result (λ n. stamped groups.now n ≡ false) }
+fn spare(free: u32) -> Option<u32>
+    ensures some { IfSome result (λ n. n ≡ free) }
+    ensures few { IfSome result (λ n. n ≢ no_group) }
+    ensures none { IfNone result (free ≡ no_group) }
 {
-    if free == NO_GROUP {
-        return None;
-    }
-    let group = groups.get(free as usize)?;
-    if group.list.is_empty() {
-        Some(free)
-    } else {
-        None
-    }
+    if free == NO_GROUP { None } else { Some(free) }
 }
 
 // Takes a group that has become empty out of its bucket. The one that was emptied before it is told in the place of its
@@ -176,6 +170,9 @@ fn let_go(heads: &mut [u32], groups: &mut [Group], free: u32, number: u32)
         heads.old groups.old }
     ensures lists { lists_of groups.new ≡ lists_of groups.old }
     ensures linked { IsLinked heads.new groups.new }
+    ensures next { (n : ℕ) → n ≢ number → IsEmptyAt groups.old n
+        → next_at groups.new n ≡ next_at groups.old n }
+    ensures own { next_at groups.new number ≡ free }
 {
     unchain(heads, groups, number);
     let group = &mut groups[number as usize];
@@ -192,15 +189,18 @@ fn enter(
     stamp: Stamp,
 ) -> Result<u32, NoMemory>
     requires linked { IsLinked heads.old.items groups.old.items }
+    requires spares { HasSpares groups.old.items free.old }
     requires absent { stamps_at (lists_of groups.old.items) hash ≡ [] }
     requires unique { OneList (lists_of groups.old.items) }
     ensures few { IfOk result (λ n. n < 4294967295) }
     ensures ok { IfOk result (λ n. IsEntered (lists_of groups.old.items)
         (lists_of groups.new.items) hash n (stamp.0 ∷ [])) }
+    ensures room { OnOk result (UsesEmpty (lists_of groups.old.items) (lists_of groups.new.items)) }
     ensures err { OnErr result (lists_of groups.new.items ≡ lists_of groups.old.items) }
     ensures linked { IsLinked heads.new.items groups.new.items }
+    ensures spares { HasSpares groups.new.items free.new }
 {
-    match spare(groups, *free) {
+    match spare(*free) {
         Some(number) => {
             let list = Rising::one(*groups.allocator(), stamp);
             *free = refill(heads, groups, number, hash, list);
@@ -219,9 +219,11 @@ fn refill(heads: &mut [u32], groups: &mut [Group], number: u32, hash: u32, list:
     requires few { number < 4294967295 }
     requires empty { stamped groups.old number ≡ false }
     requires linked { IsLinked heads.old groups.old }
+    requires spares { HasSpares groups.old number }
     requires stamps { list ≢ [] }
     ensures lists { lists_of groups.new ≡ set (lists_of groups.old) number (hash, list) }
     ensures linked { IsLinked heads.new groups.new }
+    ensures spares { HasSpares groups.new result }
 {
     let group = &mut groups[number as usize];
     let free = group.next;
@@ -247,6 +249,8 @@ fn add(
         ≡ lists_of groups.old.items ++ (hash, stamp.0 ∷ []) ∷ []) }
     ensures err { OnErr result (lists_of groups.new.items ≡ lists_of groups.old.items) }
     ensures linked { IsLinked heads.new.items groups.new.items }
+    ensures spares { (free : ℕ)
+        → HasSpares groups.old.items free → HasSpares groups.new.items free }
 {
     let number = groups.len();
     if number >= MOST_LISTS {

@@ -1,10 +1,12 @@
 // The memo table.
 
-ghost use Rattle.std.specs.Prelude.{◌≡◌, ◌≢◌, ◌<◌, ℕ, List, Option, IfSome, IfNone, IfOk, OnOk, OnErr, IsTrue};
+ghost use Rattle.std.specs.Prelude.{◌≡◌, ◌≢◌, ◌<◌, ℕ, List, [], Option, length, IfSome, IfNone, IfOk, OnOk, OnErr};
+ghost use Rattle.std.specs.Prelude.{IsTrue};
 ghost use Rattle.ceal_order.specs.Stamps.{is_in, place};
 ghost use Rattle.ceal_memo.specs.Keys.{EntryKey, OfRead, OfAlloc};
 ghost use Rattle.ceal_memo.specs.Memo.{no_entries, with_key, without_key, IsFirstWith, NoneWith, Holds, IsOf, Follows};
 ghost use Rattle.ceal_memo.specs.Memo.{HasNone};
+ghost use Rattle.ceal_memo.specs.Numbers.{UsesEmpty};
 
 use crate::digest::{hash_of_alloc, hash_of_read};
 use crate::key::ReadKey;
@@ -46,6 +48,7 @@ impl Memo {
         ensures holds { IfOk result (λ memo. Holds memo no_entries) }
         ensures follows { IfOk result (λ memo. (order : List ℕ) → Follows order memo) }
         ensures seed { IfOk result (λ memo. memo.seed ≡ seed.words) }
+        ensures lists { IfOk result (λ memo. memo.table.lists ≡ []) }
     {
         Ok(Memo {
             table: Table::new(alloc),
@@ -82,6 +85,7 @@ impl Memo {
         ensures ok { OnOk result ((key : EntryKey) (entries : ℕ → Option EntryKey)
             → IsOf self.old key hashed → Holds self.old entries
             → Holds self.new (with_key stamp.0 key entries)) }
+        ensures room { OnOk result (UsesEmpty self.old.table.lists self.new.table.lists) }
         ensures err { OnErr result (self.new ≡ self.old) }
         ensures follows { Follows order.now.stamps self.new }
         ensures seed { self.new.seed ≡ self.old.seed }
@@ -102,6 +106,7 @@ impl Memo {
         requires absent { HasNone stamp.0 self.old }
         ensures ok { OnOk result ((entries : ℕ → Option EntryKey) → Holds self.old entries
             → Holds self.new (with_key stamp.0 (OfRead key.now) entries)) }
+        ensures room { OnOk result (UsesEmpty self.old.table.lists self.new.table.lists) }
         ensures err { OnErr result (self.new ≡ self.old) }
         ensures follows { Follows order.now.stamps self.new }
         ensures seed { self.new.seed ≡ self.old.seed }
@@ -118,6 +123,7 @@ impl Memo {
         requires absent { HasNone stamp.0 self.old }
         ensures ok { OnOk result ((entries : ℕ → Option EntryKey) → Holds self.old entries
             → Holds self.new (with_key stamp.0 (OfAlloc key.now) entries)) }
+        ensures room { OnOk result (UsesEmpty self.old.table.lists self.new.table.lists) }
         ensures err { OnErr result (self.new ≡ self.old) }
         ensures follows { Follows order.now.stamps self.new }
         ensures seed { self.new.seed ≡ self.old.seed }
@@ -135,6 +141,7 @@ impl Memo {
             → Holds self.new (without_key stamp.0 entries) }
         ensures gone { HasNone stamp.0 self.new }
         ensures absent { HasNone stamp.0 self.old → self.new ≡ self.old }
+        ensures room { length self.new.table.lists ≡ length self.old.table.lists }
         ensures follows { (order : List ℕ) → Follows order self.old → Follows order self.new }
         ensures seed { self.new.seed ≡ self.old.seed }
     {

@@ -1,11 +1,12 @@
 // The stamps of entries by the hashes of their keys.
 
-ghost use Rattle.std.specs.Prelude.{◌≡◌, ◌≢◌, ◌<◌, ℕ, List, [], true, IfSome, IfNone, IfOk, OnOk, OnErr, IsTrue};
+ghost use Rattle.std.specs.Prelude.{◌≡◌, ◌≢◌, ◌<◌, ℕ, List, [], true, length, IfSome, IfNone, IfOk, OnOk, OnErr};
+ghost use Rattle.std.specs.Prelude.{IsTrue};
 ghost use Rattle.ceal_order.specs.Stamps.{is_in, place, without};
 ghost use Rattle.ceal_order.specs.Rising.{IsRising};
 ghost use Rattle.ceal_memo.specs.declared.home.Home.TheVariants.{In};
 ghost use Rattle.ceal_memo.specs.Lists.{with_stamp, IsFirstOf, NoneOf};
-ghost use Rattle.ceal_memo.specs.Numbers.{list_at, IsWithout};
+ghost use Rattle.ceal_memo.specs.Numbers.{list_at, IsWithout, UsesEmpty};
 ghost use Rattle.ceal_memo.specs.Table.{entries_of, Follows, HasNone, OneEntry, EntriesChange};
 
 use crate::home::{Home, Homes};
@@ -42,6 +43,7 @@ impl Table {
         ensures stamps { (hash : ℕ) → entries_of result hash ≡ [] }
         ensures none { (s : ℕ) → HasNone s result }
         ensures follows { (order : List ℕ) → Follows order result }
+        ensures lists { result.lists ≡ [] }
     {
         Table {
             lists: Lists::new(alloc),
@@ -68,6 +70,7 @@ impl Table {
             (with_stamp order.now.stamps stamp.0 (entries_of self.old hash)) self.old self.new) }
         ensures err { OnErr result (self.new ≡ self.old) }
         ensures others { (s : ℕ) → s ≢ stamp.0 → HasNone s self.old → HasNone s self.new }
+        ensures room { OnOk result (UsesEmpty self.old.lists self.new.lists) }
         ensures follows { Follows order.now.stamps self.new }
     {
         self.homes.make_room(stamp)?;
@@ -85,6 +88,7 @@ impl Table {
         ensures gone { HasNone stamp.0 self.new }
         ensures absent { HasNone stamp.0 self.old → self.new ≡ self.old }
         ensures others { (s : ℕ) → HasNone s self.old → HasNone s self.new }
+        ensures room { length self.new.lists ≡ length self.old.lists }
         ensures follows { (order : List ℕ) → Follows order self.old → Follows order self.new }
     {
         let home = self.homes.take(stamp);

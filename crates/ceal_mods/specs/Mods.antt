@@ -1,6 +1,6 @@
 -- The modifiables of all places, with many writes in one run (Acar, Ahmed and Blume, *Imperative self-adjusting
 -- computation*, POPL 2008).
-use Rattle.std.specs.Prelude.{◌≡◌, ◌≢◌, ℕ, List, [], Option, unwrap_or, IsSome, false}
+use Rattle.std.specs.Prelude.{◌≡◌, ◌≢◌, ◌↔◌, ℕ, List, [], ◌∷◌, ◌++◌, Option, unwrap_or, IsSome, Bool, true, false, cond}
 use Rattle.std.specs.Map.{lookup}
 use Rattle.ceal_base.specs.contracts.word.PlacePartialEq.TheImpl.{ghosts}
 use Rattle.ceal_base.specs.declared.word.Place.{Place}
@@ -34,6 +34,24 @@ cell_slot mods p = where_from 0 p mods.cells
 abbrev pub HasCell : Contents → Place → Type 0
 HasCell mods p = IsSome (lookup (ghosts.eq p) mods.cells)
 
+-- the places that were touched, in the order in which that came
+abbrev pub places_of : List (Place × Cell) → List Place
+places_of [] = []
+places_of (e ∷ es) = e.0 ∷ places_of es
+
+-- whether a place is among these
+abbrev pub is_among : Place → List Place → Bool
+is_among p [] = false
+is_among p (q ∷ qs) = cond (ghosts.eq p q) true (is_among p qs)
+
+-- with a place, where it is not among them yet
+abbrev pub with_place : Place → List Place → List Place
+with_place p places = cond (is_among p places) places (places ++ p ∷ [])
+
+-- the places that were touched are those with cells
+abbrev pub PlacesLaw : Type 0
+PlacesLaw = (mods : Contents) (p : Place) → HasCell mods p ↔ is_among p (places_of mods.cells) ≡ true
+
 -- what a place held at the end when the places were marked
 abbrev pub held_at_mark : Contents → Place → Word
 held_at_mark mods p = held_in (unwrap_or mods.marked []) p
@@ -46,10 +64,12 @@ IsUntouched mods = (p : Place) → cell_of mods p ≡ untouched
 abbrev pub AllTold : (ℕ → Option Word) → Contents → Type 0
 AllTold tells mods = (p : Place) → AreTold tells (cell_of mods p).writes
 
--- the new contents have this cell at a place, and the others' cells, the look-ups and what was marked as the old ones
+-- The new contents have this cell at a place, and the others' cells, the look-ups and what was marked as the old ones.
+-- No cell is entered but that of the place, where it had none, and each one stays where it is.
 pub record Changes (old new : Contents) (p : Place) (cell : Cell) : Type 0 where
   pub here : cell_of new p ≡ cell
   pub others : (q : Place) → q ≢ p → cell_of new q ≡ cell_of old q
+  pub places : places_of new.cells ≡ with_place p (places_of old.cells)
   pub looked : new.looked ≡ old.looked
   pub differed : new.differed ≡ old.differed
   pub marked : new.marked ≡ old.marked

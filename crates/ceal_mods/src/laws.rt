@@ -6,7 +6,7 @@ ghost use Rattle.ceal_order.specs.Stamps.{is_in, OneMore};
 ghost use Rattle.ceal_order.specs.Rising.{IsRising};
 ghost use Rattle.ceal_mods.specs.Writes.{Write, stamps_of, written_at};
 ghost use Rattle.ceal_mods.specs.Cell.{with_write, without_write, with_read, without_read, Rises};
-ghost use Rattle.ceal_mods.specs.Mods.{Contents, Follows, KeepsStamps, IsFree};
+ghost use Rattle.ceal_mods.specs.Mods.{Contents, Follows, KeepsStamps, IsFree, PlacesLaw};
 ghost use Rattle.ceal_mods.specs.declared.cell.Cell.{Cell};
 
 use ceal_order::laws::{rising_members, rising_still};
@@ -60,3 +60,8 @@ pub fn writes_go_by_values()
 {
     rising_members();
 }
+
+/// A law: the places that were touched are those that have cells.
+pub fn places_have_cells()
+    ensures law { PlacesLaw }
+{}

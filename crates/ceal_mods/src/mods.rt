@@ -12,7 +12,7 @@ ghost use Rattle.ceal_mods.specs.Cell.{untouched, value_before, latest_value, wi
 ghost use Rattle.ceal_mods.specs.Cell.{with_read, without_read, Sees, IsAffected};
 ghost use Rattle.ceal_mods.specs.Index.{where_from, slot_of, Indexes};
 ghost use Rattle.ceal_mods.specs.Mods.{AllTold, cell_of, cell_slot, held_at_mark, HasCell, IsUntouched, Changes};
-ghost use Rattle.ceal_mods.specs.Mods.{Follows};
+ghost use Rattle.ceal_mods.specs.Mods.{Follows, places_of};
 ghost use Rattle.ceal_mods.specs.Marks.{CellsTold, ends_of, times};
 ghost use Rattle.ceal_mods.specs.Slots.{no_slot};
 
@@ -67,6 +67,7 @@ impl Mods {
     /// No place was touched, and no value was looked up.
     pub fn new(alloc: Global) -> Result<Mods, NoMemory>
         ensures cells { IfOk result IsUntouched }
+        ensures places { IfOk result (λ mods. places_of mods.cells ≡ []) }
         ensures looked { IfOk result (λ mods. mods.looked ≡ 0) }
         ensures differed { IfOk result (λ mods. mods.differed ≡ 0) }
         ensures marked { IfOk result (λ mods. mods.marked ≡ None) }
@@ -166,6 +167,7 @@ impl Mods {
         requires there { IsTrue (is_in stamp.0 (stamps_of (cell_of self.old place).writes)) }
         ensures cell { Changes self.old self.new place
             (without_write stamp.0 (cell_of self.old place)) }
+        ensures places { places_of self.new.cells ≡ places_of self.old.cells }
         ensures slot { result ≡ cell_slot self.new place }
         ensures follows { Follows order.now.stamps self.new }
     {
@@ -229,6 +231,7 @@ impl Mods {
         requires there { IsTrue (is_in stamp.0 (cell_of self.old place).reads) }
         ensures cell { Changes self.old self.new place
             (without_read stamp.0 (cell_of self.old place)) }
+        ensures places { places_of self.new.cells ≡ places_of self.old.cells }
         ensures follows { Follows order.now.stamps self.new }
     {
         let slot = self.index.find(place);

@@ -1,4 +1,6 @@
 -- Change propagation, turn by turn, and its slices.
+-- what crates above cite
+pub mod Departing
 -- what only this crate cites
 pub mod KeptRun
 pub mod TurnBegin

@@ -1,13 +1,14 @@
 -- How many contents are looked at, and how many nodes are touched: put in, taken out or changed. Each queued read is
 -- looked at once, and may queue another one then; so may each write that is taken out, which is looked at as well. Each
 -- node that is taken out is touched once.
-use Rattle.std.specs.Prelude.{◌≡◌, ◌≤◌, ℕ, zero, suc, ◌+◌, ◌-◌, ◌*◌, ◌^◌, min, List, [], ◌∷◌, length}
+use Rattle.std.specs.Prelude.{◌≡◌, ◌⊎◌, ◌≤◌, ◌<◌, ℕ, zero, suc, ◌+◌, ◌-◌, ◌*◌, ◌^◌, min, List, [], ◌∷◌, length}
+use Rattle.ceal_order.specs.Stamps.{room_beyond}
 use Rattle.ceal_repair.specs.Distance.{Reuses, CameTo}
 use Rattle.ceal_repair.specs.declared.frame.Frame.{Frame}
 use Rattle.ceal_repair.specs.declared.frame.Frame.TheVariants.{Begun, Taken, Kept}
 use Rattle.ceal_repair.specs.declared.running.Running.{Running}
 use Rattle.ceal_repair.specs.declared.tables.Tables.{Tables}
-use Rattle.ceal_trace.specs.Nodes.{Entry}
+use Rattle.ceal_trace.specs.Nodes.{Entry, Timeline}
 use Rattle.ceal_trace.specs.declared.node.Node.{Node}
 use Rattle.ceal_trace.specs.declared.node.Node.TheVariants.{Write}
 
@@ -30,11 +31,23 @@ OneDiffers old new = new.mods.differed ≡ min (old.mods.differed + 1) (2 ^ 64 -
 abbrev pub KeepsMarks : Tables → Tables → Type 0
 KeepsMarks old new = new.mods.marked ≡ old.mods.marked
 
--- no count falls
+-- how many nodes a trace has room for, those counted that it has
+abbrev pub slots : Timeline → ℕ
+slots t = length t.nodes + t.spare
+
+-- Each node that was put in was touched. There is room for no more nodes than before, or for no more than there were
+-- then, those touched since and some beyond.
+pub record Grows (old new : Timeline) : Type 0 where
+  pub nodes : length new.nodes + old.touched ≤ length old.nodes + new.touched
+  pub room : (slots new ≤ slots old) ⊎ (slots new + old.touched ≤ length old.nodes + new.touched + room_beyond)
+
+-- No count falls. As long as touches are counted, that of the nodes grows by no more. The seed of the memo stays.
 pub record CountsOn (old new : Tables) : Type 0 where
   pub looked : old.mods.looked ≤ new.mods.looked
   pub differed : old.mods.differed ≤ new.mods.differed
   pub touched : old.trace.touched ≤ new.trace.touched
+  pub grows : new.trace.touched < 2 ^ 64 - 1 → Grows old.trace new.trace
+  pub seed : new.memo.seed ≡ old.memo.seed
 
 -- Queued reads were looked at, each one once, and none of them differed.
 pub record LooksAtQueued (old new : Tables) : Type 0 where
@@ -47,11 +60,12 @@ pub record LooksAtNothing (old new : Tables) : Type 0 where
   pub differed : NoneDiffers old new
   pub queue : new.stale.stamps ≡ old.stale.stamps
 
--- nothing was looked at or touched yet
+-- nothing was looked at or touched yet, and there is no spare node
 pub record LooksNever (t : Tables) : Type 0 where
   pub looked : t.mods.looked ≡ 0
   pub differed : t.mods.differed ≡ 0
   pub touched : t.trace.touched ≡ 0
+  pub spare : t.trace.spare ≡ 0
 
 -- how many of these are writes
 abbrev pub writes_at : Node → ℕ
@@ -141,8 +155,10 @@ pub record Distance (old new : Running) : Type 0 where
   pub looks : due new.tables + 5 * old.spent ≤ due old.tables + 5 * new.spent + 2 * stale
   pub touches : touched_owed new.tables + 5 * old.spent ≤ touched_owed old.tables + 5 * new.spent + 2 * stale
 
--- What a run from nothing looks at and touches is paid by its steps, and no content differed. The root is a node.
+-- What a run from nothing looks at and touches is paid by its steps, and so is the room for nodes, but for some beyond.
+-- No content differed. The root is a node.
 pub record PaysFirst (run : Running) : Type 0 where
   pub looks : due run.tables ≤ 5 * run.spent
   pub differed : run.tables.mods.differed ≡ 0
   pub touches : touched_owed run.tables ≤ 5 * run.spent + 1
+  pub room : run.tables.trace.touched < 2 ^ 64 - 1 → slots run.tables.trace ≤ 5 * run.spent + 2 + room_beyond

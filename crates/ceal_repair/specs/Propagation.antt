@@ -6,6 +6,7 @@ use Rattle.ceal_base.specs.declared.word.Word.{Word}
 use Rattle.ceal_code.specs.Program.{Code}
 use Rattle.ceal_code.specs.Replay.{IsHonest, bases}
 use Rattle.ceal_heap.specs.Heap.{HasSlots, ReleasesRevoked}
+use Rattle.ceal_repair.specs.Departs.{DepartsUpTo}
 use Rattle.ceal_repair.specs.Moment.{Start}
 use Rattle.ceal_repair.specs.Turning.{Since, later, NamesOff, IsOrigin, TurnedSoFar, TurnBegan, TurnEnded}
 use Rattle.ceal_repair.specs.declared.advance.Progress.{Progress}
@@ -31,6 +32,7 @@ pub record HasCome (code : Code) (inputs : List Block) (f : ℕ) (args : List Wo
   pub items : forest_of before.tables.trace.nodes ≡ flat o.repair.items
   pub so_far : TurnedSoFar code inputs f args o run
   pub front : KeepsFront code inputs before.tables.trace.nodes run.tables.trace.nodes
+  pub departs : DepartsUpTo before.tables.trace.nodes run.tables
   pub unchanged : IsHonest code inputs o.repair.items
       → (run.tables.trace ≡ before.tables.trace) × (run.spent ≡ o.repair.spent)
 

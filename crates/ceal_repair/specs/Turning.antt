@@ -1,5 +1,5 @@
 -- A run that is repaired turn by turn, each turn the first stale read with what is inside it.
-use Rattle.std.specs.Prelude.{◌≡◌, ℕ, zero, suc, Some, List, [], ◌∷◌, ◌++◌, length}
+use Rattle.std.specs.Prelude.{◌≡◌, ℕ, zero, suc, true, Some, List, [], ◌∷◌, ◌++◌, length}
 use Rattle.ceal_base.specs.Block.{Block}
 use Rattle.ceal_base.specs.Trace.{Trace, flat, blocks_of}
 use Rattle.ceal_base.specs.declared.forest.UnitId.{UnitId}
@@ -10,6 +10,7 @@ use Rattle.ceal_code.specs.Fitting.{Fits}
 use Rattle.ceal_code.specs.Program.{Code}
 use Rattle.ceal_code.specs.Replay.{count, core_numbers}
 use Rattle.ceal_heap.specs.Heap.{plain_of}
+use Rattle.ceal_order.specs.Stamps.{is_in}
 use Rattle.ceal_repair.specs.Blocks.{HasBlocks, Given}
 use Rattle.ceal_repair.specs.Entries.{stamp_of_number, entry, entries, end_entry}
 use Rattle.ceal_repair.specs.Moment.{Start}
@@ -24,7 +25,7 @@ use Rattle.ceal_theory.specs.SliceLaws.{unit_alone, Turns}
 use Rattle.ceal_theory.specs.Slices.{Repair, beginning, starting, RepairHolds}
 use Rattle.ceal_theory.specs.Walk.{store_after, AgreesAll}
 use Rattle.ceal_trace.specs.Items.{forest_of, unclosed, Nests}
-use Rattle.ceal_trace.specs.Nodes.{Entry, node_at, with_value}
+use Rattle.ceal_trace.specs.Nodes.{Entry, stamps_in, node_at, with_value}
 use Rattle.ceal_trace.specs.declared.node.Node.TheVariants.{Read}
 
 -- a finished read of nodes: those before it, those inside it, its end, and those after that
@@ -146,6 +147,7 @@ pub record TurnBegan (code : Code) (inputs : List Block) (f : ℕ) (args : List 
   pub called : IsOrigin code inputs f args o
   pub so_far : TurnedSoFar code inputs f args o before
   pub spot : ReadAt before.tables.trace.nodes
+  pub found : IsStale spot.read before.tables
   pub agrees : AgreesAll code (starting code inputs so_far.repair.known) (forest_of spot.before)
   pub stale :
       ¬ (store_after code (starting code inputs so_far.repair.known) (forest_of spot.before) spot.place ≡ spot.value)
@@ -162,9 +164,13 @@ pub record TurnRuns (code : Code) (inputs : List Block) (f : ℕ) (args : List W
   pub began : TurnBegan code inputs f args o before start
   pub runs : Runs start r
 
--- the turn has ended: the run has come further, and the nodes before the read are as they were
+-- The turn has ended: the run has come further. The nodes before the read and from its end on are as they were, and a
+-- read that is stale is after those inside it.
 pub record TurnEnded (code : Code) (inputs : List Block) (f : ℕ) (args : List Word)
     (o : Since) (start : Start) (run : Running) : Type 0 where
   pub so_far : TurnedSoFar code inputs f args (later 1 o) run
-  pub after : List Entry
-  pub front : run.tables.trace.nodes ≡ start.before ++ after
+  pub steps : ℕ
+  pub inside : Grove
+  pub nodes : run.tables.trace.nodes
+      ≡ start.before ++ entry start.stamp start.node steps ∷ (entries inside ++ start.beyond)
+  pub ahead : (r : ℕ) → IsStale r run.tables → is_in r (stamps_in start.beyond) ≡ true

@@ -5,6 +5,7 @@ ghost use Rattle.ceal_base.specs.Trace.{Trace};
 ghost use Rattle.ceal_base.specs.declared.word.Word.{Word};
 ghost use Rattle.ceal_code.specs.Replay.{IsHonest};
 ghost use Rattle.ceal_repair.specs.Answers.{IsKeptRun, IsRepaired};
+ghost use Rattle.ceal_repair.specs.Departs.{DepartsSo};
 ghost use Rattle.ceal_repair.specs.Looks.{Distance, LooksAtQueued, KeepsMarks};
 ghost use Rattle.ceal_repair.specs.Propagation.{KeepsFront};
 ghost use Rattle.ceal_repair.specs.Slicing.{IsPartRun, IsSliced};
@@ -62,6 +63,8 @@ pub fn advance(
     ensures marks { OnOk result (KeepsMarks running.old.tables running.new.tables) }
     ensures front { IfOk result (λ p. p ≢ Progress.Spent → KeepsFront code.now inputs.now
         running.old.tables.trace.nodes running.new.tables.trace.nodes) }
+    ensures departs { IfOk result (λ p. p ≢ Progress.Spent
+        → DepartsSo running.old.tables.trace.nodes running.new.tables.trace.nodes) }
     ensures sure { (f : ℕ) (args : List Word) (r : RepairOf)
         → IsPartRun code.now inputs.now f args fuel r running.old
         → IsHonest code.now inputs.now r.items → IsOk result }

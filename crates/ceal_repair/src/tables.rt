@@ -1,6 +1,6 @@
 // The tables of a trace, kept in step with its nodes.
 
-ghost use Rattle.std.specs.Prelude.{◌≡◌, ◌<◌, ◌≤◌, ◌+◌, ℕ, [], ◌∷◌, Some, None, false, length, IfOk, OnOk, OnErr};
+ghost use Rattle.std.specs.Prelude.{◌≡◌, ◌⊎◌, ◌<◌, ◌≤◌, ◌+◌, ℕ, [], ◌∷◌, Some, None, false, length, IfOk, OnOk, OnErr};
 ghost use Rattle.std.specs.Prelude.{IsTrue, pos};
 ghost use Rattle.ceal_base.specs.declared.word.Place.{Place as PlaceOf};
 ghost use Rattle.ceal_base.specs.declared.word.Word.TheVariants.{Num};
@@ -13,6 +13,7 @@ ghost use Rattle.ceal_repair.specs.Covered.{contents_after};
 ghost use Rattle.ceal_repair.specs.Kept.{Kept, QueuedAfter, base_in};
 ghost use Rattle.ceal_repair.specs.Lists.{up_to, between};
 ghost use Rattle.ceal_repair.specs.Looks.{looks_owed, touched_owed, CountsOn, LooksNever, NoneDiffers, KeepsMarks};
+ghost use Rattle.ceal_repair.specs.Room.{EntersPlace, EntersNone, UsesLists};
 ghost use Rattle.ceal_trace.specs.Nodes.{has_node, node_at, position, is_read, end_in, with_entry_after, with_steps};
 ghost use Rattle.ceal_trace.specs.Nodes.{new_entry, Inserted};
 ghost use Rattle.ceal_trace.specs.declared.node.Node.TheVariants.{Root, Alloc, Write, Read, End};
@@ -87,6 +88,8 @@ impl Tables {
             → base_in self.new.mods p ≡ stored (base_in self.old.mods) place value p) }
         ensures bare { value ≡ Num (pos 0) → ¬ HasCell self.old.mods place
             → self.new.mods ≡ self.old.mods }
+        ensures cells { OnOk result
+            (EntersNone self.old self.new ⊎ EntersPlace place self.old self.new) }
         ensures err { OnErr result (self.new.mods ≡ self.old.mods) }
         ensures queue_err { OnErr result (self.new.stale.stamps ≡ self.old.stale.stamps) }
         ensures only { (s : ℕ) → IsTrue (is_in s self.new.stale.stamps)
@@ -135,6 +138,7 @@ impl Tables {
             (λ s. QueuedAfter after.0 self.old → QueuedAfter s.0 self.new) }
         ensures touched { OnOk result (touched_owed self.new ≤ touched_owed self.old + 2) }
         ensures counts { OnOk result (CountsOn self.old self.new) }
+        ensures lists { OnOk result (UsesLists self.old self.new) }
         ensures kept { OnOk result (Kept self.new) }
     {
         mods_follow();
@@ -161,6 +165,8 @@ impl Tables {
         ensures touched { OnOk result (touched_owed self.new ≤ touched_owed self.old + 2) }
         ensures counts { OnOk result (CountsOn self.old self.new) }
         ensures marks { OnOk result (KeepsMarks self.old self.new) }
+        ensures cells { OnOk result (EntersPlace place self.old self.new) }
+        ensures memo { OnOk result (self.new.memo ≡ self.old.memo) }
         ensures bases { OnOk result
             ((p : PlaceOf) → base_in self.new.mods p ≡ base_in self.old.mods p) }
         ensures behind { IfOk result
@@ -240,6 +246,8 @@ impl Tables {
         ensures touched { OnOk result (touched_owed self.new ≤ touched_owed self.old + 2) }
         ensures counts { OnOk result (CountsOn self.old self.new) }
         ensures marks { OnOk result (KeepsMarks self.old self.new) }
+        ensures cells { OnOk result (EntersPlace key.now.place self.old self.new) }
+        ensures lists { OnOk result (UsesLists self.old self.new) }
         ensures bases { OnOk result
             ((p : PlaceOf) → base_in self.new.mods p ≡ base_in self.old.mods p) }
         ensures queue { OnOk result (self.new.stale ≡ self.old.stale) }
@@ -283,6 +291,7 @@ impl Tables {
             (λ s. QueuedAfter after.0 self.old → QueuedAfter s.0 self.new) }
         ensures touched { OnOk result (touched_owed self.new ≤ touched_owed self.old + 2) }
         ensures counts { OnOk result (CountsOn self.old self.new) }
+        ensures memo { OnOk result (self.new.memo ≡ self.old.memo) }
         ensures kept { OnOk result (Kept self.new) }
     {
         mods_follow();

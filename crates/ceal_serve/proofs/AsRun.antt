@@ -13,12 +13,13 @@ use Rattle.ceal_lex.specs.Tokens.{span}
 use Rattle.ceal_lex.specs.declared.parts.Split.{Split}
 use Rattle.ceal_session.specs.Replies.{IsReplied}
 use Rattle.ceal_cli.specs.Lines.{script_of, script_lines}
-use Rattle.ceal_cli.specs.Output.{IsAnswer, first_state}
+use Rattle.ceal_cli.specs.Laws.{OneOutputLaw}
+use Rattle.ceal_cli.specs.Output.{Begins, IsAnswer, IsOutput, IsPrefix, IsRefusal, first_state}
 use Rattle.ceal_cli.specs.declared.words.Mode.TheVariants.{Run}
 use Rattle.ceal_cli.proofs.Inputs.OneReading.{SplitLaw}
 use Rattle.ceal_cli.proofs.Inputs.OtherScript.{comes-again}
-use Rattle.ceal_serve.specs.Laws.{ServedLaw, TurnedAwayLaw, PlacedLaw}
-use Rattle.ceal_serve.specs.Turns.{IsServed}
+use Rattle.ceal_serve.specs.Laws.{BeginningLaw, OneSaidLaw, PlacedLaw, ServedLaw, TurnedAwayLaw}
+use Rattle.ceal_serve.specs.Turns.{IsBeginning, IsSaidFor, IsServed}
 use Rattle.ceal_serve.proofs.Marks.{first-of-longer}
 
 drop-length : (n : ℕ) (xs : List ℕ) → n ≤ length xs → length (drop n xs) + n ≡ length xs
@@ -158,3 +159,25 @@ turned-away-as-run law placed fuel ended text more said small h over = (tt, inl 
 
     line : said ≡ fault_line (text ++ more) h.fault
     line = h.line ∙ sym (ap (λ (t : List ℕ). fault_line t h.fault) whole ∙ same-line h.parts.head (h.parts.script ++ more) h.fault (placed h.parts.head h.fault h.first))
+
+-- what is said for a text is what `ceal run` writes for it
+module _ (served : ServedLaw) (away : TurnedAwayLaw) where
+  pub said-output : (fuel : ℕ) (text said : List ℕ) → length text < 2 ^ 32 → IsSaidFor fuel text said → IsOutput (Run fuel) text said
+  said-output fuel text said small (inl s) = inl (served fuel true text said small s)
+  said-output fuel text said small (inr t) =
+      let same : length (text ++ []) < 2 ^ 32 = subst (λ (l : List ℕ). length l < 2 ^ 32) (sym (append-nil text)) small in
+      inr (subst (λ (l : List ℕ). IsRefusal (Run fuel) l said) (append-nil text) (away fuel true text [] said same t (λ e. refl)))
+
+  pub one-said : OneOutputLaw → OneSaidLaw
+  unfolding said-output
+  one-said one fuel text a b small s t = one (Run fuel) text a b (said-output fuel text a small s) (said-output fuel text b small t)
+
+  begun : OneOutputLaw → (fuel : ℕ) (text said out : List ℕ) → length text < 2 ^ 32 → Begins (IsSaidFor fuel text) said → IsOutput (Run fuel) text out → IsPrefix said out
+  unfolding said-output
+  begun one fuel text said out small (inl none) o = record { rest = out; same = ap (λ (l : List ℕ). l ++ out) none }
+  begun one fuel text said out small (inr (whole, s, p)) o =
+      record { rest = p.rest; same = p.same ∙ one (Run fuel) text whole out (said-output fuel text whole small s) o }
+
+  pub said-begins : OneOutputLaw → BeginningLaw
+  unfolding IsBeginning begun
+  said-begins one e more out h over small o = begun one e.fuel (e.heard ++ more) e.said out small (h more over) o

@@ -38,5 +38,6 @@ unsaid-list [] h = refl
 unsaid-list (b ∷ bs) h = absurd (h (λ e. cc e))
 
 pub asked-begins : (words : List Text) (o : Option Exchange) → (AskForNothing words → ⊥) → IfSome o (BeginsAsAsked words) → IfSome o IsBeginning
+unfolding IsBeginning
 asked-begins words o some h =
-    known-same o o (BeginsAsAsked words) IsBeginning refl (λ e b. inl (unsaid-list e.said (λ other. some (λ fuel asks. other (b fuel asks).unsaid)))) h
+    known-same o o (BeginsAsAsked words) IsBeginning refl (λ e b. λ more over. inl (unsaid-list e.said (λ other. some (λ fuel asks. other (b fuel asks).unsaid)))) h

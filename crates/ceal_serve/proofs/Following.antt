@@ -85,18 +85,18 @@ module _ (fuel : ℕ) (text said : List ℕ) (session : Situation) (h : Follows 
   first = situation_without_run h.program.code (first_state h.program fuel)
 
   -- all is said to the complete lines
-  answered : IsAnswered fuel text said
-  answered =
+  pub served-so : IsServed fuel false text said
+  served-so =
       let lines-now : script_lines h.parts.script ≡ h.front ++ ([] ∷ []) =
       ap script_lines (sym (append-nil h.parts.script)) ∙ (h.lines [] ∙ ap (λ (l : List (List ℕ)). h.front ++ l) empty-lines) in
       let leads : Leads first (h.front ++ ([] ∷ [])) (said ++ []) (situation_after h.end (Some Blank)) =
       leads-more h.front [] first h.end (situation_after h.end (Some Blank)) said [] h.leads (blank-reply h.end) in
       let now = subst (λ (t : List ℕ). Leads first (h.front ++ ([] ∷ [])) t (situation_after h.end (Some Blank))) (append-nil said) leads in
-      inr (record {
+      record {
         parts = h.parts;
         program = h.program;
         replies = record { end = situation_after h.end (Some Blank); leads = subst (λ (l : List (List ℕ)). Leads first l said (situation_after h.end (Some Blank))) (sym lines-now) now };
-      })
+      }
 
   -- what is said where the text continues so and ends
   to-end : (rest out : List ℕ) (end : Situation) → Leads first (h.front ++ script_lines rest) (said ++ out) end → IsServed fuel true (text ++ rest) (said ++ out)
@@ -118,7 +118,7 @@ module _ (fuel : ℕ) (text said : List ℕ) (session : Situation) (h : Follows 
 
   module _ (kept : KeptLaw) where
     -- after one line more
-    line-more : (line out : List ℕ) (next : Situation) → IsOneLine line → Serves session (without_return line) out next → Follows fuel (text ++ (line ++ 10 ∷ [])) (said ++ out) next
+    pub line-more : (line out : List ℕ) (next : Situation) → IsOneLine line → Serves session (without_return line) out next → Follows fuel (text ++ (line ++ 10 ∷ [])) (said ++ out) next
     line-more line out next one serves =
         let k : AnswersIn h.end (without_return line) out next = kept session next h.end (without_return line) out h.is_in serves.answers serves.repairs in
         record {
@@ -142,7 +142,7 @@ module _ (fuel : ℕ) (text said : List ℕ) (session : Situation) (h : Follows 
         }
 
     -- after the last line
-    last-served : (rest out : List ℕ) (next : Situation) → IsOneLine rest → Serves session rest out next → IsServed fuel true (text ++ rest) (said ++ out)
+    pub last-served : (rest out : List ℕ) (next : Situation) → IsOneLine rest → Serves session rest out next → IsServed fuel true (text ++ rest) (said ++ out)
     last-served rest out next one serves =
         let k : AnswersIn h.end rest out next = kept session next h.end rest out h.is_in serves.answers serves.repairs in
         to-end rest out k.next
@@ -150,14 +150,14 @@ module _ (fuel : ℕ) (text said : List ℕ) (session : Situation) (h : Follows 
         (leads-more h.front rest first h.end k.next said out h.leads k.replies))
 
 pub caught-up-at : (rest : List ℕ) (session : Situation) (e : Exchange) → IsAt rest session e → IsCaughtUp rest e
-unfolding answered
-caught-up-at rest session e h = record { lines = h.text; heard = h.heard; complete = h.follows.complete; answered = answered e.fuel h.text e.said session h.follows }
+unfolding served-so
+caught-up-at rest session e h = record { going = h.going; lines = h.text; heard = h.heard; complete = h.follows.complete; answered = inr (served-so e.fuel h.text e.said session h.follows) }
 
 pub at-more : (rest more : List ℕ) (session : Situation) (e : Exchange) → IsAt rest session e → IsAt (rest ++ more) session (heard_more more e)
-at-more rest more session e h = record { text = h.text; heard = ap (λ (l : List ℕ). l ++ more) h.heard ∙ append_assoc h.text rest more; follows = h.follows }
+at-more rest more session e h = record { text = h.text; heard = ap (λ (l : List ℕ). l ++ more) h.heard ∙ append_assoc h.text rest more; going = h.going; follows = h.follows }
 
 pub at-end : (rest : List ℕ) (session : Situation) (e : Exchange) → IsAt rest session e → IsLast rest session (heard_end e)
-at-end rest session e h = record { at = record { text = h.text; heard = h.heard; follows = h.follows }; ended = refl }
+at-end rest session e h = record { text = h.text; heard = h.heard; ended = refl; follows = h.follows }
 
 take-whole : (line rest : List ℕ) → take (length line) (line ++ rest) ≡ line
 take-whole [] rest = refl
@@ -186,31 +186,44 @@ same-pieces said text out rest p =
     ∙ (ap (λ (t : List ℕ). said ++ t) (sym (append_assoc out p.rest rest) ∙ ap (λ (t : List ℕ). t ++ rest) p.same)
     ∙ sym (append_assoc said text rest))
 
--- what was said begins what is said for all that was heard
+-- what was heard continues so
+then-more : (heard text rest more : List ℕ) → heard ≡ text ++ rest → heard ++ more ≡ text ++ (rest ++ more)
+then-more heard text rest more e = ap (λ (t : List ℕ). t ++ more) e ∙ append_assoc text rest more
+
+-- what was said begins what is said for all that will be heard
 module _ (script : SomeScriptLaw) (rest : List ℕ) (session : Situation) (e : Exchange) (h : IsAt rest session e) where
-  pub beginning-at : IsBeginning e
+  begins-then : (more : List ℕ) → Begins (IsSaidFor e.fuel (e.heard ++ more)) e.said
   unfolding some-end
-  beginning-at =
-      let w = some-end e.fuel h.text e.said session h.follows script rest in
-      inr (e.said ++ w.0, inl (subst (λ (t : List ℕ). IsServed e.fuel true t (e.said ++ w.0)) (sym h.heard) w.1), record { rest = w.0; same = refl })
+  begins-then more =
+      let w = some-end e.fuel h.text e.said session h.follows script (rest ++ more) in
+      inr (e.said ++ w.0, inl (subst (λ (t : List ℕ). IsServed e.fuel true t (e.said ++ w.0)) (sym (then-more e.heard h.text rest more h.heard)) w.1), record { rest = w.0; same = refl })
+
+  pub beginning-at : IsBeginning e
+  unfolding IsBeginning begins-then
+  beginning-at = λ more over. begins-then more
 
   module _ (kept : KeptLaw) where
     -- also where it is a part of the reply to the next line
-    pub beginning-part : (at : ℕ) (out : List ℕ) → HasLine rest at → BeginsReply session (without_return (take at rest)) out → IsBeginning (saying out e)
-    unfolding line-more some-end
-    beginning-part at out has (inl none) =
-        subst (λ (t : List ℕ). Begins (IsSaidFor e.fuel e.heard) t) (sym (ap (λ (o : List ℕ). e.said ++ o) none ∙ append-nil e.said)) beginning-at
-    beginning-part at out has (inr (text, next, serves, prefix)) =
+    part-then : (at : ℕ) (out : List ℕ) → HasLine rest at → BeginsReply session (without_return (take at rest)) out → (more : List ℕ) → Begins (IsSaidFor e.fuel (e.heard ++ more)) (e.said ++ out)
+    unfolding line-more some-end begins-then
+    part-then at out has (inl none) more =
+        subst (λ (t : List ℕ). Begins (IsSaidFor e.fuel (e.heard ++ more)) t) (sym (ap (λ (o : List ℕ). e.said ++ o) none ∙ append-nil e.said)) (begins-then more)
+    part-then at out has (inr (text, next, serves, prefix)) more =
         let front : take at rest ≡ has.line = take-line rest at has in
         let serves-line : Serves session (without_return has.line) text next = subst (λ (l : List ℕ). Serves session (without_return l) text next) front serves in
         let after = line-more e.fuel h.text e.said session h.follows kept has.line text next has.one serves-line in
-        let w = some-end e.fuel (h.text ++ (has.line ++ 10 ∷ [])) (e.said ++ text) next after script has.rest in
-        let heard : e.heard ≡ (h.text ++ (has.line ++ 10 ∷ [])) ++ has.rest = whole-line e.heard h.text rest at has h.heard in
+        let w = some-end e.fuel (h.text ++ (has.line ++ 10 ∷ [])) (e.said ++ text) next after script (has.rest ++ more) in
+        let heard : e.heard ++ more ≡ (h.text ++ (has.line ++ 10 ∷ [])) ++ (has.rest ++ more) =
+        then-more e.heard (h.text ++ (has.line ++ 10 ∷ [])) has.rest more (whole-line e.heard h.text rest at has h.heard) in
         inr (
           (e.said ++ text) ++ w.0,
           inl (subst (λ (t : List ℕ). IsServed e.fuel true t ((e.said ++ text) ++ w.0)) (sym heard) w.1),
           record { rest = prefix.rest ++ w.0; same = same-pieces e.said text out w.0 prefix },
         )
+
+    pub beginning-part : (at : ℕ) (out : List ℕ) → HasLine rest at → BeginsReply session (without_return (take at rest)) out → IsBeginning (saying out e)
+    unfolding IsBeginning part-then
+    beginning-part at out has part = λ more over. part-then at out has part more
 
 -- the reply to the first line was said
 pub at-next : KeptLaw → (rest : List ℕ) (session next : Situation) (e : Exchange) (at : ℕ) (out : List ℕ) → IsAt rest session e → HasLine rest at
@@ -221,6 +234,7 @@ at-next kept rest session next e at out h has serves =
     let serves-line : Serves session (without_return has.line) out next = subst (λ (l : List ℕ). Serves session (without_return l) out next) front serves in
     record {
       text = h.text ++ (has.line ++ 10 ∷ []);
+      going = h.going;
       heard = whole-line e.heard h.text rest at has h.heard ∙ ap (λ (t : List ℕ). (h.text ++ (has.line ++ 10 ∷ [])) ++ t) (sym (drop-line rest at has));
       follows = line-more e.fuel h.text e.said session h.follows kept has.line out next has.one serves-line;
     }
@@ -230,20 +244,31 @@ module _ (kept : KeptLaw) (rest : List ℕ) (session : Situation) (e : Exchange)
   pub done-at : (next : Situation) (out : List ℕ) → Serves session rest out next → IsDone (saying out e)
   unfolding last-served
   done-at next out serves =
-      let w = last-served e.fuel h.at.text e.said session h.at.follows kept rest out next one serves in
-      (h.ended, subst (λ (t : List ℕ). IsServed e.fuel true t (e.said ++ out)) (sym h.at.heard) w)
+      let w = last-served e.fuel h.text e.said session h.follows kept rest out next one serves in
+      (h.ended, subst (λ (t : List ℕ). IsServed e.fuel true t (e.said ++ out)) (sym h.heard) w)
 
-  pub beginning-last : SomeScriptLaw → (out : List ℕ) → BeginsReply session rest out → IsBeginning (saying out e)
-  unfolding last-served
-  beginning-last script out (inl none) =
-      subst (λ (t : List ℕ). Begins (IsSaidFor e.fuel e.heard) t) (sym (ap (λ (o : List ℕ). e.said ++ o) none ∙ append-nil e.said)) (beginning-at script rest session e h.at)
-  beginning-last script out (inr (text, next, serves, prefix)) =
-      let w = last-served e.fuel h.at.text e.said session h.at.follows kept rest text next one serves in
+  last-then : SomeScriptLaw → (out : List ℕ) → BeginsReply session rest out → Begins (IsSaidFor e.fuel (h.text ++ rest)) (e.said ++ out)
+  unfolding last-served some-end
+  last-then script out (inl none) =
+      let w = some-end e.fuel h.text e.said session h.follows script rest in
+      inr (
+        e.said ++ w.0,
+        inl w.1,
+        record { rest = w.0; same = ap (λ (o : List ℕ). o ++ w.0) (ap (λ (o : List ℕ). e.said ++ o) none ∙ append-nil e.said) },
+      )
+  last-then script out (inr (text, next, serves, prefix)) =
+      let w = last-served e.fuel h.text e.said session h.follows kept rest text next one serves in
       inr (
         e.said ++ text,
-        inl (subst (λ (t : List ℕ). IsServed e.fuel true t (e.said ++ text)) (sym h.at.heard) w),
+        inl w,
         record { rest = prefix.rest; same = append_assoc e.said out prefix.rest ∙ ap (λ (t : List ℕ). e.said ++ t) prefix.same },
       )
+
+  pub beginning-last : SomeScriptLaw → (out : List ℕ) → BeginsReply session rest out → IsBeginning (saying out e)
+  unfolding IsBeginning last-then
+  beginning-last script out part = λ more over.
+      let all : e.heard ++ more ≡ h.text ++ rest = ap (λ (t : List ℕ). e.heard ++ t) (over h.ended) ∙ (append-nil e.heard ∙ h.heard) in
+      subst (λ (t : List ℕ). Begins (IsSaidFor e.fuel t) (e.said ++ out)) (sym all) (last-then script out part)
 
 -- The same of what is known of a conversation.
 module _ {A E : Type 0} (r : Result A E) (script : SomeScriptLaw) (kept : KeptLaw) (o n : Option Exchange) where

@@ -1,12 +1,12 @@
 -- What was heard, piece after piece.
-use Rattle.std.proofs.Common.{◌≡◌, ℕ, zero, suc, ◌<◌, ◌≤◌, Option, Some, None, Result, Ok, Err, List}
+use Rattle.std.proofs.Common.{◌≡◌, inl, ℕ, zero, suc, ◌<◌, ◌≤◌, Option, Some, None, Result, Ok, Err, List}
 use Rattle.std.proofs.Common.{[], ◌∷◌, ◌++◌, length, take, drop, take-append-drop, refl, sym, ap, ◌∙◌, subst}
 use Rattle.std.proofs.Common.{append_assoc, append-nil, arith, option_map}
 use Rattle.std.specs.Prelude.{IfSome, OnErr}
 use Rattle.ceal_cli.specs.Output.{IsPrefix}
-use Rattle.ceal_serve.specs.Exchange.{Exchange, Says, SaysPrefix, hearing, saying}
+use Rattle.ceal_serve.specs.Exchange.{Exchange, Says, SaysPrefix, given, hearing, saying}
 use Rattle.ceal_serve.specs.Listening.{IsCaughtUp, Hears, HearsEnd, HearsMore, HearsSome, heard_end, heard_more}
-use Rattle.ceal_serve.specs.Turns.{IsOneLine, IsTurn}
+use Rattle.ceal_serve.specs.Turns.{IsBeginning, IsOneLine, IsTurn}
 
 pub more-twice : (o : Option Exchange) (a b : List ℕ) → option_map (heard_more b) (option_map (heard_more a) o) ≡ option_map (heard_more (a ++ b)) o
 more-twice None a b = refl
@@ -28,16 +28,28 @@ pub said-none : (o : Option Exchange) → option_map (saying []) o ≡ o
 said-none None = refl
 said-none (Some e) = ap (λ (s : List ℕ). Some (record e { said = s })) (append-nil e.said)
 
+-- the fuel and what there is to hear stay
+pub given-said : (o n : Option Exchange) (bytes : List ℕ) → n ≡ option_map (saying bytes) o → given n ≡ given o
+unfolding given
+given-said None n bytes e = ap given e
+given-said (Some x) n bytes e = ap given e
+
+pub given-heard : (o n : Option Exchange) (bytes : List ℕ) → n ≡ option_map (hearing bytes) o → given n ≡ given o
+unfolding given
+given-heard None n bytes e = ap given e
+given-heard (Some x) n [] e = ap given e
+given-heard (Some x) n (b ∷ bs) e = ap given e
+
 -- what is true of what is known stays true
 pub known-after : (o n : Option Exchange) (f : Exchange → Exchange) (P Q : Exchange → Type 0) → n ≡ option_map f o → ((e : Exchange) → P e → Q (f e)) → IfSome o P → IfSome n Q
 known-after None n f P Q e step h = subst (λ (x : Option Exchange). IfSome x Q) (sym e) tt
 known-after (Some x) n f P Q e step h = subst (λ (y : Option Exchange). IfSome y Q) (sym e) (step x h)
 
 pub is-turn : (rest : List ℕ) (e : Exchange) → IsOneLine rest → IsCaughtUp rest e → IsTurn e
-is-turn rest e one h = record { lines = h.lines; part = rest; heard = h.heard; complete = h.complete; one = one; answered = h.answered }
+is-turn rest e one h = record { going = h.going; lines = h.lines; part = rest; heard = h.heard; complete = h.complete; one = one; answered = h.answered }
 
 pub caught-up : (rest more : List ℕ) (e : Exchange) → IsCaughtUp rest e → IsCaughtUp (rest ++ more) (heard_more more e)
-caught-up rest more e h = record { lines = h.lines; heard = ap (λ (l : List ℕ). l ++ more) h.heard ∙ append_assoc h.lines rest more; complete = h.complete; answered = h.answered }
+caught-up rest more e h = record { going = h.going; lines = h.lines; heard = ap (λ (l : List ℕ). l ++ more) h.heard ∙ append_assoc h.lines rest more; complete = h.complete; answered = h.answered }
 
 -- an error leaves what is known of it
 pub on-err : {A E : Type 0} (r : Result A E) (P : Type 0) → P → OnErr r P
@@ -49,7 +61,7 @@ length-take zero xs h = refl
 length-take (suc n) [] h = absurd (omega (arith, h))
 length-take (suc n) (x ∷ xs) h = ap suc (length-take n xs (omega (arith, h)))
 
-taken-some : (count : ℕ) (piece : List ℕ) → (count ≡ 0 → ⊥) → count ≤ length piece → 0 < length (take count piece)
+pub taken-some : (count : ℕ) (piece : List ℕ) → (count ≡ 0 → ⊥) → count ≤ length piece → 0 < length (take count piece)
 taken-some count piece some within = let e = length-take count piece within in grind (arith, some, e)
 
 -- some bytes were read
@@ -72,6 +84,11 @@ hears-more o m n a b c h k = record {
   exchange = k.exchange ∙ (ap (option_map (heard_more k.more)) h.exchange ∙ more-twice o h.more k.more);
   there = k.there ∙ (ap (λ (l : List ℕ). l ++ k.more) h.there ∙ append_assoc a h.more k.more);
 }
+
+-- nothing was said yet
+pub unsaid-begins : (e : Exchange) → e.said ≡ [] → IsBeginning e
+unfolding IsBeginning
+unsaid-begins e none = λ more over. inl none
 
 -- what was said
 pub nothing-said : (o : Option Exchange) (P : List ℕ → Type 0) → P [] → Says o o P

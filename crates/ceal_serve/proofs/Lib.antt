@@ -7,9 +7,11 @@ mod Hearing
 mod HeardLines
 mod Sources
 mod Following
+mod Steps
 mod Opening
 -- words
 mod Asked
 -- and `ceal run`
 mod Places
 mod AsRun
+mod Pieces

@@ -1,5 +1,5 @@
 -- What is said for a source part.
-use Rattle.std.proofs.Common.{◌≡◌, inl, inr, ℕ, ◌<◌, ◌^◌, Bool, true, false, Option, Result, Ok, Err, List, [], ◌++◌, length, refl, sym, ap, ◌∙◌, subst, append-nil, arith}
+use Rattle.std.proofs.Common.{◌≡◌, inl, inr, ℕ, ◌<◌, ◌^◌, Bool, true, false, Option, Result, Ok, Err, List, [], ◌∷◌, ◌++◌, length, refl, sym, ap, ◌∙◌, subst, append_assoc, append-nil, arith}
 use Rattle.std.specs.Prelude.{IfSome, OnErr}
 use Rattle.ceal_base.specs.declared.fault.Fault.{Fault}
 use Rattle.ceal_compile.specs.Compiled.{IsCompiled}
@@ -13,57 +13,118 @@ use Rattle.ceal_session.specs.State.{Situation}
 use Rattle.ceal_cli.specs.Lines.{script_lines}
 use Rattle.ceal_cli.specs.Output.{IsPrefix, Programmed, first_state}
 use Rattle.ceal_serve.specs.Exchange.{Exchange, Says, SaysPrefix, saying}
-use Rattle.ceal_serve.specs.Listening.{IsFaultLineOf, IsHeardSource, IsMarkedSource, IsOpenSource, SourceIs}
+use Rattle.ceal_serve.specs.Listening.{IsFaultLineOf, IsHeardSource, IsMarkedSource, IsOpenSource, OwesFault, SourceIs}
 use Rattle.ceal_serve.specs.Replying.{Follows, IsAt}
-use Rattle.ceal_serve.specs.Turns.{IsHead, IsTurnedAway, IsBeginning, IsDone, IsOver, IsRefused}
+use Rattle.ceal_serve.specs.Turns.{IsHead, IsTurnedAway, IsBeginning, IsDone, IsOver, IsRefused, IsWithinReply}
 use Rattle.ceal_serve.proofs.Following.{begins-there, nothing-served}
-use Rattle.ceal_serve.proofs.Hearing.{known-said, known-same, on-err, prefix-said, said-none}
+use Rattle.ceal_serve.proofs.Hearing.{known-said, known-same, on-err, prefix-said, said-none, unsaid-begins}
 use Rattle.ceal_serve.proofs.Heads.{complete-source, marked-head, open-head}
+use Rattle.ceal_serve.proofs.Marks.{one-mark}
 
 true-is-not : false ≡ true → ⊥
 true-is-not e = absurd (cc e)
 
 -- the line of the first fault was said
 module _ (fuel : ℕ) (text rest line : List ℕ) (small : length text < 2 ^ 32) (fault : IsFaultLineOf text line) (e : Exchange) where
-  away : (ended : Bool) → IsHead ended text rest → e.heard ≡ text ++ rest → IsTurnedAway ended e.heard line
-  away ended head heard = record {
-    parts = record { head = text; script = rest; is_head = head; whole = heard };
+  away : (ended : Bool) (all script : List ℕ) → IsHead ended text script → all ≡ text ++ script → IsTurnedAway ended all line
+  away ended all script head whole = record {
+    parts = record { head = text; script = script; is_head = head; whole = whole };
     fault = fault.0;
     first = fault.1;
     line = fault.2;
   }
 
-  away-whole : (ended : Bool) → IsHead ended text [] → e.heard ≡ text → IsTurnedAway ended e.heard line
-  away-whole ended head heard = record {
-    parts = record { head = text; script = []; is_head = head; whole = heard ∙ sym (append-nil text) };
-    fault = fault.0;
-    first = fault.1;
-    line = fault.2;
-  }
+  open-is : IsOpenSource text → IsHead true text []
+  open-is is = open-head text is (Err fault.0) fault.1
 
   -- by what was heard
-  away-at : (marked : Bool) → SourceIs marked text → IsHeardSource fuel marked text rest e → IsTurnedAway e.ended e.heard line × IsTurnedAway true e.heard line
-  away-at true is h = elim h.heard [
-    | inl k ↦ (away e.ended (marked-head text small is e.ended rest) k.2, away true (marked-head text small is true rest) k.2)
+  away-now : (marked : Bool) → SourceIs marked text → IsHeardSource fuel marked text rest e → IsTurnedAway e.ended e.heard line
+  unfolding open-is
+  away-now true is h = elim h.heard [
+    | inl k ↦ away e.ended e.heard rest (marked-head text small is e.ended rest) k.2
     | inr k ↦ absurd (true-is-not (sym k.0))
   ]
-  away-at false is h = elim h.heard [
+  away-now false is h = elim h.heard [
     | inl k ↦ absurd (true-is-not k.0)
-    | inr k ↦ (let head : IsHead true text [] = open-head text is (Err fault.0) fault.1 in (
-      away-whole e.ended (subst (λ b. IsHead b text []) (sym k.1) head) k.2,
-      away-whole true head k.2,
-    ))
+    | inr k ↦ away e.ended e.heard [] (subst (λ b. IsHead b text []) (sym k.1) (open-is is)) (k.2 ∙ sym (append-nil text))
   ]
 
+  -- and however it continues
+  away-then : (marked : Bool) → SourceIs marked text → IsHeardSource fuel marked text rest e → (more : List ℕ) → (e.ended ≡ true → more ≡ []) → IsTurnedAway true (e.heard ++ more) line
+  unfolding open-is
+  away-then true is h more over = elim h.heard [
+    | inl k ↦ away true (e.heard ++ more) (rest ++ more) (marked-head text small is true (rest ++ more)) (ap (λ (l : List ℕ). l ++ more) k.2 ∙ append_assoc text rest more)
+    | inr k ↦ absurd (true-is-not (sym k.0))
+  ]
+  away-then false is h more over = elim h.heard [
+    | inl k ↦ absurd (true-is-not k.0)
+    | inr k ↦ away true (e.heard ++ more) [] (open-is is) (ap (λ (l : List ℕ). l ++ more) k.2 ∙ ap (λ (l : List ℕ). text ++ l) (over k.1))
+  ]
+
+  -- it is the next reply
+  owed-marked : IsMarkedSource text → IsHeardSource fuel true text rest e → IsWithinReply line e
+  owed-marked is h = elim h.heard [
+    | inl k ↦ (record {
+      before = [];
+      reply = line;
+      is_next = record {
+        lines = is.front;
+        next = is.line ++ 10 ∷ [];
+        after = rest;
+        heard_is = k.2 ∙ (ap (λ (l : List ℕ). l ++ rest) is.whole ∙ append_assoc is.front (is.line ++ 10 ∷ []) rest);
+        complete = is.complete;
+        last = false;
+        is_line = (is.line, one-mark is.line is.mark, refl);
+        over = λ x. absurd (true-is-not x);
+        answered = inl (is.none, refl);
+        replied = inr (subst (λ (t : List ℕ). IsTurnedAway false t line) is.whole (away false text [] (marked-head text small is false []) (sym (append-nil text))));
+      };
+      part = [];
+      said_is = h.unsaid;
+      within = record { rest = []; same = append-nil line };
+    })
+    | inr k ↦ absurd (true-is-not (sym k.0))
+  ]
+
+  owed-open : IsOpenSource text → IsHeardSource fuel false text rest e → IsWithinReply line e
+  unfolding open-is
+  owed-open is h = elim h.heard [
+    | inl k ↦ absurd (true-is-not k.0)
+    | inr k ↦ (record {
+      before = [];
+      reply = line;
+      is_next = record {
+        lines = is.front;
+        next = is.last;
+        after = [];
+        heard_is = k.2 ∙ (is.whole ∙ ap (λ (l : List ℕ). is.front ++ l) (sym (append-nil is.last)));
+        complete = is.complete;
+        last = true;
+        is_line = (is.one, refl);
+        over = λ x. k.1;
+        answered = inl (is.none, refl);
+        replied = inr (subst (λ (t : List ℕ). IsTurnedAway true t line) is.whole (away true text [] (open-is is) (sym (append-nil text))));
+      };
+      part = [];
+      said_is = h.unsaid;
+      within = record { rest = []; same = append-nil line };
+    })
+  ]
+
+  pub fault-owed : (marked : Bool) → SourceIs marked text → IsHeardSource fuel marked text rest e → IsWithinReply line e
+  unfolding owed-marked owed-open
+  fault-owed true is h = owed-marked is h
+  fault-owed false is h = owed-open is h
+
   pub refused-at : (marked : Bool) → SourceIs marked text → IsHeardSource fuel marked text rest e → IsRefused (saying line e)
-  unfolding away-at
+  unfolding away-now
   refused-at marked is h =
-      subst (λ (l : List ℕ). IsTurnedAway e.ended e.heard l) (sym (ap (λ (l : List ℕ). l ++ line) h.unsaid)) (away-at marked is h).0
+      subst (λ (l : List ℕ). IsTurnedAway e.ended e.heard l) (sym (ap (λ (l : List ℕ). l ++ line) h.unsaid)) (away-now marked is h)
 
   pub fault-begins : (marked : Bool) → SourceIs marked text → IsHeardSource fuel marked text rest e → (out : List ℕ) → IsPrefix out line → IsBeginning (saying out e)
-  unfolding away-at
-  fault-begins marked is h out p =
-      inr (line, inr (away-at marked is h).1, record { rest = p.rest; same = ap (λ (l : List ℕ). (l ++ out) ++ p.rest) h.unsaid ∙ p.same })
+  unfolding IsBeginning away-then
+  fault-begins marked is h out p = λ more over.
+      inr (line, inr (away-then marked is h more over), record { rest = p.rest; same = ap (λ (l : List ℕ). (l ++ out) ++ p.rest) h.unsaid ∙ p.same })
 
 -- an accepted source part without more is served
 module _ (fuel : ℕ) (text rest : List ℕ) (e : Exchange) (p : Program) (reads : IsProgram text p.typed) (compiled : IsCompiled p) where
@@ -96,8 +157,17 @@ module _ (fuel : ℕ) (text rest : List ℕ) (e : Exchange) (p : Program) (reads
     | inl k ↦ (let f : Follows fuel text [] (situation_at_start p fuel) = begins-there begins p fuel text (marked-head text small is false []) (complete-source text small is) reads compiled in
         let g : Follows e.fuel text [] (situation_at_start p fuel) = subst (λ n. Follows n text [] (situation_at_start p fuel)) (sym h.fuel_is) f in
         let i : Follows e.fuel text e.said (situation_at_start p fuel) = subst (λ (l : List ℕ). Follows e.fuel text l (situation_at_start p fuel)) (sym h.unsaid) g in
-        record { text = text; heard = k.2; follows = subst (λ s. Follows e.fuel text e.said s) (sym same) i })
+        record { text = text; heard = k.2; going = k.1; follows = subst (λ s. Follows e.fuel text e.said s) (sym same) i })
   ]
+
+-- nothing was said yet
+pub heard-begins : (fuel : ℕ) (marked : Bool) (text rest : List ℕ) (o : Option Exchange) → IfSome o (IsHeardSource fuel marked text rest) → IfSome o IsBeginning
+heard-begins fuel marked text rest o h =
+    known-same o o (IsHeardSource fuel marked text rest) IsBeginning refl (λ e k. unsaid-begins e k.unsaid) h
+
+pub fault-step : (o : Option Exchange) (source line : List ℕ) → IsFaultLineOf source line → IfSome o (OwesFault source) → IfSome o (IsWithinReply line)
+unfolding OwesFault
+fault-step o source line fault h = known-same o o (OwesFault source) (IsWithinReply line) refl (λ e w. w line fault) h
 
 -- nothing of the line was said
 pub none-of-it : {A E : Type 0} (r : Result A E) (o : Option Exchange) (source : List ℕ) (fault : Fault) → IsFirstFault source fault
@@ -121,6 +191,11 @@ module _ (fuel : ℕ) (marked : Bool) (text rest : List ℕ) (o : Option Exchang
     pub refused-known : Says o n (IsFaultLineOf text) → IfSome n (IsOver false)
     refused-known said =
         known-said o n (IsFaultLineOf text) (IsHeardSource fuel marked text rest) (IsOver false) said (λ line e p k. refused-at fuel text rest line small p e marked is k) h
+
+    pub owes-fault : IfSome o (OwesFault text)
+    unfolding OwesFault fault-owed
+    owes-fault =
+        known-same o o (IsHeardSource fuel marked text rest) (OwesFault text) refl (λ e k. λ line fault. fault-owed fuel text rest line small fault e marked is k) h
 
     pub whole-begins : Says o n (IsFaultLineOf text) → IfSome n IsBeginning
     whole-begins said =

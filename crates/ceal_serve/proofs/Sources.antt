@@ -1,14 +1,15 @@
 -- The source part, line after line.
 use Rattle.std.proofs.Common.{◌≡◌, inl, inr, ℕ, ◌+◌, ◌-◌, Bool, true, false, IsTrue, ◌↔◌, take, drop}
-use Rattle.std.proofs.Common.{Option, List, [], ◌∷◌, ◌++◌, length, option_map, refl, sym, ap, ◌∙◌, subst}
+use Rattle.std.proofs.Common.{Option, Result, List, [], ◌∷◌, ◌++◌, length, option_map, refl, sym, ap, ◌∙◌, subst}
 use Rattle.std.proofs.Common.{append_assoc}
-use Rattle.std.specs.Prelude.{IfSome}
+use Rattle.std.specs.Prelude.{IfSome, OnErr}
 use Rattle.ceal_lex.specs.Parts.{IsBeforeLine, IsMark}
 use Rattle.ceal_serve.specs.Exchange.{Exchange}
-use Rattle.ceal_serve.specs.Listening.{IsListening, IsHeardSource, Hears, HearsEnd, HasLine, TakesLine, heard_end, heard_more}
-use Rattle.ceal_serve.specs.Turns.{HasNoMark, IsLong, IsTooLong, LIMIT}
+use Rattle.ceal_serve.specs.Listening.{IsCaughtUp, IsListening, IsHeardSource, Hears, HearsEnd, HearsSome, HasLine, TakesLine}
+use Rattle.ceal_serve.specs.Listening.{heard_end, heard_more}
+use Rattle.ceal_serve.specs.Turns.{HasNoMark, IsBeginning, IsLong, IsTooLong, LIMIT}
 use Rattle.ceal_serve.proofs.Following.{take-line, drop-line}
-use Rattle.ceal_serve.proofs.Hearing.{known-after, known-same}
+use Rattle.ceal_serve.proofs.Hearing.{known-after, known-same, on-err, unsaid-begins}
 use Rattle.ceal_serve.proofs.Marks.{no-mark-more}
 
 pub listening-more : (fuel : ℕ) (text before after : List ℕ) (o n : Option Exchange) → Hears o n before after → IfSome o (IsListening fuel text before) → IfSome n (IsListening fuel text after)
@@ -19,6 +20,27 @@ listening-more fuel text before after o n h k =
       going = b.going;
       unsaid = b.unsaid;
     }) k
+
+pub listening-caught-up : (fuel : ℕ) (text rest : List ℕ) (o : Option Exchange) → HasNoMark text → IsBeforeLine text → IfSome o (IsListening fuel text rest) → IfSome o (IsCaughtUp rest)
+listening-caught-up fuel text rest o none complete k =
+    known-same o o (IsListening fuel text rest) (IsCaughtUp rest) refl
+    (λ e b. record { going = b.going; lines = text; heard = b.heard; complete = complete; answered = inl (none, b.unsaid) }) k
+
+-- nothing was said yet, however much more was heard
+module _ {A E : Type 0} (r : Result A E) (fuel : ℕ) (text before : List ℕ) (o n : Option Exchange) (k : IfSome o (IsListening fuel text before)) where
+  pub some-begins : HearsSome o n → OnErr r (IfSome n IsBeginning)
+  some-begins (more, h) =
+      on-err r (IfSome n IsBeginning) (known-after o n (heard_more more) (IsListening fuel text before) IsBeginning h (λ e b. unsaid-begins (heard_more more e) b.unsaid) k)
+
+  pub line-begins : (after : List ℕ) → Hears o n before after → OnErr r (IfSome n IsBeginning)
+  line-begins after h = some-begins (h.more, h.exchange)
+
+  pub end-begins : (after : List ℕ) → HearsEnd o n before after → OnErr r (IfSome n IsBeginning)
+  end-begins after h =
+      on-err r (IfSome n IsBeginning)
+      (known-after (option_map (heard_more h.more) o) n heard_end (IsListening fuel text after) IsBeginning h.exchange
+      (λ e b. unsaid-begins (heard_end e) b.unsaid)
+      (listening-more fuel text before after o (option_map (heard_more h.more) o) (record { more = h.more; exchange = refl; there = h.there }) k))
 
 -- a line was taken to the text
 pub listening-taken : (fuel : ℕ) (old new lines rest : List ℕ) (marked : Bool) (o : Option Exchange)

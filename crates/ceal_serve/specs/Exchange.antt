@@ -1,13 +1,30 @@
 -- What a conversation has come to.
-use Rattle.std.specs.Prelude.{◌≡◌, ◌≤◌, ℕ, Bool, true, false, List, [], ◌∷◌, ◌++◌, Option, Result, MatchResult}
-use Rattle.std.specs.Prelude.{option_map, take, length}
+use Rattle.std.specs.Prelude.{◌≡◌, ◌≤◌, ℕ, Bool, true, false, List, [], ◌∷◌, ◌++◌, Option, Some, None, Result}
+use Rattle.std.specs.Prelude.{MatchResult, option_map, take, length}
 
--- How many steps a run may take in it, what was heard so far, whether its end was heard, and what was said so far.
+-- How many steps a run may take in it, all that there is to hear, what was heard so far, whether its end was heard, and
+-- what was said so far.
 pub record Exchange : Type 0 where
   pub fuel : ℕ
+  pub input : List ℕ
   pub heard : List ℕ
   pub ended : Bool
   pub said : List ℕ
+
+-- what stays as it was, whatever is heard and said
+pub record Given : Type 0 where
+  pub fuel : ℕ
+  pub input : List ℕ
+
+unfoldable pub given : Option Exchange → Option Given
+given None = None
+given (Some e) = Some (record { fuel = e.fuel; input = e.input })
+
+-- What was heard begins what there is to hear, and is all of it once the end was heard.
+pub record IsWithin (e : Exchange) : Type 0 where
+  pub left : List ℕ
+  pub whole : e.heard ++ left ≡ e.input
+  pub all : e.ended ≡ true → left ≡ []
 
 -- how many reads have failed, and how many writes
 pub record FaultCounts : Type 0 where
@@ -37,6 +54,10 @@ pub record IsBegun (fuel : ℕ) (e : Exchange) : Type 0 where
   pub unheard : e.heard ≡ []
   pub going : e.ended ≡ false
   pub unsaid : e.said ≡ []
+
+-- a conversation in which nothing was heard or said yet
+abbrev pub at_beginning : ℕ → List ℕ → Exchange
+at_beginning fuel input = record { fuel = fuel; input = input; heard = []; ended = false; said = [] }
 
 -- a text of this sort was said
 abbrev pub Says : Option Exchange → Option Exchange → (List ℕ → Type 0) → Type 0

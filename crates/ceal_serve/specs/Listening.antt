@@ -7,10 +7,11 @@ use Rattle.ceal_compile.specs.Source.{IsFirstFault}
 use Rattle.ceal_lex.specs.Characters.{LINE_FEED}
 use Rattle.ceal_lex.specs.Parts.{IsBeforeLine, IsMark}
 use Rattle.ceal_serve.specs.Exchange.{Exchange}
-use Rattle.ceal_serve.specs.Turns.{HasNoMark, IsAnswered, IsOneLine}
+use Rattle.ceal_serve.specs.Turns.{HasNoMark, IsAnswered, IsOneLine, IsWithinReply}
 
--- To the lines that were taken all was said, and the rest was heard after them.
+-- To the lines that were taken all was said, and the rest was heard after them, and not yet the end.
 pub record IsCaughtUp (rest : List ℕ) (e : Exchange) : Type 0 where
+  pub going : e.ended ≡ false
   pub lines : List ℕ
   pub heard : e.heard ≡ lines ++ rest
   pub complete : IsBeforeLine lines
@@ -107,3 +108,7 @@ pub record IsHeardSource (fuel : ℕ) (marked : Bool) (text rest : List ℕ) (e 
 -- the line of the first fault
 abbrev pub IsFaultLineOf : List ℕ → List ℕ → Type 0
 IsFaultLineOf source line = (fault : Fault) × IsFirstFault source fault × (line ≡ fault_line source fault)
+
+-- Such a line is the next reply, of which nothing was said yet.
+unfoldable pub OwesFault : List ℕ → Exchange → Type 0
+OwesFault source e = (line : List ℕ) → IsFaultLineOf source line → IsWithinReply line e

@@ -8,7 +8,7 @@ use Rattle.ceal_lex.specs.Parts.{IsBeforeLine, IsSplit, HasMark}
 use Rattle.ceal_lex.specs.declared.parts.Split.{Split}
 use Rattle.ceal_session.specs.Replies.{IsReplied}
 use Rattle.ceal_cli.specs.Lines.{script_of, script_lines}
-use Rattle.ceal_cli.specs.Output.{Begins, Programmed, first_state}
+use Rattle.ceal_cli.specs.Output.{Begins, IsPrefix, Programmed, first_state}
 use Rattle.ceal_serve.specs.Exchange.{Exchange}
 
 -- The head of a text is its source part with the line `%%`. Where the text has ended, it may have no such line, or one
@@ -52,8 +52,10 @@ abbrev pub IsOneLine : List ℕ → Type 0
 IsOneLine [] = Unit {0}
 IsOneLine (b ∷ bs) = (b ≢ LINE_FEED) × IsOneLine bs
 
--- More may be asked for: what was heard is complete lines, to which all was said, and the beginning of one more line.
+-- More may be asked for: the end was not heard yet, and what was heard is complete lines, to which all was said,
+-- and the beginning of one more line.
 pub record IsTurn (e : Exchange) : Type 0 where
+  pub going : e.ended ≡ false
   pub lines : List ℕ
   pub part : List ℕ
   pub heard : e.heard ≡ lines ++ part
@@ -74,13 +76,49 @@ abbrev pub IsOver : Bool → Exchange → Type 0
 IsOver true e = IsDone e
 IsOver false e = IsRefused e
 
--- what is said for a text that has ended
-abbrev pub IsSaidFor : ℕ → List ℕ → List ℕ → Type 0
-IsSaidFor fuel text said = IsServed fuel true text said ⊎ IsTurnedAway true text said
+-- all that is said for a text, which has ended or will continue with the script
+abbrev pub IsAllSaid : Bool → ℕ → List ℕ → List ℕ → Type 0
+IsAllSaid ended fuel text said = IsServed fuel ended text said ⊎ IsTurnedAway ended text said
 
--- What was said begins all that is said for what was heard.
-abbrev pub IsBeginning : Exchange → Type 0
-IsBeginning e = Begins (IsSaidFor e.fuel e.heard) e.said
+-- of one that has ended
+abbrev pub IsSaidFor : ℕ → List ℕ → List ℕ → Type 0
+IsSaidFor fuel text said = IsAllSaid true fuel text said
+
+-- This is one line with its line feed; or it is the last one, and nothing is after it.
+abbrev pub IsNextLine : Bool → List ℕ → List ℕ → Type 0
+IsNextLine false next after = (line : List ℕ) × IsOneLine line × (next ≡ line ++ LINE_FEED ∷ [])
+IsNextLine true next after = IsOneLine next × (after ≡ [])
+
+-- To complete lines this is all that there is to say, and this is the reply to the next one: to a line that was heard
+-- with its line feed, or to the last one, if the end was heard. Of a source part that is not accepted the reply is the
+-- line of its fault.
+pub record IsNextReply (fuel : ℕ) (heard : List ℕ) (ended : Bool) (before reply : List ℕ) : Type 0 where
+  pub lines : List ℕ
+  pub next : List ℕ
+  pub after : List ℕ
+  pub heard_is : heard ≡ lines ++ (next ++ after)
+  pub complete : IsBeforeLine lines
+  pub last : Bool
+  pub is_line : IsNextLine last next after
+  pub over : last ≡ true → ended ≡ true
+  pub answered : IsAnswered fuel lines before
+  pub replied : IsAllSaid last fuel (lines ++ next) (before ++ reply)
+
+-- What was said is all that there was to say before the next reply, and a part of that; the bytes continue that part,
+-- and end within it.
+pub record IsWithinReply (bytes : List ℕ) (e : Exchange) : Type 0 where
+  pub before : List ℕ
+  pub reply : List ℕ
+  pub is_next : IsNextReply e.fuel e.heard e.ended before reply
+  pub part : List ℕ
+  pub said_is : e.said ≡ before ++ part
+  pub within : IsPrefix (part ++ bytes) reply
+
+-- However what was heard continues, what was said begins all that is said for the whole; once the end was heard, it
+-- continues with nothing.
+unfoldable pub IsBeginning : Exchange → Type 0
+IsBeginning e =
+    (more : List ℕ) → (e.ended ≡ true → more ≡ []) → Begins (IsSaidFor e.fuel (e.heard ++ more)) e.said
 
 -- the most bytes that a source part has with its mark, and a line with its line feed
 abbrev pub LIMIT : ℕ

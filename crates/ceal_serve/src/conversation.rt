@@ -4,8 +4,8 @@ ghost use Rattle.std.specs.Prelude.{◌≡◌, ◌<◌, ◌≤◌, ℕ, Option, 
 ghost use Rattle.std.specs.Prelude.{option_map};
 ghost use Rattle.std.specs.Io.{ReadsAtMost, WritesAtMost};
 ghost use Rattle.ceal_io.specs.Streams.{Rose};
-ghost use Rattle.ceal_serve.specs.Exchange.{Exchange, ReadHears, WriteSays, SaysPrefix, saying};
-ghost use Rattle.ceal_serve.specs.Turns.{IsTurn};
+ghost use Rattle.ceal_serve.specs.Exchange.{Exchange, ReadHears, WriteSays, SaysPrefix, given, saying};
+ghost use Rattle.ceal_serve.specs.Turns.{IsTurn, IsWithinReply};
 
 use ceal_io::{Failed, Sink, Source, Stopped};
 use std::marker::Model;
@@ -34,8 +34,9 @@ pub trait Conversation {
         ensures writes { write_faults self.new ≡ write_faults self.old };
 
     /// Writes bytes from the front of a slice, at least one where there is one, and answers how many. A write that
-    /// stopped said nothing.
+    /// stopped said nothing. The bytes are of one reply, and all was said that comes before it.
     fn write(&mut self, bytes: &[u8]) -> Result<usize, Stopped>
+        requires step { IfSome (exchange self.old) (IsWithinReply bytes.now) }
         ensures bound { WritesAtMost result bytes.now }
         ensures some { IfOk result (λ n. 0 < length bytes.now → 0 < n) }
         ensures said { WriteSays (exchange self.old) (exchange self.new) result bytes.now }
@@ -85,8 +86,9 @@ impl<S: Source, K: Sink> Conversation for Streams<S, K> {
     }
 }
 
-/// Says all the bytes. Where a write stops, those before it have been said.
+/// Says all the bytes, which are of one reply. Where a write stops, those before it have been said.
 pub fn say<C: Conversation>(talk: &mut C, bytes: &[u8]) -> Result<(), Stopped>
+    requires step { IfSome (C.exchange talk.old) (IsWithinReply bytes.now) }
     ensures all { OnOk result
         (C.exchange talk.new ≡ option_map (saying bytes.now) (C.exchange talk.old)) }
     ensures prefix { SaysPrefix (C.exchange talk.old) (C.exchange talk.new) bytes.now }
@@ -94,6 +96,7 @@ pub fn say<C: Conversation>(talk: &mut C, bytes: &[u8]) -> Result<(), Stopped>
         → Rose (C.write_faults talk.old) (C.write_faults talk.new) }
     ensures later { C.write_faults talk.old ≤ C.write_faults talk.new }
     ensures reads { C.read_faults talk.new ≡ C.read_faults talk.old }
+    ensures given { given (C.exchange talk.new) ≡ given (C.exchange talk.old) }
 {
     let mut done = 0;
     while done < bytes.len() {

@@ -2,6 +2,7 @@
 
 ghost use Rattle.std.specs.Prelude.{◌≡◌, ◌+◌, ◌-◌, ◌<◌, ◌≤◌, ◌==◌, ◌++◌, [], Some, Ok, Err, length, drop, position};
 ghost use Rattle.std.specs.Prelude.{vec_len, IfSome, IfOk, IfErr, IsErrOf, MatchOption, OnOk, OnErr};
+ghost use Rattle.ceal_serve.specs.Exchange.{given};
 ghost use Rattle.ceal_serve.specs.Listening.{IsCaughtUp, Hears, HearsMore, HearsEnd, HearsLine, HearsSome, HasLine};
 ghost use Rattle.ceal_serve.specs.Troubles.{IsCounted};
 ghost use Rattle.ceal_serve.specs.Turns.{IsLong, IsOneLine, IsTurn};
@@ -34,12 +35,15 @@ impl Model for Lines {
     ghost invariant = { λ s. (s.from ≤ vec_len s.bytes) × (vec_len s.bytes ≤ 4198400) };
 }
 
-// Removes the first bytes.
+// Removes the first bytes. Where there are none to remove, those of a long line are not moved.
 fn remove_front(bytes: &mut Vec<u8>, count: usize)
     requires { count ≤ vec_len bytes.old }
     ensures items { bytes.new.items ≡ drop count bytes.old.items }
     ensures len { vec_len bytes.new ≡ vec_len bytes.old - count }
 {
+    if count == 0 {
+        return;
+    }
     let len = bytes.len();
     bytes.as_mut_slice().copy_within(count..len, 0);
     bytes.truncate(len - count);
@@ -123,6 +127,7 @@ impl Lines {
         ensures short { ¬ IsErrOf result Trouble.TooLong }
         ensures counted { IsCounted result (C.read_faults talk.old) (C.read_faults talk.new)
             (C.write_faults talk.old) (C.write_faults talk.new) }
+        ensures given { given (C.exchange talk.new) ≡ given (C.exchange talk.old) }
     {
         let mut piece = [0u8; PIECE];
         let count = talk.read(&mut piece)?;
@@ -151,6 +156,7 @@ impl Lines {
         ensures lost { OnErr result (HearsSome (C.exchange talk.old) (C.exchange talk.new)) }
         ensures counted { IsCounted result (C.read_faults talk.old) (C.read_faults talk.new)
             (C.write_faults talk.old) (C.write_faults talk.new) }
+        ensures given { given (C.exchange talk.new) ≡ given (C.exchange talk.old) }
     {
         while self.rest().len() <= limit {
             let Some(before) = self.hear(talk)? else {
@@ -180,6 +186,7 @@ impl Lines {
         ensures lost { OnErr result (HearsSome (C.exchange talk.old) (C.exchange talk.new)) }
         ensures counted { IsCounted result (C.read_faults talk.old) (C.read_faults talk.new)
             (C.write_faults talk.old) (C.write_faults talk.new) }
+        ensures given { given (C.exchange talk.new) ≡ given (C.exchange talk.old) }
     {
         match line_end(self.rest()) {
             Some(at) => within(at, limit),

@@ -5,6 +5,7 @@ mod conversation;
 mod laws;
 mod lines;
 mod replies;
+mod scripted;
 mod serve;
 mod source;
 mod top;
@@ -15,6 +16,7 @@ use crate::top::{serve_main, status_line};
 use ceal_cli::{Status, status_number};
 use ceal_io::{StdSink, StdSource};
 use std::process::ExitCode;
+use std::random::RandomSource;
 use std::{env, io};
 
 fn main(rt: HostRuntime) -> ExitCode {
@@ -38,5 +40,14 @@ fn run(rt: &HostRuntime) -> Status {
     let source = StdSource::new(rt.reader());
     let sink = StdSink::new(io::writer(rt));
     let mut talk = Streams::new(source, sink);
-    serve_main(rt.alloc(), words, &mut talk)
+    serve_main(rt.alloc(), words, salt(rt), &mut talk)
+}
+
+// Random bytes of the system, if it gives any.
+fn salt(rt: &HostRuntime) -> Option<[u8; 32]> {
+    let mut bytes = [0; 32];
+    match rt.fill_bytes(&mut bytes) {
+        Ok(()) => Some(bytes),
+        Err(_) => None,
+    }
 }

@@ -4,9 +4,9 @@ ghost use Rattle.std.specs.Prelude.{◌≡◌, IfSome, OnOk, OnErr, IsErrOf, if�
 ghost use Rattle.ceal_session.specs.SessionState.{situation};
 ghost use Rattle.ceal_cli.specs.Lines.{without_return as no_return};
 ghost use Rattle.ceal_cli.specs.ServedLines.{BeginsReply, IsReply};
-ghost use Rattle.ceal_serve.specs.Exchange.{Says};
+ghost use Rattle.ceal_serve.specs.Exchange.{Says, given};
 ghost use Rattle.ceal_serve.specs.Listening.{HasLine};
-ghost use Rattle.ceal_serve.specs.Replying.{IsAt, IsLast};
+ghost use Rattle.ceal_serve.specs.Replying.{IsAt, IsLast, Owes};
 ghost use Rattle.ceal_serve.specs.Troubles.{IsCounted};
 ghost use Rattle.ceal_serve.specs.Turns.{IsBeginning, IsDone, IsOneLine, IsTooLong};
 
@@ -28,6 +28,7 @@ fn without_return(piece: &[u8]) -> &[u8]
 
 // Replies to a line.
 fn reply<C: Conversation>(session: &mut Session, line: &[u8], talk: &mut C) -> Result<(), Trouble>
+    requires owed { IfSome (C.exchange talk.old) (Owes (situation session.old) line.now) }
     ensures all { OnOk result (Says (C.exchange talk.old) (C.exchange talk.new)
         (IsReply (situation session.old) line.now (situation session.new))) }
     ensures part { Says (C.exchange talk.old) (C.exchange talk.new)
@@ -35,6 +36,7 @@ fn reply<C: Conversation>(session: &mut Session, line: &[u8], talk: &mut C) -> R
     ensures short { ¬ IsErrOf result Trouble.TooLong }
     ensures counted { IsCounted result (C.read_faults talk.old) (C.read_faults talk.new)
         (C.write_faults talk.old) (C.write_faults talk.new) }
+    ensures given { given (C.exchange talk.new) ≡ given (C.exchange talk.old) }
 {
     let answer = session.answer(line)?;
     say(talk, answer.items())?;
@@ -56,6 +58,7 @@ fn reply_first<C: Conversation>(
     ensures short { ¬ IsErrOf result Trouble.TooLong }
     ensures counted { IsCounted result (C.read_faults talk.old) (C.read_faults talk.new)
         (C.write_faults talk.old) (C.write_faults talk.new) }
+    ensures given { given (C.exchange talk.new) ≡ given (C.exchange talk.old) }
 {
     // for the proof: a session keeps to its situation, in which each line has a reply
     kept_line();
@@ -78,6 +81,7 @@ fn reply_last<C: Conversation>(
     ensures short { ¬ IsErrOf result Trouble.TooLong }
     ensures counted { IsCounted result (C.read_faults talk.old) (C.read_faults talk.new)
         (C.write_faults talk.old) (C.write_faults talk.new) }
+    ensures given { given (C.exchange talk.new) ≡ given (C.exchange talk.old) }
 {
     // for the proof: a session keeps to its situation, in which each line has a reply
     kept_line();
@@ -98,6 +102,7 @@ pub fn reply_all<C: Conversation>(
     ensures long { IsErrOf result Trouble.TooLong → IfSome (C.exchange talk.new) IsTooLong }
     ensures counted { IsCounted result (C.read_faults talk.old) (C.read_faults talk.new)
         (C.write_faults talk.old) (C.write_faults talk.new) }
+    ensures given { given (C.exchange talk.new) ≡ given (C.exchange talk.old) }
 {
     // for the proof: in each situation each line has a reply
     some_reply();

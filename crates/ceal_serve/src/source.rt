@@ -4,8 +4,8 @@ ghost use Rattle.std.specs.Prelude.{◌≡◌, ◌≤◌, ◌<◌, ◌+◌, ◌�
 ghost use Rattle.std.specs.Prelude.{OnErr, IsErrOf};
 ghost use Rattle.ceal_compile.specs.Source.{IsFirstFault};
 ghost use Rattle.ceal_lex.specs.Parts.{IsMark};
-ghost use Rattle.ceal_serve.specs.Exchange.{IsBegun, SaysPrefix, Says};
-ghost use Rattle.ceal_serve.specs.Listening.{HasLine, IsFaultLineOf, IsHeardSource, SourceIs, TakesLine};
+ghost use Rattle.ceal_serve.specs.Exchange.{IsBegun, SaysPrefix, Says, given};
+ghost use Rattle.ceal_serve.specs.Listening.{HasLine, IsFaultLineOf, IsHeardSource, OwesFault, SourceIs, TakesLine};
 ghost use Rattle.ceal_serve.specs.Troubles.{IsCounted};
 ghost use Rattle.ceal_serve.specs.Turns.{IsBeginning, IsTooLong};
 
@@ -64,6 +64,7 @@ pub fn hear_source<C: Conversation>(
     ensures long { IsErrOf result Trouble.TooLong → IfSome (C.exchange talk.new) IsTooLong }
     ensures counted { IsCounted result (C.read_faults talk.old) (C.read_faults talk.new)
         (C.write_faults talk.old) (C.write_faults talk.new) }
+    ensures given { given (C.exchange talk.new) ≡ given (C.exchange talk.old) }
 {
     let mut text = Vec::new(alloc);
     loop {
@@ -89,6 +90,7 @@ pub fn refuse<C: Conversation>(
     talk: &mut C,
 ) -> Result<(), Trouble>
     requires first { IsFirstFault source.now fault }
+    requires owed { IfSome (C.exchange talk.old) (OwesFault source.now) }
     ensures all { OnOk result
         (Says (C.exchange talk.old) (C.exchange talk.new) (IsFaultLineOf source.now)) }
     ensures part { OnErr result ((line : List ℕ) × IsFaultLineOf source.now line
@@ -96,6 +98,7 @@ pub fn refuse<C: Conversation>(
     ensures short { ¬ IsErrOf result Trouble.TooLong }
     ensures counted { IsCounted result (C.read_faults talk.old) (C.read_faults talk.new)
         (C.write_faults talk.old) (C.write_faults talk.new) }
+    ensures given { given (C.exchange talk.new) ≡ given (C.exchange talk.old) }
 {
     let line = fault_line(alloc, source, fault)?;
     say(talk, line.items())?;

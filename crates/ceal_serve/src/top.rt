@@ -6,12 +6,12 @@ ghost use Rattle.ceal_cli.specs.declared.top.Status.TheVariants.{Done, Refused, 
 ghost use Rattle.ceal_cli.specs.declared.top.Status.TheVariants.{WriteFault};
 ghost use Rattle.ceal_cli.specs.declared.words.Mode.TheVariants.{Run};
 ghost use Rattle.ceal_io.specs.Streams.{Rose};
-ghost use Rattle.ceal_serve.specs.Exchange.{IsBegun};
+ghost use Rattle.ceal_serve.specs.Exchange.{IsBegun, given};
 ghost use Rattle.ceal_serve.specs.Turns.{IsBeginning, IsDone, IsRefused, IsTooLong};
 ghost use Rattle.ceal_serve.specs.Words.{AskToServe, AskForNothing, status_text};
 
 use crate::conversation::Conversation;
-use crate::serve::serve;
+use crate::serve::{Terms, serve};
 use ceal_base::no_memory::NoMemory;
 use ceal_cli::{Mode, Status, asked_mode};
 use std::alloc::Global;
@@ -48,8 +48,14 @@ fn asked_fuel(alloc: Global, words: Vec<String>) -> Result<Option<u32>, NoMemory
     }
 }
 
-/// Does all that the program does. `words` are those after the program's name. Nothing is heard before they are read.
-pub fn serve_main<C: Conversation>(alloc: Global, words: Vec<String>, talk: &mut C) -> Status
+/// Does all that the program does. `words` are those after the program's name, and hashes begin with `salt`, whatever
+/// it is. Nothing is heard before the words are read.
+pub fn serve_main<C: Conversation>(
+    alloc: Global,
+    words: Vec<String>,
+    salt: Option<[u8; 32]>,
+    talk: &mut C,
+) -> Status
     requires begun { IfSome (C.exchange talk.old)
         (λ e. (fuel : ℕ) → AskToServe (texts words) fuel → IsBegun fuel e) }
     // Where all went well, the conversation is over, and all was said for what was heard.
@@ -69,9 +75,10 @@ pub fn serve_main<C: Conversation>(alloc: Global, words: Vec<String>, talk: &mut
     ensures undefined { AskForNothing (texts words) → (result ≡ Usage) ⊎ (result ≡ Memory) }
     ensures untouched { AskForNothing (texts words)
         → C.exchange talk.new ≡ C.exchange talk.old }
+    ensures given { given (C.exchange talk.new) ≡ given (C.exchange talk.old) }
 {
     match asked_fuel(alloc, words) {
-        Ok(Some(fuel)) => serve(alloc, fuel, talk),
+        Ok(Some(fuel)) => serve(alloc, &Terms { fuel, salt }, talk),
         Ok(None) => Status::Usage,
         Err(NoMemory) => Status::Memory,
     }

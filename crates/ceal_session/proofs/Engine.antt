@@ -6,5 +6,6 @@ pub mod EngineRunIsSource
 pub mod EngineKeepsPast
 pub mod RunLeavesPast
 pub mod WorkWithinBound
+pub mod CostOfUpdate
 pub mod CostOfFirstTraces
 pub mod RecordOfTrace

@@ -3,3 +3,5 @@ pub mod StateAfterRun
 pub mod StateAfterEdit
 pub mod SessionTrace
 pub mod FirstState
+pub mod PlacesOfInputs
+pub mod StateAfterMark

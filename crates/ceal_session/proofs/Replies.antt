@@ -13,3 +13,6 @@ pub mod BoundedReplies
 pub mod KeptBound
 pub mod NumberAsPrinted
 pub mod HandleStays
+pub mod EditsKeep
+pub mod StandsAfter
+pub mod FramedReplies

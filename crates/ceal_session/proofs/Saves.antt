@@ -2,3 +2,4 @@
 pub mod SaveOfSession
 pub mod SaveThatHolds
 pub mod ResumedReplies
+pub mod SavedAgain

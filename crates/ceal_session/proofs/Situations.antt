@@ -2,3 +2,5 @@
 pub mod SituationFollowsSession
 pub mod AlikeReplies
 pub mod StrangerReplies
+pub mod SlicesOfWhole
+pub mod PartsOfRepair

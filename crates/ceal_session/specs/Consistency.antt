@@ -82,3 +82,7 @@ pub record IsIn (session m : Situation) : Type 0 where
   pub bound : session.bound ≡ m.bound
   pub sound : IsConsistent m
   pub past : IsSamePast m.code m.state.inputs m.state.call m.past session.past
+
+-- There is a situation that the session is in.
+abbrev pub IsInSome : Situation → Type 0
+IsInSome session = (m : Situation) × IsIn session m

@@ -1,17 +1,22 @@
 -- Laws of replies.
-use Rattle.std.specs.Prelude.{◌≡◌, ℕ, Bool, Option, Ok, List, ◌++◌}
+use Rattle.std.specs.Prelude.{◌≡◌, ℕ, ℤ, Bool, Option, Ok, List, ◌++◌}
 use Rattle.ceal_base.specs.declared.call.Call.{Call}
 use Rattle.ceal_base.specs.declared.word.Place.{Place}
+use Rattle.ceal_base.specs.declared.word.Word.TheVariants.{Num}
 use Rattle.ceal_compile.specs.Compiled.{IsCompiled}
 use Rattle.ceal_compile.specs.declared.program.Program.{Program}
 use Rattle.ceal_script.specs.declared.command.Command.{Command}
 use Rattle.ceal_theory.specs.Pasts.{goes}
 use Rattle.ceal_session.specs.Questions.{IsCellOf}
-use Rattle.ceal_session.specs.AfterLine.{situation_at_start, IsAfterLine, situation_out_of_fuel}
+use Rattle.ceal_session.specs.AfterLine.{situation_at_start, IsAfterLine, KeepsRuns, situation_out_of_fuel}
 use Rattle.ceal_session.specs.Replies.{Reads, Answers, Replies, Leads}
 use Rattle.ceal_session.specs.Consistency.{IsConsistent, IsIn}
 use Rattle.ceal_session.specs.State.{State, Situation, Numbers, numbers_in}
-use Rattle.ceal_session.specs.Steps.{call_of}
+use Rattle.ceal_session.specs.Steps.{call_of, step_of_set}
+use Rattle.ceal_session.specs.Values.{sense_of_handle}
+use Rattle.ceal_session.specs.declared.handle.Handle.{Handle}
+use Rattle.ceal_session.specs.declared.reply.Reply.TheVariants as reply
+use Rattle.ceal_session.specs.declared.sense.Sense.TheVariants.{Word as IsWord}
 
 -- A line is one command's at most.
 abbrev pub OneCommandLaw : Type 0
@@ -92,4 +97,28 @@ DroppedLaw =
 abbrev pub KeptHandleLaw : Type 0
 KeptHandleLaw =
     (m n : Situation) (line text : List ℕ) (p : Place) → IsConsistent m → Replies m line text n → IsCellOf m.state p
+    → IsCellOf n.state p
+
+-- Another base for the modifiable of a handle leads from one situation to the next. It is that of a line `set`, which
+-- runs nothing.
+pub record Edits (m : Situation) (h : Handle) (number : ℤ) (n : Situation) : Type 0 where
+  pub set : record { reply = reply.Ok; state = n.state }
+      ≡ step_of_set m.state (sense_of_handle m.state h) (IsWord (Num number))
+  pub keeps : KeepsRuns m n
+
+-- The edit leads from the situation to one that the session is in.
+pub record EditsIn (m : Situation) (h : Handle) (number : ℤ) (session : Situation) : Type 0 where
+  pub next : Situation
+  pub edits : Edits m h number next
+  pub is_in : IsIn session next
+
+-- So it is with each edit of a session that is in a situation.
+abbrev pub KeptEditLaw : Type 0
+KeptEditLaw =
+    (old new m : Situation) (h : Handle) (number : ℤ) → IsIn old m → Edits old h number new → EditsIn m h number new
+
+-- A modifiable stays one after such an edit, too.
+abbrev pub KeptByEditLaw : Type 0
+KeptByEditLaw =
+    (m n : Situation) (h : Handle) (number : ℤ) (p : Place) → IsConsistent m → Edits m h number n → IsCellOf m.state p
     → IsCellOf n.state p

@@ -15,11 +15,16 @@ pub mod Consistency
 pub mod RunRecord
 pub mod SessionSave
 pub mod Laws
+pub mod PartLaws
+pub mod Framing
 pub mod Entries
 pub mod SaveLaws
+pub mod SavedAgain
 pub mod Strangers
 pub mod Bounded
+pub mod UpdateCost
 pub mod Values
+pub mod Marks
 -- what its own functions say of each other
 pub mod UndoneEdits
 pub mod Journal

@@ -17,6 +17,7 @@ use Rattle.ceal_theory.specs.Pasts.{Past, SamePast, IsPastOf, goes, slice_of, ne
 use Rattle.ceal_theory.specs.Slices.{Repair, is_done}
 use Rattle.ceal_session.specs.AfterLine.{RunsAsDefined, situation_out_of_fuel}
 use Rattle.ceal_session.specs.Journal.{JournalState, journal_of_bound, journal_after_completion}
+use Rattle.ceal_session.specs.Marks.{KeepsMarks}
 use Rattle.ceal_session.specs.SessionState.{past_of}
 use Rattle.ceal_session.specs.Runs.{run_of, with_run, with_part}
 use Rattle.ceal_session.specs.State.{State, Situation}
@@ -102,6 +103,7 @@ pub record EngineAfterCall
       → SamePast e.code e.inputs call.function call.args p (past_of e)
       → PastMatches outcome e call reads p e'
   pub cost : CostOfCall e e'
+  pub marks : KeepsMarks e e'
 
 -- The state is this one, and what the session has of runs is what the definition makes of what it had.
 pub record SituationAfterCall

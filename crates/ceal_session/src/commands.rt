@@ -4,6 +4,7 @@ ghost use Rattle.std.specs.Prelude.{◌≡◌, ◌≢◌, [], ◌∷◌, Some, N
 ghost use Rattle.ceal_engine.specs.Cost.{CostOfCall};
 ghost use Rattle.ceal_script.specs.Spelling.{IsName};
 ghost use Rattle.ceal_session.specs.Questions.{HasReads};
+ghost use Rattle.ceal_session.specs.Marks.{KeepsMarks};
 ghost use Rattle.ceal_session.specs.AfterLine.{KeepsRuns, RunsOrKeeps, IsAfterNoMemoryOf};
 ghost use Rattle.ceal_session.specs.SessionState.{situation};
 ghost use Rattle.ceal_session.specs.InputNames.{IsNamed};
@@ -41,6 +42,7 @@ fn make_modifiable(
     ensures quiet { IfOk result (λ reply. IsQuiet reply → state.new ≡ state.old) }
     ensures trace { OnOk result (KeepsRuns (situation state.old) (situation state.new)) }
     ensures cost { OnOk result (CostOfCall state.old.engine state.new.engine) }
+    ensures marked { state.new.engine.marked ≡ state.old.engine.marked }
     ensures err { OnErr result (state.new ≡ state.old) }
 {
     let shape = mod_shape(state, kind);
@@ -65,6 +67,7 @@ fn make_block(
     ensures quiet { IfOk result (λ reply. IsQuiet reply → state.new ≡ state.old) }
     ensures trace { OnOk result (KeepsRuns (situation state.old) (situation state.new)) }
     ensures cost { OnOk result (CostOfCall state.old.engine state.new.engine) }
+    ensures marked { state.new.engine.marked ≡ state.old.engine.marked }
     ensures err { OnErr result (state.new ≡ state.old) }
 {
     let shape = struct_shape(state, shape);
@@ -86,6 +89,7 @@ fn make_block(
 }
 
 /// The run of a call that no run came before, unless it is refused.
+#[tactic(auto, using(crate::proofs::Costs::marks_stay))]
 fn start(state: &mut State, call: Result<Call, Refusal>) -> Result<Reply, NoMemory>
     requires { IfOk call (λ call. IsFirst state.old.state call) }
     ensures ok { IfOk result
@@ -95,6 +99,7 @@ fn start(state: &mut State, call: Result<Call, Refusal>) -> Result<Reply, NoMemo
     ensures trace { OnOk result
         (RunsOrKeeps (situation state.old) call None (situation state.new)) }
     ensures cost { OnOk result (CostOfCall state.old.engine state.new.engine) }
+    ensures marks { KeepsMarks state.old.engine state.new.engine }
     ensures err { OnErr result
         (IsAfterNoMemoryOf (situation state.old) call (situation state.new)) }
 {
@@ -105,6 +110,7 @@ fn start(state: &mut State, call: Result<Call, Refusal>) -> Result<Reply, NoMemo
 }
 
 /// `run`
+#[tactic(auto, using(crate::proofs::Costs::marks_stay))]
 fn start_first(
     alloc: Global,
     state: &mut State,
@@ -122,6 +128,7 @@ fn start_first(
         (call_of_run state.old.state (function_named state.old.state function.now)
         (map (sense_of_value state.old.state) args.now)) None (situation state.new)) }
     ensures cost { OnOk result (CostOfCall state.old.engine state.new.engine) }
+    ensures marks { KeepsMarks state.old.engine state.new.engine }
     ensures err { OnErr result
         (IsAfterNoMemoryOf (situation state.old)
         (call_of_run state.old.state (function_named state.old.state function.now)
@@ -133,6 +140,7 @@ fn start_first(
 }
 
 /// `propagate`, and `propagate READS`
+#[tactic(auto, using(crate::proofs::Costs::marks_stay))]
 fn start_again(state: &mut State, reads: Option<u32>) -> Result<Reply, NoMemory>
     requires { reads ≢ Some 0 }
     ensures ok { IfOk result
@@ -144,6 +152,7 @@ fn start_again(state: &mut State, reads: Option<u32>) -> Result<Reply, NoMemory>
         (RunsOrKeeps (situation state.old) (call_again state.old.state.call) reads
         (situation state.new)) }
     ensures cost { OnOk result (CostOfCall state.old.engine state.new.engine) }
+    ensures marks { KeepsMarks state.old.engine state.new.engine }
     ensures err { OnErr result
         (IsAfterNoMemoryOf (situation state.old) (call_again state.old.state.call)
         (situation state.new)) }
@@ -155,6 +164,7 @@ fn start_again(state: &mut State, reads: Option<u32>) -> Result<Reply, NoMemory>
 }
 
 /// The reply to a command. Where there is no memory, the state is as before, or as after a run that was out of fuel.
+#[tactic(auto, using(crate::proofs::Costs::marks_stay))]
 pub fn reply_to(alloc: Global, state: &mut State, command: &Command) -> Result<Reply, NoMemory>
     requires some { HasReads command.now }
     requires named { IsNamed command.now }
@@ -167,6 +177,7 @@ pub fn reply_to(alloc: Global, state: &mut State, command: &Command) -> Result<R
         (reads_of command.now)
         (situation state.new)) }
     ensures cost { OnOk result (CostOfCall state.old.engine state.new.engine) }
+    ensures marks { KeepsMarks state.old.engine state.new.engine }
     ensures err { OnErr result
         (IsAfterNoMemoryOf (situation state.old) (call_of state.old.state command.now)
         (situation state.new)) }

@@ -1,12 +1,16 @@
 // The laws of replies, each the contract of a function that does nothing but call the laws on which it rests.
 
 ghost use Rattle.ceal_session.specs.Bounded.{BoundedLaw};
+ghost use Rattle.ceal_session.specs.Framing.{FramedLaw};
 ghost use Rattle.ceal_session.specs.Laws.{OneCommandLaw, OneAnswerLaw, OneReplyLaw, OneStateLaw, OneScriptLaw};
 ghost use Rattle.ceal_session.specs.Laws.{JoinedLaw, BegunLaw, SomeReplyLaw, SomeScriptLaw, DroppedLaw, KeptLaw};
-ghost use Rattle.ceal_session.specs.Laws.{KeptHandleLaw};
+ghost use Rattle.ceal_session.specs.Laws.{KeptByEditLaw, KeptEditLaw, KeptHandleLaw};
+ghost use Rattle.ceal_session.specs.PartLaws.{PartsAreWholeLaw, PartsEndLaw};
 ghost use Rattle.ceal_session.specs.Entries.{EntriesLaw, OneTextLaw};
 ghost use Rattle.ceal_session.specs.SaveLaws.{AlikeLaw, HeldLaw, OneSavedLaw, ResavedLaw, ResumedLaw, SavedLaw};
+ghost use Rattle.ceal_session.specs.SavedAgain.{BecomeLaw, BecomesLaw, SavedAfterLaw, SavedAgainLaw};
 ghost use Rattle.ceal_session.specs.Strangers.{StrangerLaw};
+ghost use Rattle.ceal_session.specs.UpdateCost.{UpdateCostLaw};
 
 /// A law: a line is one command's at most, and has one reply by a state and its numbers; so it has one in a situation,
 /// and one situation after it.
@@ -91,6 +95,14 @@ pub fn bounded_law()
     one_reply();
 }
 
+/// A law: what an update of a finished run looks at and touches is paid by the edits, by the cost of the two first
+/// traces side by side and by the reads that are apart in them, whatever updates came before.
+pub fn update_cost_law()
+    ensures law { UpdateCostLaw }
+{
+    ceal_engine::laws::cost_law();
+}
+
 /// A law: the save of a session is that of the situation that it is in, and a situation has one save at most.
 pub fn saved_law()
     ensures law { SavedLaw }
@@ -116,6 +128,20 @@ pub fn resumed_law()
     saved_law();
 }
 
+/// A law: a session that was resumed may be saved again after more lines, as often as one likes. Its save is then, to
+/// the last number, that of a session that carried out all of these lines without a stop.
+pub fn saved_again_law()
+    ensures after { SavedAfterLaw }
+    ensures again { SavedAgainLaw }
+    ensures line { BecomesLaw }
+    ensures lines { BecomeLaw }
+{
+    kept_line();
+    one_script();
+    saved_law();
+    resumed_law();
+}
+
 /// A law: of a save that holds, whoever wrote it, nothing but its work and its bound is believed, and these until the
 /// next completed run or repair.
 pub fn stranger_law()
@@ -137,4 +163,36 @@ pub fn kept_handle()
     ceal_script::line::command_or_none();
     ceal_show::laws::fitting_is_whole();
     ceal_show::laws::some_text();
+}
+
+/// A law: a session that is in a situation is in the next one after an edit by a handle, as `set_number` makes it; and
+/// a modifiable stays one.
+pub fn kept_edit()
+    ensures law { KeptEditLaw }
+    ensures handle { KeptByEditLaw }
+{
+    ceal_code::laws::progress_law();
+    ceal_script::line::command_or_none();
+    ceal_show::laws::fitting_is_whole();
+    ceal_show::laws::some_text();
+}
+
+/// A law: there is an end of lines `propagate READS`, since each that is answered `more` leaves fewer reads from the
+/// first stale one on; and they end in the situation in which one line `propagate` ends.
+pub fn sliced_law()
+    ensures end { PartsEndLaw }
+    ensures whole { PartsAreWholeLaw }
+{
+    ceal_code::laws::progress_law();
+    ceal_script::line::command_or_none();
+    ceal_show::laws::fitting_is_whole();
+    ceal_show::laws::some_text();
+    one_reply();
+}
+
+/// A law: how much there is to read of each reply.
+pub fn framed_law()
+    ensures law { FramedLaw }
+{
+    one_reply();
 }

@@ -13,6 +13,7 @@ mod commands;
 pub mod handle;
 mod journal;
 pub mod laws;
+mod marks;
 mod numbers;
 pub mod refusal;
 pub mod reply;

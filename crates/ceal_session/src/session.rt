@@ -1,7 +1,7 @@
 // A session.
 
 ghost use Rattle.std.specs.Fmt.{signed_decimal};
-ghost use Rattle.std.specs.Prelude.{◌≡◌, ◌<◌, ◌++◌, ◌↔◌, Bool, Option, length, codes, IfOk, OnOk, OnErr, IfSome};
+ghost use Rattle.std.specs.Prelude.{◌≡◌, ◌<◌, ◌++◌, ◌↔◌, Bool, Option, None, length, codes, IfOk, OnOk, OnErr, IfSome};
 ghost use Rattle.std.specs.Prelude.{IsErrOf};
 ghost use Rattle.std.specs.Prelude.{IsTrue, MatchOption};
 ghost use Rattle.ceal_base.specs.declared.word.Word.TheVariants.{Num};
@@ -9,25 +9,32 @@ ghost use Rattle.ceal_compile.specs.Compiled.{IsCompiled};
 ghost use Rattle.ceal_engine.specs.Cost.{CostOfCall};
 ghost use Rattle.ceal_script.specs.declared.command.Command.{Command as CommandOf};
 ghost use Rattle.ceal_session.specs.LineReply.{HasReply};
+ghost use Rattle.ceal_session.specs.Marks.{AreChanged, HoldsNumbers, IsMarked, KeepsMarks, places_of};
 ghost use Rattle.ceal_session.specs.Questions.{CanTell, IsReady};
 ghost use Rattle.ceal_session.specs.AfterLine.{IsAllowed, situation_at_start, KeepsRuns, IsAfterLine, Bounds};
 ghost use Rattle.ceal_session.specs.AfterLine.{IsAfterNoMemory};
+ghost use Rattle.ceal_session.specs.Consistency.{IsIn, IsInSome};
+ghost use Rattle.ceal_session.specs.Laws.{AnswersIn};
 ghost use Rattle.ceal_session.specs.SessionState.{IsTied, situation};
 ghost use Rattle.ceal_session.specs.InputNames.{AreSpelled};
 ghost use Rattle.ceal_session.specs.RunRecord.{IsRecorded};
 ghost use Rattle.ceal_session.specs.Replies.{Answers, Reads};
 ghost use Rattle.ceal_session.specs.SessionSave.{SaveHolds, IsResumed, IsSaved};
-ghost use Rattle.ceal_session.specs.Steps.{IsQuiet, refuses, step_of_set};
+ghost use Rattle.ceal_session.specs.Steps.{IsQuiet, refuses, reply_to_query, step_of_set};
 ghost use Rattle.ceal_session.specs.Texts.{IsText};
-ghost use Rattle.ceal_session.specs.State.{numbers_in};
+ghost use Rattle.ceal_session.specs.State.{Situation as SituationOf, numbers_in};
 ghost use Rattle.ceal_session.specs.Values.{handle_of_command, sense_of_handle, Gives, IfRefused};
 ghost use Rattle.ceal_session.specs.Values.{number_of_sense, number_of_command};
+ghost use Rattle.ceal_session.specs.declared.reply.Query.{Query as QueryOf};
+ghost use Rattle.ceal_session.specs.declared.reply.Reply.TheVariants.{Refused};
 ghost use Rattle.ceal_session.specs.declared.sense.Sense.TheVariants.{Word as IsWord};
 ghost use Rattle.ceal_theory.specs.Pasts.{goes};
 
 use crate::answer::Answer;
 use crate::commands::reply_to;
 use crate::handle::Handle;
+use crate::laws::{kept_edit, kept_line, some_reply};
+use crate::marks::{changed, mark};
 use crate::refusal::{Refusal, text as refusal_line};
 use crate::reply::Reply;
 use crate::restore::restored;
@@ -67,7 +74,8 @@ pub struct Session {
 }
 
 impl Model for Session {
-    ghost use Rattle.ceal_session.specs.SessionState.{Held};
+    ghost use Rattle.ceal_session.specs.Consistency.{IsInSome};
+    ghost use Rattle.ceal_session.specs.SessionState.{Held, situation};
     ghost use Rattle.ceal_base.specs.contracts.typed.TypedStmt as statement;
     ghost use Rattle.ceal_code.specs.contracts.expr.CodeExpr as expr;
     ghost use Rattle.ceal_code.specs.contracts.function.InitStmt as initialising;
@@ -79,6 +87,9 @@ impl Model for Session {
         (codes, statement.the_row.coded, expr.the_row.coded, initialising.the_row.coded) };
 
     ghost view = { λ s. s.state };
+
+    // it is in a situation
+    ghost invariant = { λ s. IsInSome (situation s.state) };
 }
 
 /// How many bytes an answer has at most after which the session is another one.
@@ -130,6 +141,7 @@ fn answer_of(alloc: Global, state: &mut State, reply: Reply) -> Result<Answer, N
 }
 
 /// The reply to a command.
+#[tactic(auto, using(crate::proofs::Costs::marks_stay))]
 fn reply_of(alloc: Global, state: &mut State, line: &[u8]) -> Result<Reply, NoMemory>
     ensures reply { IfOk result
         (λ reply. HasReply state.old.state (goes (situation state.new).past) line.now reply
@@ -139,6 +151,7 @@ fn reply_of(alloc: Global, state: &mut State, line: &[u8]) -> Result<Reply, NoMe
     ensures trace { OnOk result
         (IsAfterLine (situation state.old) line.now (situation state.new)) }
     ensures cost { OnOk result (CostOfCall state.old.engine state.new.engine) }
+    ensures marks { KeepsMarks state.old.engine state.new.engine }
     ensures bounded { OnOk result
         (Bounds (situation state.old) line.now (situation state.new)) }
     ensures left { OnErr result
@@ -168,6 +181,7 @@ fn answer_line(alloc: Global, state: &mut State, line: &[u8]) -> Result<Answer, 
     ensures trace { OnOk result
         (IsAfterLine (situation state.old) line.now (situation state.new)) }
     ensures cost { OnOk result (CostOfCall state.old.engine state.new.engine) }
+    ensures marks { KeepsMarks state.old.engine state.new.engine }
     ensures bounded { OnOk result
         (Bounds (situation state.old) line.now (situation state.new)) }
     ensures left { OnErr result
@@ -202,27 +216,37 @@ impl Session {
         ensures state { IfOk result
             (λ session. situation session ≡ situation_at_start program fuel) }
     {
+        // for the proof: a session is in a situation when it begins
+        some_reply();
         let state = State::new(alloc, program, fuel, seed)?;
         Ok(Session { state, alloc })
     }
 
     /// The answer to a line, which has no line end: the reply with its line feed, and nothing for a blank line. After
     /// running out of memory the session is as before, or, where the line was an accepted `run` or `propagate`, as
-    /// after out of fuel. An answer of more than 12 bytes leaves the session as it was.
+    /// after out of fuel. An answer of more than 12 bytes leaves the session as it was. The clause `answers` is the
+    /// theorem of replies: in each situation that the session is in, the line is answered as is said there.
     pub fn answer(&mut self, line: &[u8]) -> Result<Answer, NoMemory>
         ensures reply { IfOk result
             (λ answer. Answers self.old.state
             (numbers_in (situation self.old)) (goes (situation self.new).past)
             line.now answer self.new.state) }
+        ensures answers { IfOk result
+            (λ answer. (m : SituationOf) → IsIn (situation self.old) m
+            → AnswersIn m line.now answer (situation self.new)) }
         ensures long { IfOk result (λ answer. 12 < length answer → self.new ≡ self.old) }
         ensures trace { OnOk result
             (IsAfterLine (situation self.old) line.now (situation self.new)) }
         ensures cost { OnOk result (CostOfCall self.old.engine self.new.engine) }
+        ensures marks { KeepsMarks self.old.engine self.new.engine }
         ensures bounded { OnOk result
             (Bounds (situation self.old) line.now (situation self.new)) }
         ensures left { OnErr result
             (IsAfterNoMemory (situation self.old) line.now (situation self.new)) }
     {
+        // for the proof: a session that is in a situation is in one after the line, too
+        kept_line();
+        some_reply();
         answer_line(self.alloc, &mut self.state, line)
     }
 
@@ -232,9 +256,13 @@ impl Session {
             (λ text. Answers self.old.state
             (numbers_in (situation self.old)) (goes (situation self.new).past)
             line.now text self.new.state) }
+        ensures answers { IfOk result
+            (λ text. (m : SituationOf) → IsIn (situation self.old) m
+            → AnswersIn m line.now text (situation self.new)) }
         ensures trace { OnOk result
             (IsAfterLine (situation self.old) line.now (situation self.new)) }
         ensures cost { OnOk result (CostOfCall self.old.engine self.new.engine) }
+        ensures marks { KeepsMarks self.old.engine self.new.engine }
         ensures bounded { OnOk result
             (Bounds (situation self.old) line.now (situation self.new)) }
         ensures left { OnErr result
@@ -289,17 +317,55 @@ impl Session {
             (IsWord (Num number))) }
         ensures trace { OnOk result (KeepsRuns (situation self.old) (situation self.new)) }
         ensures cost { OnOk result (CostOfCall self.old.engine self.new.engine) }
+        ensures marked { self.new.engine.marked ≡ self.old.engine.marked }
         ensures err { OnErr result (self.new ≡ self.old) }
     {
+        // for the proof: a session that is in a situation is in one after the edit, too
+        kept_edit();
         set_number(&mut self.state, handle, number)
+    }
+
+    /// From now on `changed` compares with what the modifiables of inputs hold now. It is refused as C7 or C8 where a
+    /// question is. The first time since the call was run from nothing it goes over all modifiables that were touched,
+    /// and later over those that were made, edited or written since.
+    pub fn mark(&mut self) -> Result<(), ValueError>
+        ensures ready { OnOk result (IsReady self.old.state) }
+        ensures refused { IfRefused result
+            (λ r. (q : QueryOf) → reply_to_query self.old.state q ≡ Refused r) }
+        ensures marked { OnOk result (IsMarked self.old self.new) }
+        ensures numbers { OnOk result (HoldsNumbers self.new) }
+        ensures kept { situation self.new ≡ situation self.old }
+        ensures same { self.new ≡ record self.old
+            { engine = record self.old.engine { marked = self.new.engine.marked } } }
+        ensures err { OnErr result (self.new ≡ self.old) }
+    {
+        mark(&mut self.state)
+    }
+
+    /// The modifiables of inputs that hold something else than at the last `mark`, by input and field. There is no list
+    /// where nothing is marked: `mark` was not called since the call was run from nothing. It is refused as C7 or C8
+    /// where a question is. A modifiable that came after the mark counts as 0 then. A pointer is another one where it
+    /// points to another block, and a block that was made again may be another one. It goes over the modifiables that
+    /// were made, edited or written since the mark, and puts those that it tells in order.
+    pub fn changed(&self) -> Result<Option<Vec<Handle>>, ValueError>
+        ensures ready { OnOk result (IsReady self.now.state) }
+        ensures refused { IfRefused result
+            (λ r. (q : QueryOf) → reply_to_query self.now.state q ≡ Refused r) }
+        ensures told { IfOk result
+            (λ found. MatchOption found (self.now.engine.marked ≡ None)
+            (λ handles. AreChanged self.now (places_of handles.items))) }
+        ensures numbers { OnOk result (HoldsNumbers self.now) }
+    {
+        changed(self.alloc, &self.state)
     }
 
     /// Whether questions are answered: there is a run that ended within the fuel, and neither an edit nor a repair is
     /// pending. The contract also says that the state has the fuel, the inputs and the call of the engine, and tells
-    /// its phase.
+    /// its phase; and that there is a situation that the session is in, to which the laws of replies apply.
     pub fn is_ready(&self) -> bool
         ensures ready { IsTrue result ↔ IsReady self.now.state }
         ensures tied { IsTied self.now }
+        ensures sound { IsInSome (situation self.now) }
     {
         self.state.is_ready()
     }

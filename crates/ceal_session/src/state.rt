@@ -10,6 +10,7 @@ ghost use Rattle.ceal_script.specs.Spelling.{IsName};
 ghost use Rattle.ceal_session.specs.Questions.{IsCellOf};
 ghost use Rattle.ceal_base.specs.declared.call.Call.{Call as CallOf};
 ghost use Rattle.ceal_session.specs.Outcomes.{SituationAfterOutcome};
+ghost use Rattle.ceal_session.specs.Marks.{KeepsMarks};
 ghost use Rattle.ceal_session.specs.AfterLine.{IsAllowed, situation_at_start, KeepsRuns, RunsOrKeeps};
 ghost use Rattle.ceal_session.specs.AfterLine.{IsAfterNoMemoryOf};
 ghost use Rattle.ceal_session.specs.SessionState.{situation, held_of, SessionInvariant};
@@ -44,6 +45,7 @@ use std::alloc::Global;
 use std::marker::Model;
 
 mod answers;
+mod marks;
 
 /// A program, the names of the inputs by number, an engine that has the inputs and the run, and the edits.
 #[derive(Drop)]
@@ -230,6 +232,7 @@ impl State {
             (self.new.state ≡ with_input self.old.state name.now (block_of shape words.now)) }
         ensures trace { OnOk result (KeepsRuns (situation self.old) (situation self.new)) }
         ensures cost { OnOk result (CostOfCall self.old.engine self.new.engine) }
+        ensures marked { self.new.engine.marked ≡ self.old.engine.marked }
         ensures err { OnErr result (self.new ≡ self.old) }
     {
         let count = self.names.len();
@@ -254,6 +257,7 @@ impl State {
         ensures ok { OnOk result (self.new.state ≡ with_base self.old.state place word) }
         ensures trace { OnOk result (KeepsRuns (situation self.old) (situation self.new)) }
         ensures cost { OnOk result (CostOfCall self.old.engine self.new.engine) }
+        ensures marked { self.new.engine.marked ≡ self.old.engine.marked }
         ensures err { OnErr result (self.new ≡ self.old) }
     {
         let count = self.journal.len();
@@ -277,6 +281,7 @@ impl State {
         ensures outcome { SituationAfterOutcome (situation self.old) call.now None result
             (situation self.new) }
         ensures cost { CostOfCall self.old.engine self.new.engine }
+        ensures marks { KeepsMarks self.old.engine self.new.engine }
     {
         // for the proof: it is an engine before and after, by the clause `whole`
         let _before = self.engine.phase();
@@ -295,6 +300,7 @@ impl State {
         ensures outcome { (call : CallOf) → self.old.state.call ≡ Some call
             → SituationAfterOutcome (situation self.old) call reads result (situation self.new) }
         ensures cost { CostOfCall self.old.engine self.new.engine }
+        ensures marks { KeepsMarks self.old.engine self.new.engine }
     {
         // for the proof: it is an engine before and after, by the clause `whole`
         let _before = self.engine.phase();
@@ -314,6 +320,7 @@ impl State {
         ensures trace { OnOk result
             (RunsOrKeeps (situation self.old) (OkOf call.now) None (situation self.new)) }
         ensures cost { OnOk result (CostOfCall self.old.engine self.new.engine) }
+        ensures marks { KeepsMarks self.old.engine self.new.engine }
         ensures err { OnErr result
             (IsAfterNoMemoryOf (situation self.old) (OkOf call.now) (situation self.new)) }
     {
@@ -334,6 +341,7 @@ impl State {
             (RunsOrKeeps (situation self.old) (call_again self.old.state.call) reads
             (situation self.new)) }
         ensures cost { OnOk result (CostOfCall self.old.engine self.new.engine) }
+        ensures marks { KeepsMarks self.old.engine self.new.engine }
         ensures err { OnErr result
             (IsAfterNoMemoryOf (situation self.old) (call_again self.old.state.call)
             (situation self.new)) }

@@ -41,6 +41,7 @@ fn make_if(state: &mut State, name: &Text, shape: Shape, words: &[Word]) -> Resu
     ensures quiet { IfOk result (λ reply. IsQuiet reply → state.new ≡ state.old) }
     ensures trace { OnOk result (KeepsRuns (situation state.old) (situation state.new)) }
     ensures cost { OnOk result (CostOfCall state.old.engine state.new.engine) }
+    ensures marked { state.new.engine.marked ≡ state.old.engine.marked }
     ensures err { OnErr result (state.new ≡ state.old) }
 {
     if !new_block_fits(state.structs(), state.inputs(), shape, words) {
@@ -64,6 +65,7 @@ fn make_with(
     ensures quiet { IfOk result (λ reply. IsQuiet reply → state.new ≡ state.old) }
     ensures trace { OnOk result (KeepsRuns (situation state.old) (situation state.new)) }
     ensures cost { OnOk result (CostOfCall state.old.engine state.new.engine) }
+    ensures marked { state.new.engine.marked ≡ state.old.engine.marked }
     ensures err { OnErr result (state.new ≡ state.old) }
 {
     let unknown = has_unknown(senses);
@@ -94,6 +96,7 @@ pub fn make(
     ensures quiet { IfOk result (λ reply. IsQuiet reply → state.new ≡ state.old) }
     ensures trace { OnOk result (KeepsRuns (situation state.old) (situation state.new)) }
     ensures cost { OnOk result (CostOfCall state.old.engine state.new.engine) }
+    ensures marked { state.new.engine.marked ≡ state.old.engine.marked }
     ensures err { OnErr result (state.new ≡ state.old) }
 {
     match shape {
@@ -133,6 +136,7 @@ fn set_base(state: &mut State, place: Place, word: Word) -> Result<Reply, NoMemo
     ensures quiet { IfOk result (λ reply. IsQuiet reply → state.new ≡ state.old) }
     ensures trace { OnOk result (KeepsRuns (situation state.old) (situation state.new)) }
     ensures cost { OnOk result (CostOfCall state.old.engine state.new.engine) }
+    ensures marked { state.new.engine.marked ≡ state.old.engine.marked }
     ensures err { OnErr result (state.new ≡ state.old) }
 {
     if !fits_place(state, place, word) {
@@ -152,6 +156,7 @@ pub fn set(state: &mut State, place: Sense, value: Sense) -> Result<Reply, NoMem
     ensures quiet { IfOk result (λ reply. IsQuiet reply → state.new ≡ state.old) }
     ensures trace { OnOk result (KeepsRuns (situation state.old) (situation state.new)) }
     ensures cost { OnOk result (CostOfCall state.old.engine state.new.engine) }
+    ensures marked { state.new.engine.marked ≡ state.old.engine.marked }
     ensures err { OnErr result (state.new ≡ state.old) }
 {
     if is_unknown(place) || is_unknown(value) {

@@ -178,6 +178,7 @@ pub fn set_number(state: &mut State, handle: Handle, number: i64) -> Result<(), 
         (IsWord (Num number))) }
     ensures trace { OnOk result (KeepsRuns (situation state.old) (situation state.new)) }
     ensures cost { OnOk result (CostOfCall state.old.engine state.new.engine) }
+    ensures marked { state.new.engine.marked ≡ state.old.engine.marked }
     ensures err { OnErr result (state.new ≡ state.old) }
 {
     if !has_modifiable(state, handle.place) {

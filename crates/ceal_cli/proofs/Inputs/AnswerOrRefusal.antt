@@ -1,12 +1,12 @@
 -- What is written for an input is its answer where it is taken, and else its refusal.
-use Rattle.std.proofs.Common.{inl, inr, ℕ, List}
+use Rattle.std.proofs.Common.{arith, ◌≡◌, inl, inr, refl, ap, ℕ, List, [], ◌∷◌}
 use Rattle.ceal_compile.specs.Laws.{OneCodeLaw}
 use Rattle.ceal_compile.specs.Source.{IsAccepted}
 use Rattle.ceal_snap.specs.Answers.{OneSaveLaw}
-use Rattle.ceal_cli.specs.Laws.{AnsweredLaw, UntakenLaw}
+use Rattle.ceal_cli.specs.Laws.{AnsweredLaw, CheckIsRunLaw, UntakenLaw}
 use Rattle.ceal_cli.specs.Lines.{script_of}
 use Rattle.ceal_cli.specs.Modes.{ReadsInput}
-use Rattle.ceal_cli.specs.Output.{IsAnswer, IsRefusal, IsTaken, IsUnresumed}
+use Rattle.ceal_cli.specs.Output.{accepted_text, IsAnswer, IsOutput, IsRefusal, IsTaken, IsUnresumed}
 use Rattle.ceal_cli.specs.Resumed.{IsResumable}
 use Rattle.ceal_cli.specs.declared.words.Mode.{Mode}
 use Rattle.ceal_cli.specs.declared.words.Mode.TheVariants.{Check, List as Listing, Run, Gen, Dump, Verify, Many, Save, Resume}
@@ -73,3 +73,16 @@ module _ (split : SplitLaw) (answer : AnswerLaw) (code : OneCodeLaw) (save : One
 pub untaken : UntakenLaw
 untaken mode input out reads none (inl h) = absurd (none (answer-taken mode input out reads h))
 untaken mode input out reads none (inr k) = k
+
+-- the line of a fault is another one than the word, as their first bytes show
+abbrev first-byte : List ℕ → ℕ
+first-byte [] = 0
+first-byte (b ∷ bs) = b
+
+told-accepted : (input : List ℕ) → IsOutput Check input accepted_text → IsAccepted input
+told-accepted input (inl h) = h.0
+told-accepted input (inr (reads, inl (fault, is, e))) = let other : 97 ≡ 102 = ap first-byte e in absurd (omega (arith, other))
+told-accepted input (inr (reads, inr none)) = absurd none
+
+pub check-is-run : CheckIsRunLaw
+check-is-run input fuel = (told-accepted input, λ taken. inl (taken, refl))

@@ -21,18 +21,18 @@ use Rattle.ceal_session.specs.State.{Situation}
 use Rattle.ceal_snap.specs.SaveText.{save_text, IsSave}
 use Rattle.ceal_cli.specs.ManySessions.{AreTold}
 use Rattle.ceal_cli.specs.Fuel.{DEFAULT_FUEL}
-use Rattle.ceal_cli.specs.SinkGrowth.{Puts, Writes}
+use Rattle.ceal_cli.specs.SinkGrowth.{Grows, Puts, Writes, WritesFirst}
 use Rattle.ceal_cli.specs.Members.{Opens}
 use Rattle.ceal_cli.specs.Saves.{save_of, with_source}
-use Rattle.ceal_cli.specs.ServedLines.{AreServed, BeginServed, AreServedFromRun, BeginServedFromRun, IsDumpAfterLines, IsDumpFrom, IsSaveAfterLines, IsSaveFrom}
+use Rattle.ceal_cli.specs.ServedLines.{AreServed, BeginServed, FirstAreServed, AreServedFromRun, BeginServedFromRun, IsDumpAfterLines, IsDumpFrom, IsSaveAfterLines, IsSaveFrom}
 use Rattle.ceal_cli.specs.Lines.{script_of, script_lines}
 use Rattle.ceal_cli.specs.Modes.{ReadsInput}
-use Rattle.ceal_cli.specs.Output.{IsOutput, Programmed, accepted_text, Begins, IsOutputFromRun}
+use Rattle.ceal_cli.specs.Output.{AreFirstReplies, IsOutput, Programmed, accepted_text, Begins, IsOutputFromRun}
 use Rattle.ceal_cli.specs.ReadBack.{IsReadableDump, IsReadableSave, WritesDump, WritesSave}
 use Rattle.ceal_cli.specs.Verdicts.{IsVerdictLine}
 use Rattle.ceal_cli.specs.declared.words.Mode.{Mode}
 use Rattle.ceal_cli.specs.declared.words.Mode.TheVariants.{Check, List as Listing, Run, Dump, Verify, Many, Save}
-use Rattle.ceal_cli.proofs.Sessions.GrowingReplies.{all_as, puts_as}
+use Rattle.ceal_cli.proofs.Sessions.GrowingReplies.{all_as, puts_as, weaker}
 use Rattle.ceal_cli.proofs.Sessions.SessionLeads.{served, served-from-run, carried}
 use Rattle.ceal_cli.proofs.Sessions.ReplyPrefixes.{begun, begun-from-run}
 use Rattle.ceal_cli.proofs.Sessions.SessionInSituation.{dump-in, record-in, same-save, save-in}
@@ -83,6 +83,16 @@ module _ (input : List ℕ) where
             (λ out part.
             let w = begun kept script (situation_at_start p fuel) (situation_at_start p fuel) lines out (begins p fuel opens.compiled) part in
             inr (w.text, inl (programmed opens.reads opens.compiled, record { end = w.end; leads = w.leads }), w.prefix)) h
+
+        -- the replies to the first lines
+        are-first : (out : List ℕ) → FirstAreServed (situation_at_start p fuel) lines out → AreFirstReplies fuel input out
+        unfolding programmed
+        are-first out (front, back, cut, serves) =
+            let w = served kept (situation_at_start p fuel) (situation_at_start p fuel) front out (begins p fuel opens.compiled) serves in
+            inr (programmed opens.reads opens.compiled, front, back, cut, record { end = w.0; leads = w.1 })
+
+        pub first_replies : (a b : Option (List ℕ)) → Grows a b (FirstAreServed (situation_at_start p fuel) lines) → WritesFirst a b fuel input
+        first_replies a b h = weaker are-first h
 
         -- the dump after the script
         pub dumped : RenamedLaw → (text : List ℕ) → IsDumpAfterLines (situation_at_start p fuel) lines text → IsOutput (Dump fuel) input text

@@ -1,10 +1,10 @@
 -- From the bytes that were read to the input that the source told.
-use Rattle.std.proofs.Common.{arith, ◌≡◌, ◌≤◌, ◌⊎◌, inl, inr, ℕ, Option, Some, None, List, [], ◌++◌, length, IfSome, refl, sym, ap, ◌∙◌, subst, append-nil}
-use Rattle.std.specs.Io.KnownBytes.{Consumes, IsAtEnd}
-use Rattle.std.proofs.KnownBytes.{Consumes-nil}
-use Rattle.ceal_cli.specs.SinkGrowth.{WritesAnswer, WritesRefusal, WritesOutput, WritesPrefix, WritesGenerated, WritesGeneratedPrefix}
+use Rattle.std.proofs.Common.{arith, ◌≡◌, ◌<◌, ◌≤◌, ◌⊎◌, inl, inr, ℕ, Option, Some, None, List, [], ◌++◌, length, IfSome, refl, sym, ap, ◌∙◌, subst, append-nil}
+use Rattle.std.specs.Io.KnownBytes.{Consumes, IsAtEnd, Keeps}
+use Rattle.std.proofs.KnownBytes.{Consumes-nil, Keeps-refl}
+use Rattle.ceal_cli.specs.SinkGrowth.{WritesAnswer, WritesRefusal, WritesOutput, WritesPrefix, WritesFirst, WritesGenerated, WritesGeneratedPrefix}
 use Rattle.ceal_cli.specs.Laws.{AnsweredLaw, UntakenLaw}
-use Rattle.ceal_cli.specs.Output.{Begins, IsOutput, IsTaken}
+use Rattle.ceal_cli.specs.Output.{AreFirstReplies, Begins, IsOutput, IsTaken}
 use Rattle.ceal_cli.specs.ReadBack.{WritesReadable}
 use Rattle.ceal_cli.specs.declared.top.Status.{Status}
 use Rattle.ceal_cli.specs.declared.top.TheConstants.{INPUT_LIMIT}
@@ -51,6 +51,13 @@ module _ (old new : Option (List ℕ)) (bytes text : List ℕ) (all : Consumes o
   pub prefix_for : (a b : Option (List ℕ)) (mode : Mode) → WritesPrefix a b mode text → IfSome old (λ input. WritesPrefix a b mode input)
   prefix_for a b mode h = for_input (λ input. WritesPrefix a b mode input) h
 
+  pub first_for : (a b : Option (List ℕ)) (fuel : ℕ) → WritesFirst a b fuel text → IfSome old (λ input. WritesFirst a b fuel input)
+  first_for a b fuel h = for_input (λ input. WritesFirst a b fuel input) h
+
+  -- an input that was read is not too long
+  pub beyond_for : (P : Type 0) → length text ≤ INPUT_LIMIT → IfSome old (λ input. INPUT_LIMIT < length input → P)
+  beyond_for P short = for_input (λ input. INPUT_LIMIT < length input → P) (λ long. absurd (omega (arith, short, long)))
+
   pub short_for : length text ≤ INPUT_LIMIT → IfSome old (λ input. length input ≤ INPUT_LIMIT)
   short_for h = for_input (λ input. length input ≤ INPUT_LIMIT) h
 
@@ -81,6 +88,12 @@ module _ (old new : Option (List ℕ)) (bytes text : List ℕ) (all : Consumes o
 -- what was written while nothing was
 pub none_for : (left a : Option (List ℕ)) (mode : Mode) → IfSome left (λ input. WritesPrefix a a mode input)
 none_for left a mode = for_any left (λ input. WritesPrefix a a mode input) (λ input. nothing a (λ out. Begins (λ whole. IsOutput mode input whole) out) (inl refl))
+
+pub none_first_for : (left a : Option (List ℕ)) (fuel : ℕ) → IfSome left (λ input. WritesFirst a a fuel input)
+none_first_for left a fuel = for_any left (λ input. WritesFirst a a fuel input) (λ input. nothing a (λ out. AreFirstReplies fuel input out) (inl refl))
+
+pub kept_for : (left a : Option (List ℕ)) → IfSome left (λ input. INPUT_LIMIT < length input → Keeps a a)
+kept_for left a = for_any left (λ input. INPUT_LIMIT < length input → Keeps a a) (λ input long. Keeps-refl a)
 
 -- What is written for a workload is the output for any input.
 module _ (left a b : Option (List ℕ)) (kind : Workload) (seed size : ℕ) where

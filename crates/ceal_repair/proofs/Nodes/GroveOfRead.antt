@@ -139,7 +139,7 @@ module _ (t : Timeline) (trace : IsTrace t) where
   rootless-behind [] e back h = rootless-after e [] back h
   rootless-behind (x ∷ xs) e back h = rootless-after x (xs ++ e ∷ []) back (h ∙ ap (λ es. x ∷ es) (sym (behind-all xs e back)))
 
-rootless-front : (es fs : List Entry) → Rootless (es ++ fs) → Rootless es
+pub rootless-front : (es fs : List Entry) → Rootless (es ++ fs) → Rootless es
 rootless-front [] fs h = tt
 rootless-front (e ∷ es) fs h = (h.0, rootless-front es fs h.1)
 

@@ -7,6 +7,7 @@ use Rattle.ceal_base.specs.declared.word.Word.{Word}
 use Rattle.ceal_code.specs.Program.{Code}
 use Rattle.ceal_code.specs.Replay.{core_numbers}
 use Rattle.ceal_heap.specs.Heap.{Contents, next}
+use Rattle.ceal_repair.proofs.Propagation.Departing.{departs-not}
 use Rattle.ceal_repair.proofs.Propagation.NewBlockNumbers.{GoesOn, goes-on, begins-sound, is-origin}
 use Rattle.ceal_repair.proofs.Runs.FewNumbers.{trace-there, trace-only}
 use Rattle.ceal_repair.specs.Answers.{IsKeptRun}
@@ -67,6 +68,7 @@ module _ (code : Code) (inputs : List Block) (f : ℕ) (args : List Word) (fuel 
     items = kept.stands.items;
     so_far = so_far;
     front = λ front back e agrees. (back, e);
+    departs = departs-not run.tables;
     unchanged = λ h. (refl, refl);
   }
 

@@ -10,6 +10,7 @@ use Rattle.ceal_base.specs.declared.word.Word.{Word}
 use Rattle.ceal_code.specs.Program.{Code}
 use Rattle.ceal_code.specs.Replay.{In, here, there, IsHonest, count}
 use Rattle.ceal_heap.specs.Heap.{block_of, next, plain_block, Known}
+use Rattle.ceal_repair.proofs.Propagation.Departing.{departs-not, departs-whole}
 use Rattle.ceal_repair.proofs.Propagation.NewBlockNumbers.{GoesOn, goes-on, turns-room}
 use Rattle.ceal_repair.specs.Propagation.{HasCome, IsUnderWay, IsSpent, IsWithin, IsLess, Propagated, KeepsFront}
 use Rattle.ceal_repair.proofs.Runs.FewNumbers.{few-given, few-blocks}
@@ -17,6 +18,7 @@ use Rattle.ceal_repair.proofs.Propagation.KeptRun.{same-running}
 use Rattle.ceal_repair.proofs.Propagation.UpToDateRun.{too-many, concluded-run, spent-out, repaired}
 use Rattle.ceal_repair.specs.Answers.{IsKeptRun, IsRunOf, IsRepaired}
 use Rattle.ceal_repair.specs.Blocks.{HasFew}
+use Rattle.ceal_repair.specs.Departs.{DepartsSo}
 use Rattle.ceal_repair.specs.Repairs.{code_of, inputs_of}
 use Rattle.ceal_repair.specs.Slicing.{IsPartRun, IsSliceOf, IsSliced}
 use Rattle.ceal_repair.specs.declared.repair.Repair.{Repair as RepairInCode}
@@ -98,6 +100,7 @@ module _ (code : Code) (inputs : List Block) (f : ℕ) (args : List Word) (fuel 
       history = λ names go. Turns.none;
     };
     front = λ front back e agrees. (back, e);
+    departs = departs-not run.tables;
     unchanged = λ h. (refl, sym part.stands.spent);
   }
 
@@ -214,6 +217,15 @@ front-stays code inputs f args reads fuel o before now More n h = h.2.come.front
 front-stays code inputs f args reads fuel o before now Done n h = rw h.4.tables h.3.come.front
 front-stays code inputs f args reads fuel o before now Spent n h = absurd (n refl)
 front-stays code inputs f args reads fuel o before now OutOfFuel n h = h.2.come.front
+
+-- they depart from the old nodes at reads that were stale
+pub departs-so : (code : Code) (inputs : List Block) (f : ℕ) (args : List Word) (reads : Option ℕ) (fuel : ℕ) (o : Since) (before now : Running) (p : Progress) → p ≢ Spent
+    → Propagated p code inputs f args reads fuel o before now
+    → DepartsSo before.tables.trace.nodes now.tables.trace.nodes
+departs-so code inputs f args reads fuel o before now More n h = departs-whole before.tables.trace.nodes now.tables h.2.come.departs
+departs-so code inputs f args reads fuel o before now Done n h = rw h.4.tables (departs-whole before.tables.trace.nodes h.2.tables h.3.come.departs)
+departs-so code inputs f args reads fuel o before now Spent n h = absurd (n refl)
+departs-so code inputs f args reads fuel o before now OutOfFuel n h = departs-whole before.tables.trace.nodes now.tables h.2.come.departs
 
 -- so it is with the repair of a trace of the call
 pub is-repaired : (code : Code) (inputs : List Block) (f : ℕ) (args : List Word) (reads : Option ℕ) (fuel : ℕ) (l : Trace) (old : Running) → IsKeptRun code inputs f args fuel l old

@@ -10,6 +10,7 @@ use Rattle.ceal_base.specs.declared.word.Word.{Word}
 use Rattle.ceal_code.specs.Program.{Code}
 use Rattle.ceal_code.specs.Replay.{IsHonest, KnownBlock, bases}
 use Rattle.ceal_order.specs.Stamps.{is_in}
+use Rattle.ceal_repair.proofs.Propagation.Departing.{fronts, turn-departs}
 use Rattle.ceal_repair.proofs.Propagation.TurnBegin.{spot, front-agrees, store-differs}
 use Rattle.ceal_repair.proofs.Lists.PartedLists.{false-of}
 use Rattle.ceal_repair.proofs.Nodes.AroundRead.{spot-items}
@@ -17,8 +18,10 @@ use Rattle.ceal_repair.proofs.TableCalls.CutKeepsTables.{unqueued-honest}
 use Rattle.ceal_repair.proofs.Propagation.TurnCourse.{turn-over}
 use Rattle.ceal_repair.proofs.Propagation.UpToDateHonest.{come-now, up-to-date}
 use Rattle.ceal_repair.proofs.Runs.Paid.{pays-self}
+use Rattle.ceal_repair.specs.Departs.{DepartsUpTo}
 use Rattle.ceal_repair.specs.Looks.{PaysBut}
 use Rattle.ceal_repair.specs.Entries.{entry, entries, end_entry}
+use Rattle.ceal_repair.specs.Moment.{Start}
 use Rattle.ceal_repair.specs.Kept.{Kept, IsStale, IsHonestRecord, QueuedAfter, Records, contents_at}
 use Rattle.ceal_repair.proofs.TableCalls.BaseEdit.{queue-empty, stale-same}
 use Rattle.ceal_repair.proofs.Propagation.StaleNotDone.{still-stale}
@@ -43,20 +46,8 @@ use Rattle.ceal_theory.specs.Slices.{starting}
 use Rattle.ceal_theory.specs.Walk.{store_after, AgreesAll, content_after}
 use Rattle.ceal_trace.proofs.Parts.{forest-append}
 use Rattle.ceal_trace.specs.Items.{ticks, forest_of}
-use Rattle.ceal_trace.specs.Nodes.{Entry, node_at, with_value}
+use Rattle.ceal_trace.specs.Nodes.{Entry, stamps_in, node_at, with_value}
 use Rattle.ceal_trace.specs.declared.node.Node.TheVariants.{Read}
-
--- one of two fronts of nodes has the other in front of it: the first the node after the second, or the second the first
-fronts : (xs ys zs : List Entry) (w : Entry) (ws : List Entry) → xs ++ ys ≡ zs ++ w ∷ ws
-    → ((mid : List Entry) × (zs ≡ xs ++ mid)) ⊎ ((mid : List Entry) × (xs ≡ zs ++ w ∷ mid))
-fronts [] ys zs w ws e = inl (zs, refl)
-fronts (x ∷ xs) ys [] w ws e = inr (xs, cc)
-fronts (x ∷ xs) ys (z ∷ zs) w ws e = of (fronts xs ys zs w ws cc)
-  where
-    of : ((mid : List Entry) × (zs ≡ xs ++ mid)) ⊎ ((mid : List Entry) × (xs ≡ zs ++ w ∷ mid))
-        → ((mid : List Entry) × (z ∷ zs ≡ (x ∷ xs) ++ mid)) ⊎ ((mid : List Entry) × (x ∷ xs ≡ (z ∷ zs) ++ w ∷ mid))
-    of (inl (mid, k)) = let same : z ≡ x = cc in inl (mid, cc)
-    of (inr (mid, k)) = let same : z ≡ x = cc in inr (mid, cc)
 
 -- ---- at known places it does not matter where the walk begins
 
@@ -114,13 +105,25 @@ module _ (code : Code) (inputs : List Block) (f : ℕ) (args : List Word) (o : S
 -- one turn more
 module _ (code : Code) (inputs : List Block) (f : ℕ) (args : List Word) (o : Since) (old before run : Running) (come : HasCome code inputs f args o old before)
     (turn : TurnMade code inputs f args o before run) where
+  -- the read of the turn, what is inside it, and the nodes from its end on
+  abbrev after-turn : List Entry
+  after-turn = entry turn.start.stamp turn.start.node turn.ended.steps ∷ (entries turn.ended.inside ++ turn.start.beyond)
+
   keeps : KeepsFront code inputs old.tables.trace.nodes run.tables.trace.nodes
   keeps front back e a =
       let was = come.front front back e a in
       let b = turn.began in
       let mid = stands-before code inputs f args o come.called before b.so_far b.spot b.agrees b.stale front was.0 was.1 a in
       let start : turn.start.before ≡ b.spot.before = ap (λ s. s.before) b.is in
-      (mid.0 ++ turn.ended.after, turn.ended.front ∙ (ap (λ (es : List Entry). es ++ turn.ended.after) (start ∙ mid.1) ∙ append_assoc front mid.0 turn.ended.after))
+      (mid.0 ++ after-turn, turn.ended.nodes ∙ (ap (λ (es : List Entry). es ++ after-turn) (start ∙ mid.1) ∙ append_assoc front mid.0 after-turn))
+
+  departs : DepartsUpTo old.tables.trace.nodes run.tables
+  departs =
+      let b = turn.began in
+      turn-departs old.tables.trace.nodes before.tables run.tables b.so_far.stands.kept turn.ended.so_far.stands.kept come.departs b.spot b.found
+      (store_after code (starting code inputs b.so_far.repair.known) (forest_of b.spot.before) b.spot.place) b.stale turn.ended.steps turn.ended.inside
+      (subst (λ (s : Start). run.tables.trace.nodes ≡ s.before ++ entry s.stamp s.node turn.ended.steps ∷ (entries turn.ended.inside ++ s.beyond)) b.is turn.ended.nodes)
+      (subst (λ (s : Start). (r : ℕ) → IsStale r run.tables → is_in r (stamps_in s.beyond) ≡ true) b.is turn.ended.ahead)
 
   pub comes-further : HasCome code inputs f args (later 1 o) old run
   comes-further = record {
@@ -128,6 +131,7 @@ module _ (code : Code) (inputs : List Block) (f : ℕ) (args : List Word) (o : S
     items = come.items;
     so_far = turn.ended.so_far;
     front = keeps;
+    departs = departs;
     unchanged = λ h. absurd (not-honest code inputs f args o come.called before turn.began.so_far turn.began.spot turn.began.agrees turn.began.stale old come h);
   }
 

@@ -266,7 +266,7 @@ module _ (code : Code) (inputs : List Block) (f : ℕ) (args : List Word) (o : S
   start = turn_start code inputs r o.first o.numbers found.so_far.chosen found.so_far.stands.sound.blocks (read ∷ opens.0) spot (store at-place)
 
   pub began : TurnBegan code inputs f args o found.before start
-  began = record { called = found.called; so_far = found.so_far; spot = spot; agrees = front-agrees; stale = store-differs; reads = opens.0; opened = opens.1; is = refl }
+  began = record { called = found.called; so_far = found.so_far; spot = spot; found = found.stale; agrees = front-agrees; stale = store-differs; reads = opens.0; opened = opens.1; is = refl }
 
   -- the end of the read
   pub end-run : end_in read run.tables.trace.nodes ≡ Some spot.end

@@ -1,5 +1,5 @@
 -- The end of a turn: what is left over is revoked, and the run stands for one turn more.
-use Rattle.std.proofs.Common.{◌≡◌, ℕ, Some, List, [], ◌∷◌, ◌++◌, refl, sym, ap, subst, ◌∙◌, append_assoc}
+use Rattle.std.proofs.Common.{◌≡◌, ℕ, true, Some, List, [], ◌∷◌, ◌++◌, refl, sym, ap, subst, ◌∙◌, append_assoc}
 use Rattle.std.specs.Option.{option_map}
 use Rattle.ceal_base.specs.Block.{Block}
 use Rattle.ceal_base.specs.Trace.{Trace, flat}
@@ -10,11 +10,15 @@ use Rattle.ceal_base.specs.declared.word.Word.{Word}
 use Rattle.ceal_code.specs.Program.{Code}
 use Rattle.ceal_code.specs.Step.{Stack, Over, next}
 use Rattle.ceal_heap.specs.Heap.{Contents, plain_block, plain_of}
+use Rattle.ceal_repair.proofs.Propagation.Departing.{grove-inside}
 use Rattle.ceal_repair.proofs.Propagation.NewBlockNumbers.{GoesOn, goes-on, continues-front, turns-sound, turns-more}
 use Rattle.ceal_repair.proofs.Runs.RunEnd.{frames-none}
+use Rattle.ceal_repair.proofs.Runs.Nearness.{lies-parts}
+use Rattle.ceal_repair.proofs.Runs.Paid.{stale-after}
 use Rattle.ceal_repair.proofs.Runs.FewNumbers.{given-same}
 use Rattle.ceal_repair.proofs.Nodes.AroundRead.{flat-once, end-closes, spot-nests}
 use Rattle.ceal_repair.proofs.Propagation.TurnCourse.{store_there, start_there, back_there, chosen_now, turn-course}
+use Rattle.ceal_order.specs.Stamps.{is_in}
 use Rattle.ceal_repair.specs.Blocks.{HasBlocks, KeepsReadable}
 use Rattle.ceal_repair.specs.Entries.{stamp_of_number, entry, entries, end_entry, first_in, Lies}
 use Rattle.ceal_repair.specs.Moment.{View, Start, RunningNow, through, state_at}
@@ -27,7 +31,7 @@ use Rattle.ceal_repair.specs.declared.running.Running.{Running}
 use Rattle.ceal_theory.proofs.SlicedRepair.SliceLaws.{slice-law}
 use Rattle.ceal_theory.specs.Chosen.{Continues}
 use Rattle.ceal_theory.specs.Course.{Wait, running_at}
-use Rattle.ceal_theory.specs.Groves.{Bare}
+use Rattle.ceal_theory.specs.Groves.{Grove, Bare}
 use Rattle.ceal_theory.specs.Repair.{State}
 use Rattle.ceal_theory.specs.SliceLaws.{Turns}
 use Rattle.ceal_theory.specs.Slices.{Slices, repair_at, with_inputs}
@@ -35,7 +39,7 @@ use Rattle.ceal_theory.specs.Moves.{Ended, next_move}
 use Rattle.ceal_trace.proofs.Parting.{unclosed-append}
 use Rattle.ceal_trace.proofs.Parts.{forest-append}
 use Rattle.ceal_trace.specs.Items.{forest_of, unclosed, Nests}
-use Rattle.ceal_trace.specs.Nodes.{Entry}
+use Rattle.ceal_trace.specs.Nodes.{Entry, stamps_in}
 use Rattle.ceal_trace.specs.declared.node.Node.TheVariants.{Read}
 
 -- where a unit is over and nothing waits the machine has ended
@@ -144,20 +148,37 @@ module _ (code : Code) (inputs : List Block) (f : ℕ) (args : List Word) (o : S
       history = λ names h. turns-more code names inputs o.repair b.so_far.repair (repair_at state one.items) o.turns (old-history names h) (every names h);
     }
 
-    -- the read and the nodes that the turn made
-    abbrev fresh-nodes : List Entry
-    fresh-nodes =
-        entry b.spot.read (Read b.spot.place (store_there code inputs f args o before start b b.spot.place) b.spot.unit b.spot.var b.spot.args) now.placed.began.steps ∷ now.placed.began.fresh
+    abbrev beyond : List Entry
+    beyond = end_entry b.spot.end b.spot.read b.spot.end_steps ∷ b.spot.behind
 
-    -- the nodes before the read are as they were
+    -- the read as it is now
+    abbrev read-now : Entry
+    read-now = entry b.spot.read (Read b.spot.place (store_there code inputs f args o before start b b.spot.place) b.spot.unit b.spot.var b.spot.args) now.placed.began.steps
+
+    whole : run.tables.trace.nodes ≡ b.spot.before ++ read-now ∷ (now.placed.began.fresh ++ beyond)
+    whole = nodes ∙ (ap (λ es. es ++ beyond) now.placed.began.same ∙ append_assoc b.spot.before (read-now ∷ now.placed.began.fresh) beyond)
+
+    -- it is open after the nodes that the turn made
+    opened-now : unclosed (Some (b.spot.read ∷ b.reads)) now.placed.began.fresh ≡ Some (b.spot.read ∷ b.reads)
+    opened-now = sym (ap (λ o. unclosed o (read-now ∷ now.placed.began.fresh)) b.opened)
+        ∙ (sym (unclosed-append b.spot.before (read-now ∷ now.placed.began.fresh) (Some []))
+        ∙ (sym (ap (λ es. unclosed (Some []) es) now.placed.began.same)
+        ∙ (now.placed.opened ∙ ap (λ rs. Some (rs ++ b.spot.read ∷ b.reads)) bottom.2)))
+
+    inside-now : (g : Grove) × (now.placed.began.fresh ≡ entries g)
+    inside-now = grove-inside run.tables.trace kept.step.whole b.spot.before now.placed.began.fresh beyond read-now b.reads whole b.opened opened-now
+
+    -- the nodes before the read are as they were, and so are those from its end on
     pub turn-ends : TurnEnded code inputs f args o start run
     turn-ends = record {
       so_far = so-far;
-      after = fresh-nodes ++ end_entry b.spot.end b.spot.read b.spot.end_steps ∷ b.spot.behind;
-      front = nodes
-          ∙ (ap (λ es. es ++ end_entry b.spot.end b.spot.read b.spot.end_steps ∷ b.spot.behind) now.placed.began.same
-          ∙ (append_assoc b.spot.before fresh-nodes (end_entry b.spot.end b.spot.read b.spot.end_steps ∷ b.spot.behind)
-          ∙ ap (λ (s : Start). s.before ++ (fresh-nodes ++ end_entry b.spot.end b.spot.read b.spot.end_steps ∷ b.spot.behind)) (sym b.is)));
+      steps = now.placed.began.steps;
+      inside = inside-now.0;
+      nodes = subst (λ (s : Start). run.tables.trace.nodes ≡ s.before ++ entry s.stamp s.node now.placed.began.steps ∷ (entries inside-now.0 ++ s.beyond)) (sym b.is)
+          (whole ∙ ap (λ es. b.spot.before ++ read-now ∷ (es ++ beyond)) inside-now.1);
+      ahead = λ r stale. subst (λ (s : Start). is_in r (stamps_in s.beyond) ≡ true) (sym b.is)
+          (subst (λ (es : List Entry). is_in r (stamps_in es) ≡ true) ((lies-parts v.cursor front Bare now.tail run.tables kept l').1 ∙ bottom.3)
+          (stale-after run.tables kept v.cursor r l'.late stale));
     }
 
 -- the unit of a repair in code that is over runs from that beginning

@@ -1,9 +1,11 @@
 -- Where no read is stale any more, all items are honest.
-use Rattle.std.proofs.Common.{◌≡◌, ℕ, List, [], sym, subst, ◌∙◌, append-nil}
+use Rattle.std.proofs.Common.{◌≡◌, ℕ, List, [], sym, ap, subst, ◌∙◌, append-nil}
 use Rattle.ceal_base.specs.Block.{Block}
 use Rattle.ceal_base.specs.declared.word.Word.{Word}
 use Rattle.ceal_code.specs.Program.{Code}
 use Rattle.ceal_repair.proofs.Nodes.StoreAgreement.{agrees-front, honest-front}
+use Rattle.ceal_repair.proofs.Propagation.Departing.{departs-still}
+use Rattle.ceal_repair.proofs.TableCalls.BaseEdit.{stale-same}
 use Rattle.ceal_repair.specs.Blocks.{HasBlocks}
 use Rattle.ceal_repair.specs.Kept.{Kept, IsHonestRecord}
 use Rattle.ceal_repair.specs.Propagation.{HasCome, IsUpToDate}
@@ -14,6 +16,7 @@ use Rattle.ceal_theory.proofs.Store.WritesByPlace.{listed-law}
 use Rattle.ceal_theory.proofs.SlicedRepair.SliceLaws.{ready-law, start-law}
 use Rattle.ceal_theory.specs.Slices.{starting}
 use Rattle.ceal_theory.specs.Walk.{AgreesAll}
+use Rattle.ceal_trace.specs.Nodes.{Timeline}
 
 module _ (code : Code) (inputs : List Block) (f : ℕ) (args : List Word) (o : Since) (old before : Running) (come : HasCome code inputs f args o old before)
     (t : Tables) (kept : Kept t) (trace : t.trace ≡ before.tables.trace) (cells : t.mods.cells ≡ before.tables.mods.cells) where
@@ -59,6 +62,7 @@ module _ (code : Code) (inputs : List Block) (f : ℕ) (args : List Word) (o : S
     items = come.items;
     so_far = so_far;
     front = rw trace come.front;
+    departs = departs-still old.tables.trace.nodes before.tables t (ap (λ (l : Timeline). l.nodes) trace) (λ r s. stale-same t before.tables r trace cells s) come.departs;
     unchanged = λ h. let u = come.unchanged h in (trace ∙ u.0, u.1);
   }
 

@@ -134,7 +134,7 @@ pub none-put : (b c : Account) → SameNodes b c → (o : List Entry) (f s : ℕ
 none-put b c h o f s r = came-as o (omega arith) refl (h o f s r)
 
 pub pays-self : (a : Account) → Pays a a
-pays-self a = stays a a (omega arith) (omega arith) refl refl (counts-still a.tables a.tables refl refl) (omega arith) (λ o f s h. h)
+pays-self a = stays a a (omega arith) (omega arith) refl refl (counts-still a.tables a.tables refl refl refl) (omega arith) (λ o f s h. h)
 
 -- a node is put in whose touches are paid
 pub puts : (a c : Account) → due c.tables ≤ due a.tables → touched_owed c.tables + c.ahead ≤ touched_owed a.tables + a.ahead → c.spent ≡ a.spent → NoneDiffers a.tables c.tables
@@ -329,7 +329,7 @@ pays-settled a b kept none p =
     let m = ap ends_ahead none in
     let f = p.few in
     record {
-      counts = record { looked = p.counts.looked; differed = p.counts.differed; touched = p.counts.touched };
+      counts = record { looked = p.counts.looked; differed = p.counts.differed; touched = p.counts.touched; grows = p.counts.grows; seed = p.counts.seed };
       fresh = p.fresh;
       stale = p.stale;
       reuses = reuses-as nodes (omega arith) (omega arith)
@@ -357,6 +357,10 @@ first-pays a nodes queue looks spent b c a' t s u v pays same =
       looks = omega (arith, l, n, q, looks.looked, none, spent);
       differed = d ∙ looks.differed;
       touches = omega (arith, h, m, looks.touched, none, spent);
+      room = λ few. elim ((p.counts.grows few).room) [
+        | inl r ↦ omega (arith, r, m, looks.spare)
+        | inr r ↦ omega (arith, r, h, m, looks.touched, none, spent)
+      ];
     }
 
 -- ---- turns, of each of which one look is left over

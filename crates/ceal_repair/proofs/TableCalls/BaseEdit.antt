@@ -134,7 +134,7 @@ looking-first old k = record {
   looks = omega arith;
   queued = omega arith;
   differed = refl;
-  counts = counts-still old old refl refl;
+  counts = counts-still old old refl refl refl;
   marks = refl;
 }
 

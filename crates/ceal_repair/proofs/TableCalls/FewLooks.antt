@@ -1,14 +1,17 @@
 -- How many contents are looked at.
-use Rattle.std.proofs.Common.{◌≡◌, ◌≤◌, ◌+◌, ℕ, inl, inr, List, [], ◌∷◌, length, Some, None, true, false, refl, ap, arith}
-use Rattle.std.proofs.Math.Nat.{min-le_left}
+use Rattle.std.proofs.Common.{◌≡◌, ◌≤◌, ◌+◌, ℕ, inl, inr, List, [], ◌∷◌, length, Some, None, true, false, refl, ap, ◌∙◌, arith}
+use Rattle.std.proofs.Math.Nat.{min-le_left, le-min, max-le, eq-or-lt_of_le}
+use Rattle.std.proofs.lemmas.Bool.{cases_lt}
 use Rattle.std.proofs.lemmas.Bool.Decides.{eqb_tells}
-use Rattle.std.specs.Prelude.{min, ◌-◌, ◌^◌, Option, IfSome, IfNone}
+use Rattle.std.specs.Prelude.{min, max, ◌-◌, ◌^◌, ◌<◌, ◌⊎◌, ◌*◌, Option, IfSome, IfNone}
 use Rattle.std.specs.Option.{is_some}
 use Rattle.ceal_base.specs.declared.word.Place.{Place}
 use Rattle.ceal_base.specs.declared.word.Word.{Word}
 use Rattle.ceal_code.proofs.Words.SameIsEqual.{some-same, none-some}
+use Rattle.ceal_memo.specs.Memo.{Contents as Memo}
 use Rattle.ceal_mods.specs.Mods.{Contents}
-use Rattle.ceal_repair.specs.Looks.{looks_owed, touched_owed, due, writes_at, write_count, CountsOn, NoneDiffers}
+use Rattle.ceal_order.specs.Stamps.{room_beyond}
+use Rattle.ceal_repair.specs.Looks.{looks_owed, touched_owed, due, writes_at, write_count, slots, Grows, CountsOn, NoneDiffers}
 use Rattle.ceal_repair.specs.declared.tables.Tables.{Tables}
 use Rattle.ceal_trace.specs.Nodes.{Entry, Timeline, TouchesOne, OneMoreNode, SameBut, stamps_in, node_at, without_entry}
 use Rattle.ceal_trace.specs.declared.node.Node.TheVariants.{Write}
@@ -34,14 +37,38 @@ count-write s p v (e ∷ es) h = elim (eqb_tells e.stamp s) [
 
 -- ---- what was counted
 
-pub counts-as : (a b : Tables) → b.mods.looked ≡ a.mods.looked → NoneDiffers a b → a.trace.touched ≤ b.trace.touched → CountsOn a b
-counts-as a b l d t = record { looked = omega (arith, l); differed = omega (arith, d); touched = t }
+-- as many nodes, and as much room
+pub grows-as : (a b : Timeline) → length b.nodes ≡ length a.nodes → b.spare ≡ a.spare → a.touched ≤ b.touched → Grows a b
+grows-as a b n s t = record { nodes = omega (arith, n, t); room = inl (omega (arith, n, s)) }
 
-pub counts-same : (a b : Tables) → b.mods ≡ a.mods → a.trace.touched ≤ b.trace.touched → CountsOn a b
-counts-same a b e t = counts-as a b (ap (λ (m : Contents). m.looked) e) (ap (λ (m : Contents). m.differed) e) t
+pub grows-still : (a b : Timeline) → b ≡ a → Grows a b
+grows-still a b e =
+    grows-as a b (ap (λ (x : Timeline). length x.nodes) e) (ap (λ (x : Timeline). x.spare) e) (let t = ap (λ (x : Timeline). x.touched) e in omega (arith, t))
 
-pub counts-still : (a b : Tables) → b.mods ≡ a.mods → b.trace ≡ a.trace → CountsOn a b
-counts-still a b e f = counts-same a b e (let t = ap (λ (x : Timeline). x.touched) f in omega (arith, t))
+pub grows-then : (a b c : Timeline) → a.touched ≤ b.touched → b.touched ≤ c.touched → Grows a b → Grows b c → Grows a c
+grows-then a b c t u g h = record {
+  nodes = (let m = g.nodes in let n = h.nodes in omega (arith, m, n));
+  room = by g.room h.room;
+}
+  where
+    by : (slots b ≤ slots a) ⊎ (slots b + a.touched ≤ length a.nodes + b.touched + room_beyond) → (slots c ≤ slots b) ⊎ (slots c + b.touched ≤ length b.nodes + c.touched + room_beyond)
+        → (slots c ≤ slots a) ⊎ (slots c + a.touched ≤ length a.nodes + c.touched + room_beyond)
+    by (inl p) (inl q) = inl (omega (arith, p, q))
+    by (inr p) (inl q) = inr (omega (arith, p, q, u))
+    by p (inr q) = let m = g.nodes in inr (omega (arith, m, q))
+
+-- nothing was looked at, and the nodes are the same
+pub counts-as : (a b : Tables) → b.mods.looked ≡ a.mods.looked → NoneDiffers a b → b.trace ≡ a.trace → b.memo ≡ a.memo → CountsOn a b
+counts-as a b l d f m = record {
+  looked = omega (arith, l);
+  differed = omega (arith, d);
+  touched = (let t = ap (λ (x : Timeline). x.touched) f in omega (arith, t));
+  grows = λ few. grows-still a.trace b.trace f;
+  seed = ap (λ (x : Memo). x.seed) m;
+}
+
+pub counts-still : (a b : Tables) → b.mods ≡ a.mods → b.trace ≡ a.trace → b.memo ≡ a.memo → CountsOn a b
+counts-still a b e f m = counts-as a b (ap (λ (m : Contents). m.looked) e) (ap (λ (m : Contents). m.differed) e) f m
 
 pub counts-then : (a b c : Tables) → CountsOn a b → CountsOn b c → CountsOn a c
 counts-then a b c p q =
@@ -50,7 +77,14 @@ counts-then a b c p q =
     let d = p.differed in
     let e = q.differed in
     let t = p.touched in
-    let u = q.touched in record { looked = omega (arith, l, m); differed = omega (arith, d, e); touched = omega (arith, t, u) }
+    let u = q.touched in
+    record {
+      looked = omega (arith, l, m);
+      differed = omega (arith, d, e);
+      touched = omega (arith, t, u);
+      grows = λ few. grows-then a.trace b.trace c.trace t u (p.grows (omega (arith, few, u))) (q.grows few);
+      seed = q.seed ∙ p.seed;
+    }
 
 -- ---- what was touched
 
@@ -70,6 +104,42 @@ touched-more s a r b e t one more =
 
 pub touched-on : (a r b : Timeline) → r.touched ≡ a.touched → TouchesOne r b → a.touched ≤ b.touched
 touched-on a r b t one = let n = one.no_fewer in omega (arith, t, n)
+
+-- as long as it is counted
+pub touched-once : (a b : Timeline) → TouchesOne a b → b.touched < 2 ^ 64 - 1 → b.touched ≡ a.touched + 1
+touched-once a b one few = elim (eq-or-lt_of_le (min-le_left (a.touched + 1) (2 ^ 64 - 1))) [
+  | inl h ↦ one.counted ∙ h
+  | inr h ↦ absurd (let e = one.counted in let k : b.touched + 1 ≤ min (a.touched + 1) (2 ^ 64 - 1) = le-min (omega (arith, e, h)) (omega (arith, few)) in omega (arith, e, k))
+]
+
+pub grows-put : (s : ℕ) (a r b : Timeline) → r.nodes ≡ a.nodes → r.touched ≡ a.touched → r.spare ≤ max a.spare (1 + room_beyond) → TouchesOne r b → OneMoreNode s r.nodes b.nodes
+    → b.spare + 1 ≡ r.spare → b.touched < 2 ^ 64 - 1 → Grows a b
+grows-put s a r b e t most one more spare few =
+    let l = more.long in
+    let x = stamps-long b.nodes in
+    let y = stamps-long r.nodes in
+    let z = ap (λ (es : List Entry). length es) e in
+    let c = touched-once r b one few in
+    record {
+      nodes = omega (arith, t, c, l, x, y, z);
+      room = elim (cases_lt a.spare (1 + room_beyond)) [
+        | inl g ↦ (let h : max a.spare (1 + room_beyond) ≤ 1 + room_beyond = max-le (omega (arith, g)) (omega arith) in inr (omega (arith, most, h, spare, l, x, y, z, t, c)))
+        | inr g ↦ (let h : max a.spare (1 + room_beyond) ≤ a.spare = max-le (omega arith) g in inl (omega (arith, most, h, spare, l, x, y, z)))
+      ];
+    }
+
+pub grows-cut : (s : ℕ) (a b : Timeline) → TouchesOne a b → OneMoreNode s b.nodes a.nodes → b.spare ≡ a.spare + 1 → Grows a b
+grows-cut s a b one more spare =
+    let n = one.no_fewer in
+    let l = more.long in
+    let x = stamps-long b.nodes in
+    let y = stamps-long a.nodes in record { nodes = omega (arith, n, l, x, y); room = inl (omega (arith, l, x, y, spare)) }
+
+pub grows-but : (s : ℕ) (a b : Timeline) → TouchesOne a b → SameBut s a.nodes b.nodes → b.spare ≡ a.spare → Grows a b
+grows-but s a b one same spare =
+    let l = ap (λ (ns : List ℕ). length ns) same.stamps in
+    let x = stamps-long b.nodes in
+    let y = stamps-long a.nodes in grows-as a b (omega (arith, l, x, y)) spare one.no_fewer
 
 -- a node was taken out
 pub touched-less : (s : ℕ) (a b : Timeline) → TouchesOne a b → OneMoreNode s b.nodes a.nodes → b.touched + length b.nodes ≤ a.touched + length a.nodes

@@ -7,6 +7,7 @@ ghost use Rattle.ceal_base.specs.declared.word.Place.{Place as PlaceOf};
 ghost use Rattle.ceal_base.specs.declared.word.Word.{Word as WordOf};
 ghost use Rattle.ceal_repair.specs.Kept.{Kept, QueuedAfter, QueuedFrom, base_in};
 ghost use Rattle.ceal_repair.specs.Looks.{looks_owed, touched_owed, CountsOn, NoneDiffers, KeepsMarks};
+ghost use Rattle.ceal_repair.specs.Room.{EntersNone, KeepsLists};
 ghost use Rattle.ceal_trace.specs.Nodes.{node_at, position, is_read, end_in, without_entry};
 ghost use Rattle.ceal_trace.specs.declared.node.Node.TheVariants.{Alloc, Write};
 
@@ -27,6 +28,7 @@ impl Tables {
         ensures queue { self.new.stale ≡ self.old.stale }
         ensures touched { touched_owed self.new ≤ touched_owed self.old }
         ensures counts { CountsOn self.old self.new }
+        ensures lists { KeepsLists self.old self.new }
         ensures kept { Kept self.new }
     {
         self.memo.remove(self.trace.order(), alloc);
@@ -52,6 +54,8 @@ impl Tables {
         ensures touched { OnOk result (touched_owed self.new ≤ touched_owed self.old) }
         ensures counts { OnOk result (CountsOn self.old self.new) }
         ensures marks { OnOk result (KeepsMarks self.old self.new) }
+        ensures cells { OnOk result (EntersNone self.old self.new) }
+        ensures memo { OnOk result (self.new.memo ≡ self.old.memo) }
         ensures kept { OnOk result (Kept self.new) }
     {
         self.stale.reserve(1)?;
@@ -80,6 +84,8 @@ impl Tables {
         ensures touched { touched_owed self.new ≤ touched_owed self.old }
         ensures counts { CountsOn self.old self.new }
         ensures marks { KeepsMarks self.old self.new }
+        ensures cells { EntersNone self.old self.new }
+        ensures lists { KeepsLists self.old self.new }
         ensures kept { Kept self.new }
     {
         let end = match self.trace.end_of(read) {

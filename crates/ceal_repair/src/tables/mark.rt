@@ -19,6 +19,7 @@ impl Tables {
         requires kept { Kept self.old }
         ensures trace { self.new.trace ≡ self.old.trace }
         ensures cells { self.new.mods.cells ≡ self.old.mods.cells }
+        ensures memo { self.new.memo ≡ self.old.memo }
         ensures looks { LooksAtNothing self.old self.new }
         ensures marked { OnOk result (IsSome self.new.mods.marked) }
         ensures held { OnOk result ((p : PlaceOf)

@@ -25,6 +25,7 @@ use Rattle.ceal_engine.specs.declared.phase.Phase.TheVariants.{New, Finished, Pe
 use Rattle.ceal_engine.specs.declared.run_error.RunError.{RunError}
 use Rattle.ceal_engine.specs.declared.run_error.RunError.TheVariants.{Memory, OutOfFuel}
 use Rattle.ceal_session.proofs.Engine.RunLeavesPast.{above, is-above, has-first}
+use Rattle.ceal_session.specs.Marks.{KeepsMarks}
 use Rattle.ceal_session.specs.Outcomes.{Outcome, EngineAfterCall, IsSliceOf}
 use Rattle.ceal_session.specs.SessionState.{past_of, past_by, traced_by, going_by}
 use Rattle.ceal_theory.proofs.SlicedRepair.CarriedLaws.{carried-same-law, carried-trace-law, edited-so, own-single}
@@ -286,6 +287,7 @@ module _ (e e' : EngineState) (k : IsEngine e) (call : Call) (fit : Fits e.code 
         (past_of e')) (sym (same-none same (past-none e k none)))
         (after-first e e' call code fuel inputs called fit (ap is_whole anew.phase) anew.present anew.first);
     cost = CostOfCall.run part anew.first anew.cost;
+    marks = KeepsMarks.anew anew;
   }
 
   -- an error, after which there is no run
@@ -302,6 +304,7 @@ module _ (e e' : EngineState) (k : IsEngine e) (call : Call) (fit : Fits e.code 
     slice = slice;
     makes = λ p of same. tt;
     cost = CostOfCall.given_up dropped;
+    marks = KeepsMarks.lost dropped;
   }
   failed Memory slice out dropped = record {
     code = code;
@@ -314,6 +317,7 @@ module _ (e e' : EngineState) (k : IsEngine e) (call : Call) (fit : Fits e.code 
     slice = slice;
     makes = λ p of same. tt;
     cost = CostOfCall.given_up dropped;
+    marks = KeepsMarks.lost dropped;
   }
 
   no-slice-of : has_run e.phase ≡ false → (error : RunError) → (p : Past) → IsPastOf e.code e.inputs call.function call.args p → IsHad p → IsSliceOf (Err error) e.code e.inputs (slice_at p)
@@ -350,6 +354,7 @@ module _ (e e' : EngineState) (k : IsEngine e) (call : Call) (fit : Fits e.code 
             subst (λ o. SamePast e.code e.inputs call.function call.args (left o) (past_of e')) (sym (slice-is p n ∙ none 0 n.repair n.carries))
             (after-first e e' call code fuel inputs called fit (ap is_whole anew.phase) anew.present anew.first);
         cost = CostOfCall.run part anew.first anew.cost;
+        marks = KeepsMarks.anew anew;
       }
 
       slice-out : (error : RunError) → AdvanceOutcome e e' reads (Err error) → (p : Past) → IsPastOf e.code e.inputs call.function call.args p → IsHad p
@@ -374,6 +379,7 @@ module _ (e e' : EngineState) (k : IsEngine e) (call : Call) (fit : Fits e.code 
               subst (λ o. SamePast e.code e.inputs call.function call.args (left runs o) (past_of e')) (sym (slice-is runs p n ∙ g.is))
               (after-part e e' call code fuel inputs called fit g.repair o.phase g.more g.carries);
           cost = CostOfCall.repair o.repairs.cost;
+          marks = KeepsMarks.still o.repairs.marked;
         }
     brought (Ok Done) o out dropped =
         let runs = o.repairs.run in
@@ -390,6 +396,7 @@ module _ (e e' : EngineState) (k : IsEngine e) (call : Call) (fit : Fits e.code 
               subst (λ o. SamePast e.code e.inputs call.function call.args (left runs o) (past_of e')) (sym (slice-is runs p n ∙ g.is))
               (after-done e e' call code fuel inputs called fit reads n.repair (ap is_whole o.phase) o.present g);
           cost = CostOfCall.repair o.repairs.cost;
+          marks = KeepsMarks.still o.repairs.marked;
         }
     brought (Ok Anew) o out dropped =
         elim o.from [

@@ -88,7 +88,7 @@ module _ (e e' : EngineState) (code : e'.code ≡ e.code) (fuel : e'.fuel ≡ e.
       go None = refl
       go (Some l) = ap Going (rw (heap, phase, work) refl)
 
-  past-same : e'.phase ≡ e.phase → past_of e' ≡ past_of e
+  pub past-same : e'.phase ≡ e.phase → past_of e' ≡ past_of e
   past-same phase = ap (λ f. past_by f e') phase ∙ go e.phase
     where
       go : (f : Phase) → past_by f e' ≡ past_by f e
@@ -108,25 +108,25 @@ module _ (e e' : EngineState) (code : e'.code ≡ e.code) (fuel : e'.fuel ≡ e.
       go Partial i = going-same (phase ∙ (ap phase_after_edit i ∙ sym i))
       go Dropped i = traced-same
 
-  run-same : (xs : List Block) (c : Call) → IsRunOn e xs c → IsRunOn e' xs c
+  pub run-same : (xs : List Block) (c : Call) → IsRunOn e xs c → IsRunOn e' xs c
   run-same xs c r = record { fits = subst (λ d. Fits d xs c.function c.args) (sym code) r.fits; first = r.first; is = rw (code, fuel) r.is }
 
-  if-call : {P Q : Call → Type 0} → ((c : Call) → P c → Q c) → IfSome e.call P → IfSome e'.call Q
+  pub if-call : {P Q : Call → Type 0} → ((c : Call) → P c → Q c) → IfSome e.call P → IfSome e'.call Q
   if-call {P} {Q} f h = subst (λ o. IfSome o Q) (sym call) (go e.call h)
     where
       go : (o : Option Call) → IfSome o P → IfSome o Q
       go None x = tt
       go (Some c) x = f c x
 
-  bound-same : (xs : List Block) (measure : Measure) → bound_from e' xs measure ≡ bound_from e xs measure
+  pub bound-same : (xs : List Block) (measure : Measure) → bound_from e' xs measure ≡ bound_from e xs measure
   bound-same xs (Number n) = refl
   bound-same xs (Between es) = rw (code, fuel, call) refl
 
-  measured-same : (xs : List Block) (measure : Measure) → IsMeasured e xs measure → IsMeasured e' xs measure
+  pub measured-same : (xs : List Block) (measure : Measure) → IsMeasured e xs measure → IsMeasured e' xs measure
   measured-same xs (Number n) h = tt
   measured-same xs (Between es) h = (h.0, if-call (λ c r. (run-same (undone es xs) c r.0, run-same xs c r.1)) h.1)
 
-  was-same : (xs : List Block) → IfSome e.call (λ c. IfSome (trace e) (WasHonest e xs c)) → IfSome e'.call (λ c. IfSome (trace e') (WasHonest e' xs c))
+  pub was-same : (xs : List Block) → IfSome e.call (λ c. IfSome (trace e) (WasHonest e xs c)) → IfSome e'.call (λ c. IfSome (trace e') (WasHonest e' xs c))
   was-same xs h = if-call (λ c r. subst (λ o. IfSome o (WasHonest e' xs c)) (sym same-trace) (go c (trace e) r)) h
     where
       go : (c : Call) (o : Option Trace) → IfSome o (WasHonest e xs c) → IfSome o (WasHonest e' xs c)

@@ -35,7 +35,7 @@ module _ (code : Code) (old new : List Block) (ext : Extended code old new) wher
   stays i field None e h = absurd (grind (arith, h))
   stays i field (Some block) e h = ap is_cell (same-kind block field (slice_get new i) (ext i block e)) ∙ h
 
-  cell-stays : (b : BlockId) (field : ℕ) → is_cell (kind_at code.structs (alone old) (record { block = b; field = field })) ≡ true
+  pub cell-stays : (b : BlockId) (field : ℕ) → is_cell (kind_at code.structs (alone old) (record { block = b; field = field })) ≡ true
       → is_cell (kind_at code.structs (alone new) (record { block = b; field = field })) ≡ true
   cell-stays (Input i) field h = stays i field (slice_get old i) refl h
   cell-stays (Core c) field h = absurd (grind (arith, h))

@@ -336,7 +336,7 @@ module _ (progress : ProgressLaw) (line_law : LineLaw) (whole_law : WholeLaw) (t
     word-good Unknown value cell = refused C4
     word-good Plain value cell = refused C4
 
-    set-good : (place value : Sense) → IsCellSense s place → Calm (step_of_set s place value)
+    pub set-good : (place value : Sense) → IsCellSense s place → Calm (step_of_set s place value)
     set-good place value cell = go (is_unknown place || is_unknown value)
       where
         go : (a : Bool) → Calm (if a then refuses s C2 else step_of_word s place value)
@@ -578,7 +578,7 @@ module _ (progress : ProgressLaw) (line_law : LineLaw) (whole_law : WholeLaw) (t
     pub before-line : (call : Call) → Accepted s call → (s.call ≡ Some call) ⊎ ((s.call ≡ None) × (m.past ≡ NoTrace))
     before-line call a = elim a.only [ inl e ↦ inr (e, subst (λ o. IsPastIn code s o m.past) e st.past) | inr e ↦ inl e ]
 
-    fits-called : (o : Option Call) → IfSome o (IsCall s) → IfSome o (λ call. Fits code s.inputs call.function call.args)
+    pub fits-called : (o : Option Call) → IfSome o (IsCall s) → IfSome o (λ call. Fits code s.inputs call.function call.args)
     fits-called None h = tt
     fits-called (Some call) h = fits-call call h
 

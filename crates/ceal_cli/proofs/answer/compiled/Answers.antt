@@ -1,3 +1,6 @@
+use Rattle.std.proofs.Common.{inl, refl, rules}
+use Rattle.ceal_cli.specs.Output.{AreFirstReplies}
+use Rattle.ceal_cli.proofs.Sessions.GrowingReplies.{kept, nothing}
 use Rattle.ceal_cli.proofs.Outputs.OutputByMode.{not_accepted}
 use Rattle.ceal_cli.proofs.Inputs.AnswerOrRefusal.{taken-accepted}
 use Rattle.ceal_cli.proofs.answer.compiled.Goals as goal
@@ -12,3 +15,11 @@ returns-in_ok-refuse-in-Err-Fault-clause-taken g c = (
 
 pub returns-in_ok-refuse-in-Err-Fault-clause-readable : goal.returns-in_ok-refuse-in-Err-Fault-clause-readable
 returns-in_ok-refuse-in-Err-Fault-clause-readable g c = λ t. absurd (cc t)
+
+-- without memory for the code nothing is written
+pub returns-in-Err-Memory-clause-cut : goal.returns-in-Err-Memory-clause-cut
+returns-in-Err-Memory-clause-cut g c = λ _ _ fuel _. nothing (g.K.Sink.written c.args.sink.now) (AreFirstReplies fuel c.args.input.bytes.now) (inl refl)
+
+pub returns-in_err-refuse-in-Err-Fault-clause-cut : goal.returns-in_err-refuse-in-Err-Fault-clause-cut
+returns-in_err-refuse-in-Err-Fault-clause-cut g c = λ out own fuel _.
+    kept (g.K.Sink.written c.args.sink.now) (g.K.Sink.written c.refuse.new.sink) (AreFirstReplies fuel c.args.input.bytes.now) (inl refl) (c.refuse.ensures.memory (search rules) own)

@@ -10,4 +10,5 @@ returns g c = record {
       (refused c.args.input.now c.args.mode c.requires.reads c.args.fault c.requires.first c.items.result.now
       (c.items.ensures.value ∙ c.in_ok-line.ensures.text))
       c.write_all.ensures.all c.write_all.ensures.prefix c.write_all.ensures.fault c.write_all.ensures.later;
+  memory = λ is own. absurd (own (c.write_all.ensures.memory is));
 }

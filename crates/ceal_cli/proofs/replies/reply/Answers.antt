@@ -8,4 +8,5 @@ returns g c = record {
   writes = puts_reply _ _ _ _ _ (situation c.args.session.now) (situation c.answer.new.self) c.args.line.now c.in_ok-answer.answer
       (record { answers = c.in_ok-answer.ensures.reply; repairs = c.in_ok-answer.ensures.trace })
       (rw (← c.items.ensures.value) c.write_all.ensures.all) (rw (← c.items.ensures.value) c.write_all.ensures.prefix) c.write_all.ensures.fault c.write_all.ensures.later;
+  memory = λ is own. absurd (own (c.write_all.ensures.memory is));
 }

@@ -1,7 +1,10 @@
-use Rattle.std.proofs.Common.{rules, arith}
+use Rattle.std.proofs.Common.{rules, arith, refl}
 use Rattle.ceal_session.specs.SessionState.{situation}
-use Rattle.ceal_cli.proofs.Sessions.GrowingReplies.{one_more, some_of_it, all_written, all_begun}
+use Rattle.ceal_cli.proofs.Sessions.GrowingReplies.{none_so_far, one_more, some_of_it, first_served, all_written, all_begun}
 use Rattle.ceal_cli.proofs.replies.reply_all.Goals as goal
+
+pub loop-line-init : goal.loop-line-init
+loop-line-init g c = record { so_far = none_so_far _ _ _; later = omega arith }
 
 pub loop-line-preserved : goal.loop-line-preserved
 loop-line-preserved g c =
@@ -22,6 +25,7 @@ returns-in_err-reply g c =
         fault = search rules;
         later = omega (arith, c.loop-line.invariant.later, c.reply.ensures.writes.later);
       };
+      cut = λ is own. first_served _ _ _ _ _ _ _ left (c.reply.ensures.memory (search rules) own);
     }
 
 pub returns : goal.returns
@@ -34,4 +38,5 @@ returns g c =
         fault = search rules;
         later = c.loop-line.invariant.later;
       };
+      cut = λ is. absurd (cc is);
     }

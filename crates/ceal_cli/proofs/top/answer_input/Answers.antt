@@ -1,7 +1,7 @@
-use Rattle.std.proofs.Common.{arith}
+use Rattle.std.proofs.Common.{arith, rules}
 use Rattle.ceal_cli.proofs.Outputs.OutputOfBytes.{output_for, answer_for, refusal_for, prefix_for, readable_for}
 use Rattle.ceal_cli.proofs.Outputs.OutputOfBytes.{short_for, taken_for, refused_for, done_for, not_refused_for}
-use Rattle.ceal_cli.proofs.Outputs.OutputOfBytes.{not_done_for, not_taken_for, none_for}
+use Rattle.ceal_cli.proofs.Outputs.OutputOfBytes.{not_done_for, not_taken_for, none_for, first_for, none_first_for, beyond_for, kept_for}
 use Rattle.ceal_cli.proofs.top.answer_input.Goals as goal
 
 pub returns-in-Ok-true-clause-output : goal.returns-in-Ok-true-clause-output
@@ -82,3 +82,37 @@ pub returns-in-Ok-true-clause-readable : goal.returns-in-Ok-true-clause-readable
 returns-in-Ok-true-clause-readable g c =
     λ _. readable_for _ _ _ _ c.in-Ok.ensures.all c.in-Ok.ensures.end c.deref.ensures.value _ _ c.args.mode
     (c.in-Ok-true.ensures.readable c.in-Ok-true.field-0-test)
+
+pub returns-in-Ok-true-clause-beyond : goal.returns-in-Ok-true-clause-beyond
+returns-in-Ok-true-clause-beyond g c =
+    beyond_for _ _ _ _ c.in-Ok.ensures.all c.in-Ok.ensures.end c.deref.ensures.value _ (omega (arith, c.deref.ensures.len, c.in-Ok.ensures.within))
+
+pub returns-in-Ok-false-clause-beyond : goal.returns-in-Ok-false-clause-beyond
+returns-in-Ok-false-clause-beyond g c =
+    beyond_for _ _ _ _ c.in-Ok.ensures.all c.in-Ok.ensures.end c.deref.ensures.value _ (omega (arith, c.deref.ensures.len, c.in-Ok.ensures.within))
+
+pub returns-in-Err-Memory-write_answer-clause-beyond : goal.returns-in-Err-Memory-write_answer-clause-beyond
+returns-in-Err-Memory-write_answer-clause-beyond g c =
+    beyond_for _ _ _ _ c.in-Ok.ensures.all c.in-Ok.ensures.end c.deref.ensures.value _ (omega (arith, c.deref.ensures.len, c.in-Ok.ensures.within))
+
+pub returns-clause-beyond : goal.returns-clause-beyond
+returns-clause-beyond g c =
+    beyond_for _ _ _ _ c.in-Ok.ensures.all c.in-Ok.ensures.end c.deref.ensures.value _ (omega (arith, c.deref.ensures.len, c.in-Ok.ensures.within))
+
+pub returns-in-Err-Memory-clause-beyond : goal.returns-in-Err-Memory-clause-beyond
+returns-in-Err-Memory-clause-beyond g c = kept_for _ _
+
+pub returns-in-Err-TooLong-clause-beyond : goal.returns-in-Err-TooLong-clause-beyond
+returns-in-Err-TooLong-clause-beyond g c = kept_for _ _
+
+pub returns-in-Err-ReadFault-clause-beyond : goal.returns-in-Err-ReadFault-clause-beyond
+returns-in-Err-ReadFault-clause-beyond g c = kept_for _ _
+
+-- memory ran out for the input
+pub returns-in-Err-Memory-clause-cut : goal.returns-in-Err-Memory-clause-cut
+returns-in-Err-Memory-clause-cut g c = λ _ _ fuel _. none_first_for _ _ fuel
+
+-- memory ran out after the replies to the first lines
+pub returns-in-Err-Memory-write_answer-clause-cut : goal.returns-in-Err-Memory-write_answer-clause-cut
+returns-in-Err-Memory-write_answer-clause-cut g c =
+    λ _ own fuel is. first_for _ _ _ _ c.in-Ok.ensures.all c.in-Ok.ensures.end c.deref.ensures.value _ _ fuel (c.write_answer.ensures.cut (search rules) own fuel is)

@@ -2,9 +2,9 @@ use Rattle.std.proofs.Common.{IfSome, sym, subst}
 use Rattle.ceal_cli.specs.Answers.{IsWhole}
 use Rattle.ceal_cli.specs.SinkGrowth.{WritesGenerated, WritesGeneratedPrefix}
 use Rattle.ceal_cli.specs.ReadBack.{WritesReadable}
-use Rattle.ceal_cli.specs.declared.words.Mode.TheVariants.{Gen, Dump, Save}
+use Rattle.ceal_cli.specs.declared.words.Mode.TheVariants.{Gen, Dump, Run, Save}
 use Rattle.ceal_cli.proofs.Options.OneMode.{one_mode, one_workload, not_both, keeps_limits, small_size}
-use Rattle.ceal_cli.proofs.Outputs.OutputOfBytes.{any_answer, any_output, any_prefix, loses_none, no_refusal}
+use Rattle.ceal_cli.proofs.Outputs.OutputOfBytes.{any_answer, any_output, any_prefix, kept_for, loses_none, no_refusal, none_first_for}
 use Rattle.ceal_cli.proofs.top.ceal_main.Goals as goal
 
 -- the words ask for a workload, and what is written is the output of that
@@ -24,6 +24,21 @@ pub returns-in-Ok-Some-Gen-clause-within : goal.returns-in-Ok-Some-Gen-clause-wi
 returns-in-Ok-Some-Gen-clause-within g c =
     let asked = rw (c.in-Ok-Some-Gen.field-0-is, c.in-Ok-Some-Gen.field-0-0-is) at c.in-Ok-Some-Gen.ensures in
     λ _ reads. absurd (not_both _ (c.in-Ok-Some-Gen.kind, c.in-Ok-Some-Gen.seed, c.in-Ok-Some-Gen.size, asked) reads)
+
+pub returns-in-Ok-Some-Gen-clause-cut : goal.returns-in-Ok-Some-Gen-clause-cut
+returns-in-Ok-Some-Gen-clause-cut g c =
+    let asked = rw (c.in-Ok-Some-Gen.field-0-is, c.in-Ok-Some-Gen.field-0-0-is) at c.in-Ok-Some-Gen.ensures in
+    λ _ own fuel asks. absurd (not_both _ (c.in-Ok-Some-Gen.kind, c.in-Ok-Some-Gen.seed, c.in-Ok-Some-Gen.size, asked) (Run fuel, asks, tt))
+
+pub returns-in-Ok-Some-Gen-clause-first : goal.returns-in-Ok-Some-Gen-clause-first
+returns-in-Ok-Some-Gen-clause-first g c =
+    let asked = rw (c.in-Ok-Some-Gen.field-0-is, c.in-Ok-Some-Gen.field-0-0-is) at c.in-Ok-Some-Gen.ensures in
+    λ reads. absurd (not_both _ (c.in-Ok-Some-Gen.kind, c.in-Ok-Some-Gen.seed, c.in-Ok-Some-Gen.size, asked) reads)
+
+pub returns-in-Ok-Some-Gen-clause-beyond : goal.returns-in-Ok-Some-Gen-clause-beyond
+returns-in-Ok-Some-Gen-clause-beyond g c =
+    let asked = rw (c.in-Ok-Some-Gen.field-0-is, c.in-Ok-Some-Gen.field-0-0-is) at c.in-Ok-Some-Gen.ensures in
+    λ reads. absurd (not_both _ (c.in-Ok-Some-Gen.kind, c.in-Ok-Some-Gen.seed, c.in-Ok-Some-Gen.size, asked) reads)
 
 -- the same, where the sink took only a part
 pub returns-in-Ok-Some-Gen-clause-prefix : goal.returns-in-Ok-Some-Gen-clause-prefix
@@ -92,6 +107,16 @@ returns-in-Ok-Some-Gen-clause-lost g c = loses_none _ _
 pub returns-in-Ok-None-clause-lost : goal.returns-in-Ok-None-clause-lost
 returns-in-Ok-None-clause-lost g c = loses_none _ _
 
+-- without memory for the words nothing is written
+pub returns-in-Err-clause-cut : goal.returns-in-Err-clause-cut
+returns-in-Err-clause-cut g c = λ _ _ fuel _. none_first_for _ _ fuel
+
+pub returns-in-Err-clause-beyond : goal.returns-in-Err-clause-beyond
+returns-in-Err-clause-beyond g c = λ _. kept_for _ _
+
+pub returns-in-Ok-None-clause-beyond : goal.returns-in-Ok-None-clause-beyond
+returns-in-Ok-None-clause-beyond g c = λ _. kept_for _ _
+
 pub returns-in-Err-clause-lost : goal.returns-in-Err-clause-lost
 returns-in-Err-clause-lost g c = loses_none _ _
 
@@ -114,6 +139,9 @@ returns-in-Ok-Some g c =
       within = λ whole _. c.answer_input.ensures.within whole;
       prefix = λ mode asks. rw (one_mode _ mode c.in-Ok-Some.mode asks asked) c.answer_input.ensures.prefix;
       silent = c.answer_input.ensures.silent;
+      cut = λ is own fuel asks. c.answer_input.ensures.cut is own fuel (one_mode _ c.in-Ok-Some.mode (Run fuel) asked asks);
+      first = λ _. c.answer_input.ensures.first;
+      beyond = λ _. c.answer_input.ensures.beyond;
       early = c.answer_input.ensures.early;
       lost = c.answer_input.ensures.lost;
       unread = λ none. absurd (none (c.in-Ok-Some.mode, asked, input));

@@ -2,6 +2,8 @@ use Rattle.std.proofs.Common.{◌≡◌, ◌≢◌, ◌+◌, suc, List, length, 
 use Rattle.ceal_memo.specs.declared.chains.Group.{Group}
 use Rattle.ceal_memo.specs.Chains.{blank, bucket, next_at, stamped}
 use Rattle.ceal_memo.proofs.Grouping.{group_is, set_here, set_others, lists_linked}
+use Rattle.std.proofs.Common.{sym}
+use Rattle.std.proofs.lemmas.Bool.{false≢true}
 use Rattle.ceal_memo.proofs.Linking.{comes_in}
 use Rattle.ceal_memo.proofs.chains.chain.Goals as goal
 
@@ -30,3 +32,10 @@ returns-clause-chained c =
     let apart : before ≢ suc number = λ same. absurd (omega arith) in
     c.lead.ensures.others number apart ∙ ap (λ (g : Group). g.next) (set_here groups number _ blank c.requires.number) ∙ c.link_after-next.ensures.group n is)
     (λ n other apart. c.lead.ensures.others n other ∙ ap (λ (g : Group). g.next) (set_others groups number _ blank n apart))
+
+-- the group before it has stamps
+pub returns-clause-next : goal.returns-clause-next
+returns-clause-next c = λ n other e.
+    let groups = c.args.groups.now in
+    let at = c.before-before.ensures.before (stamped groups) c.requires.chained in
+    c.lead.ensures.others n (λ is. false≢true (sym e.empty ∙ (at.there n is).chosen)) ∙ ap (λ (g : Group). g.next) (set_others groups c.args.number _ blank n other)

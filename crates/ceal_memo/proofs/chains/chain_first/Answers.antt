@@ -22,3 +22,6 @@ returns-clause-chained c =
     (set_here heads b (number + 1) 0 c.bucket-bucket.ensures.within ∙ more) (set_others heads b (number + 1) 0)
     (ap (λ (g : Group). g.next) (set_here groups number _ blank c.requires.number))
     (λ n other. ap (λ (g : Group). g.next) (set_others groups number _ blank n other))
+
+pub returns-clause-next : goal.returns-clause-next
+returns-clause-next c = λ n other. ap (λ (g : Group). g.next) (set_others c.args.groups.now c.args.number _ blank n other)

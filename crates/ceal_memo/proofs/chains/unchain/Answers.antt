@@ -2,7 +2,9 @@ use Rattle.std.proofs.Common.{length, ap, ◌∙◌}
 use Rattle.ceal_memo.specs.declared.chains.Group.{Group}
 use Rattle.ceal_memo.specs.Chains.{bucket, stamped, with_one}
 use Rattle.ceal_memo.proofs.Grouping.{group_is}
-use Rattle.ceal_memo.proofs.Linking.{goes_out}
+use Rattle.std.proofs.Common.{sym}
+use Rattle.std.proofs.lemmas.Bool.{false≢true}
+use Rattle.ceal_memo.proofs.Linking.{goes_out, with_others}
 use Rattle.ceal_memo.proofs.chains.unchain.Goals as goal
 
 pub returns-clause-chained : goal.returns-clause-chained
@@ -18,3 +20,11 @@ returns-clause-chained c =
     c.lead.ensures.heads c.lead.ensures.unmoved c.requires.chained
     (c.before-before.ensures.before (with_one number (stamped groups)) c.requires.chained)
     (λ first. c.lead.ensures.head first ∙ next) (λ n is. c.lead.ensures.group n is ∙ next) c.lead.ensures.others
+
+-- the group before it has stamps
+pub returns-clause-next : goal.returns-clause-next
+returns-clause-next c = λ n other e.
+    let groups = c.args.groups.now in
+    let number = c.args.number in
+    let at = c.before-before.ensures.before (with_one number (stamped groups)) c.requires.chained in
+    c.lead.ensures.others n (λ is. false≢true (sym e.empty ∙ with_others number (stamped groups) n other (at.there n is).chosen))

@@ -2,7 +2,8 @@ use Rattle.std.proofs.Common.{◌≡◌, ◌<◌, ◌++◌, ◌∷◌, [], false
 use Rattle.std.proofs.lemmas.List.{with_items_is}
 use Rattle.ceal_memo.specs.declared.chains.Group.{Group}
 use Rattle.ceal_memo.specs.Numbers.{IsEntered}
-use Rattle.ceal_memo.specs.Chains.{lists_of, stamped}
+use Rattle.ceal_memo.specs.Chains.{lists_of, stamped, IsEmptyAt}
+use Rattle.ceal_memo.proofs.Spares.{first-spare, added-uses}
 use Rattle.ceal_memo.proofs.Entering.{entered_last}
 use Rattle.ceal_memo.proofs.Grouping.{length_set, length_lists}
 use Rattle.ceal_memo.proofs.Listing.{filled_again}
@@ -20,10 +21,10 @@ returns-in-Some-clause-ok c =
     let long : length new ≡ length groups.items
     = sym (length_lists new) ∙ ap (λ (ls : List (ℕ × List ℕ)). length ls) lists ∙ length_set (lists_of groups.items) number (c.args.hash, stamps) ∙ length_lists groups.items in
     let back = with_items_is groups new (long ∙ sym groups.ok.0) in
-    let within = subst (λ (gs : List Group). number < length gs) c.deref.ensures.value c.in-Some.ensures.within in
-    let empty = subst (λ (gs : List Group). stamped gs number ≡ false) c.deref.ensures.value c.in-Some.ensures.empty in
+    let spare = subst (IsEmptyAt groups.items) (sym c.in-Some.ensures.some)
+    (first-spare groups.items c.args.free.now c.requires.spares (λ same. c.in-Some.ensures.few (c.in-Some.ensures.some ∙ same))) in
     subst (λ (ls : List (ℕ × List ℕ)). IsEntered (lists_of groups.items) ls c.args.hash number stamps) (sym (ap (λ (gs : List Group). lists_of gs) back ∙ lists))
-    (filled_again groups.items number c.args.hash stamps within empty c.requires.unique c.requires.absent)
+    (filled_again groups.items number c.args.hash stamps spare.within spare.empty c.requires.unique c.requires.absent)
 
 pub returns-in_ok-number-in-None-clause-ok : goal.returns-in_ok-number-in-None-clause-ok
 returns-in_ok-number-in-None-clause-ok c =
@@ -32,3 +33,26 @@ returns-in_ok-number-in-None-clause-ok c =
     subst (λ (ls : List (ℕ × List ℕ)). IsEntered lists ls c.args.hash c.in_ok-number-in-None.number stamps) (sym c.in_ok-number-in-None.ensures.ok)
     (subst (λ (n : ℕ). IsEntered lists (lists ++ (c.args.hash, stamps) ∷ []) c.args.hash n stamps) (length_lists c.args.groups.now.items ∙ sym c.in_ok-number-in-None.ensures.last)
     (entered_last lists c.requires.unique c.args.hash stamps c.requires.absent))
+
+-- the group that was emptied last is there, and has no stamps
+pub refill-requires-clause-number : goal.refill-requires-clause-number
+refill-requires-clause-number c =
+    let groups = c.args.groups.now in
+    let number = c.in-Some.number in
+    let spare = subst (IsEmptyAt groups.items) (sym c.in-Some.ensures.some)
+    (first-spare groups.items c.args.free.now c.requires.spares (λ same. c.in-Some.ensures.few (c.in-Some.ensures.some ∙ same))) in
+    subst (λ (gs : List Group). number < length gs) (sym c.deref_mut-in-Some.ensures.value) spare.within
+
+pub refill-requires-clause-empty : goal.refill-requires-clause-empty
+refill-requires-clause-empty c =
+    let groups = c.args.groups.now in
+    let number = c.in-Some.number in
+    let spare = subst (IsEmptyAt groups.items) (sym c.in-Some.ensures.some)
+    (first-spare groups.items c.args.free.now c.requires.spares (λ same. c.in-Some.ensures.few (c.in-Some.ensures.some ∙ same))) in
+    subst (λ (gs : List Group). stamped gs number ≡ false) (sym c.deref_mut-in-Some.ensures.value) spare.empty
+
+-- there is one more only where all have stamps
+pub returns-in_ok-number-in-None-clause-room : goal.returns-in_ok-number-in-None-clause-room
+returns-in_ok-number-in-None-clause-room c =
+    added-uses c.args.groups.now.items c.args.free.now (lists_of c.add.new.groups.items) c.args.hash c.args.stamp.0 c.requires.spares c.in-None.ensures.none
+    c.in_ok-number-in-None.ensures.ok

@@ -1,5 +1,6 @@
 use Rattle.std.proofs.Common.{◌≡◌, ◌≤◌, ◌<◌, length, refl, ◌∙◌, arith}
-use Rattle.ceal_memo.proofs.Grouping.{length_set, same_length}
+use Rattle.ceal_memo.proofs.Grouping.{group_is, length_set, same_length}
+use Rattle.ceal_memo.proofs.Spares.{spares-filled}
 use Rattle.ceal_memo.proofs.Linking.{rehashed, filled_linked, filled_lists}
 use Rattle.ceal_memo.proofs.lists.refill.Goals as goal
 
@@ -22,3 +23,11 @@ returns-clause-linked c =
     let enough = c.requires.linked.few in
     let few : length c.chain.new.groups ≤ length c.chain.new.heads = omega arith in
     filled_linked c.chain.new.groups c.args.number _ c.args.list within c.chain.new.heads c.requires.stamps c.chain.ensures.chained few
+
+-- the next one is filled first now
+pub returns-clause-spares : goal.returns-clause-spares
+returns-clause-spares c =
+    let few = c.requires.few in
+    rw (group_is c.args.groups.now c.args.number _ c.requires.number)
+    (spares-filled c.args.groups.now c.args.number _ c.chain.new.groups _ c.requires.spares (λ same. absurd (omega (arith, few, same))) c.requires.number c.requires.empty
+    c.chain.ensures.lists c.chain.ensures.next c.requires.stamps)

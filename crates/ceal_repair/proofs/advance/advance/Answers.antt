@@ -1,7 +1,7 @@
 use Rattle.std.proofs.Common.{◌≡◌, ◌≢◌, ◌≤◌, false, true, sym, ap, subst, ◌∙◌, arith, rules}
 use Rattle.ceal_heap.specs.Heap.{next}
 use Rattle.ceal_repair.proofs.Propagation.KeptRun.{has-come-in, idle-first}
-use Rattle.ceal_repair.proofs.Propagation.SlicesOfRun.{since, begun-in, is-sliced, front-stays, is-repaired}
+use Rattle.ceal_repair.proofs.Propagation.SlicesOfRun.{since, begun-in, is-sliced, front-stays, departs-so, is-repaired}
 use Rattle.ceal_repair.proofs.Runs.Paid.{distance-as, pays-settled, root-late}
 use Rattle.std.proofs.Common.{Some}
 use Rattle.ceal_order.specs.Stamps.{head_of}
@@ -72,6 +72,21 @@ returns-clause-front c = λ n.
     let ended = subst (λ z. Propagated c.in_ok-progress.progress code inputs q.0 q.1 c.args.reads c.args.fuel o c.args.running.now z) same
     (rw (e.code, e.inputs) at (t.ended q.0 q.1 o c.args.running.now come)) in
     front-stays code inputs q.0 q.1 c.args.reads c.args.fuel o c.args.running.now c.running-1.given.0 c.in_ok-progress.progress n ended
+
+-- so do they where some depart
+pub returns-clause-departs : goal.returns-clause-departs
+returns-clause-departs c = λ n.
+    let q = c.requires.part in
+    let e = c.at_root-repair.ensures in
+    let t = c.in_ok-progress.ensures in
+    let code = c.args.code.now in
+    let inputs = c.args.inputs.now in
+    let o = since code inputs q.0 q.1 c.args.fuel q.2 c.args.running.now q.3 in
+    let same : c.turns.new.self.running.now ≡ c.running-1.given.0 = search (rules, e.place, t.call.place) in
+    let come = begun-in code inputs q.0 q.1 c.args.fuel q.2 c.args.running.now q.3 c.at_root-repair.result e.code e.inputs e.view e.heap e.spent in
+    let ended = subst (λ z. Propagated c.in_ok-progress.progress code inputs q.0 q.1 c.args.reads c.args.fuel o c.args.running.now z) same
+    (rw (e.code, e.inputs) at (t.ended q.0 q.1 o c.args.running.now come)) in
+    departs-so code inputs q.0 q.1 c.args.reads c.args.fuel o c.args.running.now c.running-1.given.0 c.in_ok-progress.progress n ended
 
 pub returns-clause-distance : goal.returns-clause-distance
 returns-clause-distance c =

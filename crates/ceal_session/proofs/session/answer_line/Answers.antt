@@ -2,6 +2,7 @@ use Rattle.std.proofs.Common.{◌∙◌, sym, subst}
 use Rattle.ceal_engine.specs.Cost.{CostOfCall}
 use Rattle.ceal_session.proofs.Replies.KeptBound.{answers-kept, bounds-kept, left-kept, repairs-kept}
 use Rattle.ceal_session.proofs.Replies.TextOfReply.{answers, long-quiet, if-both-ok, if-ok, on-err, on-ok}
+use Rattle.ceal_session.specs.Marks.{KeepsMarks}
 use Rattle.ceal_session.specs.SessionState.{situation}
 use Rattle.ceal_session.specs.State.{numbers_in}
 use Rattle.ceal_theory.specs.Pasts.{goes}
@@ -40,3 +41,6 @@ returns-clause-left c =
 pub returns-clause-cost : goal.returns-clause-cost
 returns-clause-cost c =
     on-ok c.answer_of.result (subst (λ e. CostOfCall c.args.state.now.engine e) (sym c.answer_of.ensures.engine) c.in_ok-reply.ensures.cost)
+
+pub returns-clause-marks : goal.returns-clause-marks
+returns-clause-marks c = subst (λ e. KeepsMarks c.args.state.now.engine e) (sym c.answer_of.ensures.engine) c.reply_of.ensures.marks

@@ -4,7 +4,8 @@ use Rattle.ceal_base.specs.Trace.{Trace}
 use Rattle.ceal_code.specs.Replay.{IsHonest}
 use Rattle.ceal_engine.proofs.Advanced.{out-of-fuel}
 use Rattle.ceal_engine.proofs.Carrying.{open-part, keeps-more, keeps-done, goes-on, ends, some-reads, leaves-fewer, keeps-words, no-slice, is-out, fresh-out}
-use Rattle.ceal_engine.proofs.CostOfCalls.{cost-repair, looks-queued, marks-opened}
+use Rattle.ceal_engine.proofs.CostOfCalls.{cost-repair, distinct-nodes, looks-queued, marks-opened}
+use Rattle.ceal_engine.proofs.ReadsApart.{apart-repair}
 use Rattle.ceal_engine.proofs.Keeping.{sound-with, sound-dropped}
 use Rattle.ceal_engine.proofs.NoneStale.{done-within, part-honest, honest-ends, front-kept, on-error}
 use Rattle.ceal_engine.proofs.Present.{other-whole, sound-present}
@@ -82,6 +83,8 @@ returns-in-Ok-More-clause-outcome c =
         run = subst (λ e. has_run e.phase ≡ true) (sym c.self.view_is) c.requires.run;
         front = front-kept v.code v.fuel v.inputs v.call.call v.run c.open.new.run run stage.Partial is (a.front (λ s. absurd (let clash = sym more ∙ s in cc)));
         cost = cost-repair v.code v.fuel v.inputs v.call.call v.run c.open.new.run run is a.distance stage.Partial;
+        apart = apart-repair v.code v.fuel v.inputs v.call.call v.run c.open.new.run run is
+            (distinct-nodes v.code v.fuel v.inputs v.run v.call.call keeps) (a.departs (λ s. absurd (let clash = sym more ∙ s in cc))) stage.Partial;
         idle = λ l e honest.
             let part = part-honest v.code v.fuel v.inputs v.run v.call.call keeps c.open.new.run is l e honest in
             looks-queued v.code v.fuel v.inputs v.call.call v.run c.open.new.run run is (a.idle part.0 part.1 part.2 part.3 part.4) stage.Partial;
@@ -113,6 +116,8 @@ returns-in-Ok-Done-clause-outcome c =
         run = subst (λ e. has_run e.phase ≡ true) (sym c.self.view_is) c.requires.run;
         front = front-kept v.code v.fuel v.inputs v.call.call v.run c.open.new.run run stage.Finished is (a.front (λ s. absurd (let clash = sym done ∙ s in cc)));
         cost = cost-repair v.code v.fuel v.inputs v.call.call v.run c.open.new.run run is a.distance stage.Finished;
+        apart = apart-repair v.code v.fuel v.inputs v.call.call v.run c.open.new.run run is
+            (distinct-nodes v.code v.fuel v.inputs v.run v.call.call keeps) (a.departs (λ s. absurd (let clash = sym done ∙ s in cc))) stage.Finished;
         idle = λ l e honest.
             let part = part-honest v.code v.fuel v.inputs v.run v.call.call keeps c.open.new.run is l e honest in
             looks-queued v.code v.fuel v.inputs v.call.call v.run c.open.new.run run is (a.idle part.0 part.1 part.2 part.3 part.4) stage.Finished;

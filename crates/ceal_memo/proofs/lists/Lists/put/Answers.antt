@@ -5,9 +5,10 @@ use Rattle.ceal_order.specs.Rising.{IsRising, count_before}
 use Rattle.ceal_memo.specs.declared.chains.Group.{Group}
 use Rattle.ceal_memo.specs.Lists.{stamps_at, with_stamp}
 use Rattle.ceal_memo.specs.Numbers.{IsEntered}
-use Rattle.ceal_memo.specs.Chains.{group_at, lists_of, with_list, stamped, IsLinked}
+use Rattle.ceal_memo.specs.Chains.{group_at, lists_of, with_list, stamped, IsLinked, HasSpares}
+use Rattle.ceal_memo.proofs.Spares.{spares-still, same-uses}
 use Rattle.ceal_memo.proofs.Adding.{inserted_some}
-use Rattle.ceal_memo.proofs.Grouping.{some_is}
+use Rattle.ceal_memo.proofs.Grouping.{some_is, length_lists}
 use Rattle.ceal_memo.proofs.Listing.{list_found, none_found, still_linked, again, answered}
 use Rattle.ceal_memo.proofs.lists.Lists.put.Goals as goal
 
@@ -47,13 +48,28 @@ invariant_of-self-in-Some c =
     let long : length new ≡ length groups = omega arith in
     let back = with_items_is c.self.inside.groups new (long ∙ sym c.self.inside.groups.ok.0) in
     let some = some_is list (inserted_some c.args.stamp.0 (count_before order c.args.stamp.0 (group_at groups number).list) (group_at groups number).list) in
-    subst (λ (gs : List Group). IsLinked heads gs) (sym back)
-    (elim (answered c.insert_at.result c.insert_at.ensures.ok c.insert_at.ensures.err) [
-      | inl ok ↦
-          let is : new ≡ with_list groups number list = ok ∙ ap (λ (gs : List Group). with_list gs number (with_stamp order c.args.stamp.0 (group_at gs number).list)) c.deref_mut.ensures.value in
-          subst (λ (gs : List Group). IsLinked heads gs) (sym is) (still_linked groups number list within heads (some ∙ sym stamps) c.self.invariant)
-      | inr err ↦ subst (λ (gs : List Group). IsLinked heads gs) (sym (err ∙ c.deref_mut.ensures.value)) c.self.invariant
-    ])
+    let free = c.self.inside.free in
+    let now = sym (ap (λ (gs : List Group). with_list gs number (with_stamp order c.args.stamp.0 (group_at gs number).list)) c.deref_mut.ensures.value) in
+    record {
+      linked = subst (λ (gs : List Group). IsLinked heads gs) (sym back) (elim (answered c.insert_at.result c.insert_at.ensures.ok c.insert_at.ensures.err) [
+        | inl ok ↦ subst (λ (gs : List Group). IsLinked heads gs) (now ∙ sym ok) (still_linked groups number list within heads (some ∙ sym stamps) c.self.invariant.linked)
+        | inr err ↦ subst (λ (gs : List Group). IsLinked heads gs) (sym (err ∙ c.deref_mut.ensures.value)) c.self.invariant.linked
+      ]);
+      spares = subst (λ (gs : List Group). HasSpares gs free) (sym back) (elim (answered c.insert_at.result c.insert_at.ensures.ok c.insert_at.ensures.err) [
+        | inl ok ↦ subst (λ (gs : List Group). HasSpares gs free) (now ∙ sym ok) (spares-still groups number list within free c.self.invariant.spares stamps some)
+        | inr err ↦ subst (λ (gs : List Group). HasSpares gs free) (sym (err ∙ c.deref_mut.ensures.value)) c.self.invariant.spares
+      ]);
+    }
+
+-- the hash has a list already
+pub returns-in_ok-insert_at-in-Some-clause-room : goal.returns-in_ok-insert_at-in-Some-clause-room
+returns-in_ok-insert_at-in-Some-clause-room c =
+    let groups = c.self.inside.groups.items in
+    let new = c.insert_at.new.groups in
+    let value : length c.deref_mut.result.now ≡ length groups = ap (λ (gs : List Group). length gs) c.deref_mut.ensures.value in
+    let long : length new ≡ length groups = omega arith in
+    let back = with_items_is c.self.inside.groups new (long ∙ sym c.self.inside.groups.ok.0) in
+    rw (← c.self.view_is) (same-uses (lists_of groups) _ (length_lists _ ∙ (ap (λ (gs : List Group). length gs) back ∙ (long ∙ sym (length_lists groups)))))
 
 pub enter-requires-clause-absent : goal.enter-requires-clause-absent
 enter-requires-clause-absent c =

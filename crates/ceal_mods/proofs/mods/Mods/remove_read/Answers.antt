@@ -1,7 +1,7 @@
 use Rattle.std.proofs.Common.{◌≡◌, length, refl, sym, ◌∙◌}
 use Rattle.std.proofs.lemmas.List.{with_items_is}
 use Rattle.ceal_mods.proofs.IndexLemmas.{length-with, cell_with}
-use Rattle.ceal_mods.proofs.ModsLemmas.{at, cell_here, rises_here, changed, follow, cell_none}
+use Rattle.ceal_mods.proofs.ModsLemmas.{places-with, at, cell_here, rises_here, changed, follow, cell_none}
 use Rattle.ceal_mods.proofs.MarksLemmas.{whole-same}
 use Rattle.ceal_mods.proofs.mods.Mods.remove_read.Goals as goal
 
@@ -55,3 +55,11 @@ returns-else-slot-clause-cell c =
     let no = rw (cell_none c.self.inside.index c.self.inside.cells.items c.args.place c.find-slot.result c.self.invariant.indexes c.find-slot.ensures c.if-slot.false) at
     (rw (← c.self.view_is) at c.requires.there) in
     absurd (cc)
+
+-- and no other comes
+pub returns-then-slot-clause-places : goal.returns-then-slot-clause-places
+returns-then-slot-clause-places c =
+    let cell = rw c.deref_mut.ensures.value at c.remove_read_at.ensures.cell in
+    let long : length c.remove_read_at.new.cells ≡ length c.self.inside.cells.items = rw cell (length-with _ _ _) in
+    let back = with_items_is c.self.inside.cells c.remove_read_at.new.cells (long ∙ sym c.self.inside.cells.ok.0) in
+    rw (← c.self.view_is, back ∙ cell) (places-with c.find-slot.result _ c.self.inside.cells.items)

@@ -1,7 +1,7 @@
 use Rattle.std.proofs.Common.{◌≡◌, length, sym, ◌∙◌}
 use Rattle.std.proofs.lemmas.List.{with_items_is}
 use Rattle.ceal_mods.proofs.IndexLemmas.{length-with, cell_with, where_with}
-use Rattle.ceal_mods.proofs.ModsLemmas.{at, cell_here, rises_here, changed, follow, cell_none}
+use Rattle.ceal_mods.proofs.ModsLemmas.{places-with, at, cell_here, rises_here, changed, follow, cell_none}
 use Rattle.ceal_mods.proofs.MarksLemmas.{whole-changed, ends-noted}
 use Rattle.ceal_mods.proofs.mods.Mods.remove_write.Goals as goal
 
@@ -67,3 +67,11 @@ returns-then-slot-clause-slot c =
 
 pub returns-else-slot-clause-slot : goal.returns-else-slot-clause-slot
 returns-else-slot-clause-slot c = rw (← c.self.view_is) (c.find-slot.ensures ∙ c.self.invariant.indexes.slots c.args.place)
+
+-- and no other comes
+pub returns-then-slot-clause-places : goal.returns-then-slot-clause-places
+returns-then-slot-clause-places c =
+    let cell = rw c.deref_mut.ensures.value at c.remove_write_at.ensures.cell in
+    let long : length c.remove_write_at.new.cells ≡ length c.self.inside.cells.items = rw cell (length-with _ _ _) in
+    let back = with_items_is c.self.inside.cells c.remove_write_at.new.cells (long ∙ sym c.self.inside.cells.ok.0) in
+    rw (← c.self.view_is, back ∙ cell) (places-with c.find-slot.result _ c.self.inside.cells.items)

@@ -118,7 +118,7 @@ returns-clause-pays c =
     (omega (arith, d, n)) (omega (arith, t, u, k)) f.spent
     (ap (λ m. m.differed) g.mods ∙ f.differed)
     (counts-then b.tables c.make.new.self.tables c.put_alloc.new.self
-    (counts-as b.tables c.make.new.self.tables f.looked f.differed (let y = ap (λ (x : Timeline). x.touched) f.trace in omega (arith, y))) g.counts) (omega (arith, l))
+    (counts-as b.tables c.make.new.self.tables f.looked f.differed f.trace f.memo) g.counts) (omega (arith, l))
     (λ o p q r. came-put o p q b.cursor c.in_ok-self.field-0.0 (Alloc block c.args.key) c.make.new.self.tables.trace.nodes c.put_alloc.new.self.trace.nodes g.nodes g.inserted (same o p q r))
 
 pub returns-clause-anew : goal.returns-clause-anew

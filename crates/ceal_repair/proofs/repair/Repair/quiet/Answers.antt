@@ -42,7 +42,7 @@ returns-clause-pays c =
     let h = ap (λ (r : Repair). touched_ahead r.frames.now.items) e.rest in
     let i = ap (λ (r : Repair). ends_ahead r.frames.now.items) e.rest in
     let z : Account = record b { ahead = touched_ahead c.step.new.self.frames.now.items; ends = ends_ahead c.step.new.self.frames.now.items } in
-    spends 5 0 a b z stepped (omega arith) (omega (arith, h)) refl refl (counts-still b.tables b.tables refl refl) (omega (arith, i)) (none-put b z (λ o f d r. r))
+    spends 5 0 a b z stepped (omega arith) (omega (arith, h)) refl refl (counts-still b.tables b.tables refl refl refl) (omega (arith, i)) (none-put b z (λ o f d r. r))
 
 pub returns-clause-anew : goal.returns-clause-anew
 returns-clause-anew c = λ none. let e = c.in_ok-step.ensures in (ap (λ (r : Repair). r.limit) e.rest ∙ none, ap (λ m. m.differed) e.mods)

@@ -17,6 +17,7 @@ returns-in-Ok-clause-looks c = record {
   looked = c.set_inputs.ensures.looked ∙ c.in_ok-tables.ensures.looks.looked;
   differed = c.set_inputs.ensures.differed ∙ c.in_ok-tables.ensures.looks.differed;
   touched = ap (λ (t : Timeline). t.touched) c.in_default.ensures.trace ∙ c.in_ok-tables.ensures.looks.touched;
+  spare = ap (λ (t : Timeline). t.spare) c.in_default.ensures.trace ∙ c.in_ok-tables.ensures.looks.spare;
 }
 
 pub returns-in-Ok-clause-unmarked : goal.returns-in-Ok-clause-unmarked

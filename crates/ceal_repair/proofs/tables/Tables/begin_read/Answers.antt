@@ -13,8 +13,13 @@ use Rattle.ceal_repair.proofs.TableCalls.CallsKeepCover.{behind-put}
 use Rattle.ceal_mods.specs.Cell.{with_read}
 use Rattle.ceal_mods.specs.declared.cell.Cell.{Cell}
 use Rattle.std.proofs.Common.{arith, length}
-use Rattle.ceal_repair.proofs.TableCalls.FewLooks.{touched-more}
+use Rattle.std.proofs.Common.{◌≤◌, ◌+◌}
+use Rattle.std.specs.Prelude.{max}
+use Rattle.ceal_order.specs.Stamps.{room_beyond}
+use Rattle.ceal_repair.proofs.TableCalls.FewLooks.{touched-more, grows-put}
 use Rattle.ceal_queue.specs.Queue.{Waiting}
+use Rattle.ceal_mods.specs.Mods.{places_of, with_place}
+use Rattle.ceal_base.specs.declared.word.Place.{Place}
 use Rattle.ceal_repair.proofs.tables.Tables.begin_read.Goals as goal
 
 pub add_read_in-requires-clause-absent : goal.add_read_in-requires-clause-absent
@@ -103,7 +108,18 @@ returns-clause-counts c =
     let e = k.differed in
     let f = c.begin_read-read.ensures.touches.no_fewer in
     let g = k.touched in
-    let h = c.reserve.ensures.untouched in record { looked = omega (arith, a, b); differed = omega (arith, d, e); touched = omega (arith, f, g, h) }
+    let h = c.reserve.ensures.untouched in
+    record {
+      looked = omega (arith, a, b);
+      differed = omega (arith, d, e);
+      touched = omega (arith, f, g, h);
+      grows = λ few. grows-put c.begin_read-read.result.0 c.args.self.now.trace c.value_behind-value.new.self.trace c.begin_read-read.new.self
+          (ap (λ (x : Timeline). x.nodes) c.value_behind-value.ensures.trace ∙ c.reserve.ensures.nodes)
+          (ap (λ (x : Timeline). x.touched) c.value_behind-value.ensures.trace ∙ c.reserve.ensures.untouched)
+          (subst (λ (x : Timeline). x.spare ≤ max c.args.self.now.trace.spare (1 + room_beyond)) (sym c.value_behind-value.ensures.trace) c.in_ok-reserve.ensures.few)
+          c.begin_read-read.ensures.touches c.begin_read-read.ensures.inserted.others c.begin_read-read.ensures.spare few;
+      seed = c.add.ensures.seed ∙ ap (λ (m : Contents). m.seed) c.value_behind-value.ensures.memo;
+    }
 
 pub returns-clause-touched : goal.returns-clause-touched
 returns-clause-touched c =
@@ -111,3 +127,12 @@ returns-clause-touched c =
     (ap (λ (x : Timeline). x.nodes) c.value_behind-value.ensures.trace ∙ c.reserve.ensures.nodes)
     (ap (λ (x : Timeline). x.touched) c.value_behind-value.ensures.trace ∙ c.reserve.ensures.untouched)
     c.begin_read-read.ensures.touches c.begin_read-read.ensures.inserted.others
+
+-- the place has a cell, and no other one comes
+pub returns-clause-cells : goal.returns-clause-cells
+returns-clause-cells c =
+    let change = rw c.order.ensures at c.in_ok-add_read_in.ensures.ok in
+    rw (← c.key.view_is) (change.places ∙ ap (λ cells. with_place c.key.inside.place (places_of cells)) c.value_behind-value.ensures.cells)
+
+pub returns-clause-lists : goal.returns-clause-lists
+returns-clause-lists c = rw c.value_behind-value.ensures.memo at c.in_ok-add.ensures.room

@@ -6,7 +6,7 @@ use Rattle.ceal_trace.specs.declared.node.Node.TheVariants.{Alloc}
 use Rattle.ceal_repair.proofs.QueueCover.NodeChanges.{node-has}
 use Rattle.ceal_repair.proofs.TableCalls.CutKeepsTables.{alloc-cut-kept, no-end}
 use Rattle.std.proofs.Common.{arith}
-use Rattle.ceal_repair.proofs.TableCalls.FewLooks.{touched-less}
+use Rattle.ceal_repair.proofs.TableCalls.FewLooks.{touched-less, grows-cut}
 use Rattle.ceal_repair.proofs.tables.Tables.cut_alloc.Goals as goal
 
 pub remove-requires-clause-here : goal.remove-requires-clause-here
@@ -29,4 +29,10 @@ pub returns-clause-touched : goal.returns-clause-touched
 returns-clause-touched c = touched-less c.args.alloc.0 c.args.self.now.trace c.discard.new.self c.discard.ensures.touches c.discard.ensures.others
 
 pub returns-clause-counts : goal.returns-clause-counts
-returns-clause-counts c = record { looked = omega arith; differed = omega arith; touched = c.discard.ensures.touches.no_fewer }
+returns-clause-counts c = record {
+  looked = omega arith;
+  differed = omega arith;
+  touched = c.discard.ensures.touches.no_fewer;
+  grows = λ few. grows-cut c.args.alloc.0 c.args.self.now.trace c.discard.new.self c.discard.ensures.touches c.discard.ensures.others c.discard.ensures.spare;
+  seed = c.remove.ensures.seed;
+}

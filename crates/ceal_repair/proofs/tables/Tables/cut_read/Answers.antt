@@ -8,8 +8,12 @@ use Rattle.ceal_mods.specs.Cell.{without_read}
 use Rattle.ceal_repair.proofs.TableCalls.CutKeepsTables.{read-there, read-cut-behind, read-cut-kept, end-is, stamp-of}
 use Rattle.ceal_repair.proofs.TableCalls.PutKeepsTables.{bases-same}
 use Rattle.std.proofs.Common.{arith, ap, ◌∙◌, length, ◌+◌}
-use Rattle.ceal_repair.proofs.TableCalls.FewLooks.{touched-less}
+use Rattle.std.proofs.Common.{subst}
+use Rattle.ceal_repair.specs.Looks.{Grows}
+use Rattle.ceal_repair.proofs.TableCalls.FewLooks.{touched-less, grows-cut, grows-then}
 use Rattle.ceal_mods.specs.Mods.{Contents}
+use Rattle.ceal_mods.specs.Mods.{places_of}
+use Rattle.ceal_memo.specs.Memo.{Contents as Memo}
 use Rattle.ceal_repair.proofs.tables.Tables.cut_read.Goals as goal
 
 pub remove_read-requires-clause-there : goal.remove_read-requires-clause-there
@@ -73,10 +77,26 @@ returns-clause-counts c =
     let f = c.discard.ensures.touches.no_fewer in
     let g = c.discard-2.ensures.touches.no_fewer in
     let h = ap (λ (x : Timeline). x.touched) c.hand_on.ensures.trace in
-    record { looked = omega (arith, a, b); differed = omega (arith, d, e); touched = omega (arith, f, g, h) }
+    record {
+      looked = omega (arith, a, b);
+      differed = omega (arith, d, e);
+      touched = omega (arith, f, g, h);
+      grows = λ few. subst (λ (x : Timeline). Grows x c.discard-2.new.self) c.hand_on.ensures.trace
+          (grows-then c.hand_on.new.self.trace c.discard.new.self c.discard-2.new.self f g
+          (grows-cut c.args.read.0 c.hand_on.new.self.trace c.discard.new.self c.discard.ensures.touches c.discard.ensures.others c.discard.ensures.spare)
+          (grows-cut c.in-Some.end.0 c.discard.new.self c.discard-2.new.self c.discard-2.ensures.touches c.discard-2.ensures.others c.discard-2.ensures.spare));
+      seed = c.remove.ensures.seed ∙ ap (λ (m : Memo). m.seed) c.hand_on.ensures.memo;
+    }
 
 pub returns-clause-touched : goal.returns-clause-touched
 returns-clause-touched c =
     let t = touched-less c.args.read.0 c.hand_on.new.self.trace c.discard.new.self c.discard.ensures.touches c.discard.ensures.others in
     let u = touched-less c.in-Some.end.0 c.discard.new.self c.discard-2.new.self c.discard-2.ensures.touches c.discard-2.ensures.others in
     let e = ap (λ (x : Timeline). x.touched + length x.nodes) c.hand_on.ensures.trace in omega (arith, t, u, e)
+
+-- each place has its cell still
+pub returns-clause-cells : goal.returns-clause-cells
+returns-clause-cells c = c.remove_read.ensures.places ∙ ap (λ (m : Contents). places_of m.cells) c.hand_on.ensures.mods
+
+pub returns-clause-lists : goal.returns-clause-lists
+returns-clause-lists c = c.remove.ensures.room ∙ ap (λ (m : Memo). length m.table.lists) c.hand_on.ensures.memo

@@ -11,9 +11,13 @@ use Rattle.ceal_repair.proofs.TableCalls.PutKeepsTables.{tables}
 use Rattle.ceal_repair.proofs.TableCalls.BaseEdit.{contents-same}
 use Rattle.ceal_repair.specs.Kept.{contents_at}
 use Rattle.std.proofs.Common.{arith, length, ap, ◌+◌}
-use Rattle.ceal_repair.proofs.TableCalls.FewLooks.{touched-less}
+use Rattle.std.proofs.Common.{subst}
+use Rattle.ceal_memo.specs.Memo.{Contents as Memo}
+use Rattle.ceal_repair.specs.Looks.{Grows}
+use Rattle.ceal_repair.proofs.TableCalls.FewLooks.{touched-less, grows-cut}
 use Rattle.ceal_mods.specs.Mods.{Contents}
 use Rattle.ceal_queue.specs.Queue.{Waiting}
+use Rattle.ceal_mods.specs.Mods.{places_of}
 use Rattle.ceal_repair.proofs.tables.Tables.cut_write.Goals as goal
 
 -- the write is there after the look at it
@@ -106,9 +110,21 @@ returns-clause-counts c =
     let g = ap (λ (m : Contents). m.differed) c.wake_unless.ensures.mods in
     let h = c.discard.ensures.touches.no_fewer in
     let i = ap (λ (x : Timeline). x.touched) (c.wake_unless.ensures.trace ∙ c.is_needless-needless.ensures.trace) in
-    record { looked = omega (arith, a, b, d); differed = omega (arith, e, f, g); touched = omega (arith, h, i) }
+    record {
+      looked = omega (arith, a, b, d);
+      differed = omega (arith, e, f, g);
+      touched = omega (arith, h, i);
+      grows = λ few. subst (λ (x : Timeline). Grows x c.discard.new.self) (c.wake_unless.ensures.trace ∙ c.is_needless-needless.ensures.trace)
+          (grows-cut c.args.write.0 c.wake_unless.new.self.trace c.discard.new.self c.discard.ensures.touches c.discard.ensures.others c.discard.ensures.spare);
+      seed = ap (λ (m : Memo). m.seed) (c.wake_unless.ensures.memo ∙ c.is_needless-needless.ensures.memo);
+    }
 
 pub returns-clause-touched : goal.returns-clause-touched
 returns-clause-touched c =
     let t = touched-less c.args.write.0 c.wake_unless.new.self.trace c.discard.new.self c.discard.ensures.touches c.discard.ensures.others in
     let e = ap (λ (x : Timeline). x.touched + length x.nodes) (c.wake_unless.ensures.trace ∙ c.is_needless-needless.ensures.trace) in omega (arith, t, e)
+
+-- each place has its cell still
+pub returns-clause-cells : goal.returns-clause-cells
+returns-clause-cells c =
+    ap (λ (m : Contents). places_of m.cells) c.wake_unless.ensures.mods ∙ (c.remove_write-at.ensures.places ∙ ap places_of c.is_needless-needless.ensures.cells)

@@ -2,7 +2,8 @@ use Rattle.std.proofs.Common.{arith}
 use Rattle.ceal_repair.proofs.QueueCover.NodeChanges.{read-has}
 use Rattle.ceal_repair.proofs.TableCalls.CutKeepsTables.{honest-read, stale-read}
 use Rattle.std.proofs.Common.{arith}
-use Rattle.ceal_repair.proofs.TableCalls.FewLooks.{one-look}
+use Rattle.std.proofs.Common.{refl}
+use Rattle.ceal_repair.proofs.TableCalls.FewLooks.{one-look, grows-still}
 use Rattle.ceal_repair.proofs.Lists.ToldWrites.{told-step}
 use Rattle.ceal_repair.proofs.tables.Tables.differs.Goals as goal
 
@@ -28,4 +29,4 @@ returns-clause-looks c = let a = one-look c.args.self.now.mods c.value_at-now.ne
 pub returns-clause-counts : goal.returns-clause-counts
 returns-clause-counts c =
     let a = c.value_at-now.ensures.no_fewer in
-    let b = c.value_at-now.ensures.differed in record { looked = omega (arith, a); differed = omega (arith, b); touched = omega arith }
+    let b = c.value_at-now.ensures.differed in record { looked = omega (arith, a); differed = omega (arith, b); touched = omega arith; grows = λ few. grows-still _ _ refl; seed = refl }

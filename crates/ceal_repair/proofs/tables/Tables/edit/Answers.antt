@@ -6,6 +6,8 @@ use Rattle.ceal_repair.proofs.TableCalls.BaseEdit.{edit-base, edit-kept, zero-ba
 use Rattle.ceal_trace.specs.Nodes.{stamps_in}
 use Rattle.std.proofs.Common.{arith, length}
 use Rattle.ceal_mods.specs.Mods.{Contents}
+use Rattle.std.proofs.Common.{inl, inr}
+use Rattle.ceal_mods.specs.Mods.{places_of}
 use Rattle.ceal_repair.proofs.tables.Tables.edit.Goals as goal
 
 pub returns-then-begun-clause-base : goal.returns-then-begun-clause-base
@@ -80,3 +82,12 @@ returns-then-begun-clause-bare c = λ zero none. absurd (none (c.holds_anyway.en
 
 pub returns-clause-bare : goal.returns-clause-bare
 returns-clause-bare c = λ zero none. absurd (none (c.holds_anyway.ensures.no c.if-holds_anyway.false zero))
+
+-- the place has a cell, and no other one comes
+pub returns-then-begun-clause-cells : goal.returns-then-begun-clause-cells
+returns-then-begun-clause-cells c = let change = c.in_ok-begun.ensures.begun c.if-begun.true in inr change.places
+
+pub returns-clause-cells : goal.returns-clause-cells
+returns-clause-cells c =
+    let change = rw (c.in_ok-begun.ensures.left c.if-begun.false) at c.in_ok-set_base.ensures.ok in
+    inr (ap (λ (m : Contents). places_of m.cells) c.wake.ensures.mods ∙ change.places)

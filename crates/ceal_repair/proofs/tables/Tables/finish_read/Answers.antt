@@ -5,7 +5,7 @@ use Rattle.ceal_repair.proofs.QueueCover.NodeChanges.{read-has}
 use Rattle.ceal_repair.proofs.TableCalls.PutKeepsTables.{end-kept}
 use Rattle.ceal_repair.proofs.TableCalls.CallsKeepCover.{behind-put}
 use Rattle.std.proofs.Common.{arith}
-use Rattle.ceal_repair.proofs.TableCalls.FewLooks.{touched-more, touched-on}
+use Rattle.ceal_repair.proofs.TableCalls.FewLooks.{touched-more, touched-on, grows-put}
 use Rattle.ceal_repair.proofs.tables.Tables.finish_read.Goals as goal
 
 pub returns-clause-behind : goal.returns-clause-behind
@@ -34,4 +34,7 @@ returns-clause-counts c = record {
   looked = omega arith;
   differed = omega arith;
   touched = touched-on c.args.self.now.trace c.reserve.new.self c.finish_read.new.self c.reserve.ensures.untouched c.finish_read.ensures.touches;
+  grows = λ few. grows-put c.finish_read.result.0 c.args.self.now.trace c.reserve.new.self c.finish_read.new.self c.reserve.ensures.nodes c.reserve.ensures.untouched
+      c.in_ok-reserve.ensures.few c.finish_read.ensures.touches c.finish_read.ensures.inserted.others c.finish_read.ensures.spare few;
+  seed = refl;
 }

@@ -3,7 +3,7 @@ use Rattle.ceal_repair.proofs.TableCalls.BaseEdit.{looking-first, none-late, pop
 use Rattle.ceal_repair.proofs.TableCalls.PutKeepsTables.{tables}
 use Rattle.std.proofs.Common.{length, ap}
 use Rattle.ceal_queue.specs.Queue.{Waiting}
-use Rattle.ceal_repair.proofs.TableCalls.FewLooks.{touched-still}
+use Rattle.ceal_repair.proofs.TableCalls.FewLooks.{touched-still, grows-then}
 use Rattle.ceal_repair.proofs.tables.Tables.first_stale.Goals as goal
 
 pub loop-looked-init : goal.loop-looked-init
@@ -76,7 +76,7 @@ loop-looked-preserved c =
     (let a = c.settle.ensures.idle c.if-settle.false in
     let b = c.in_ok-read.ensures.fewer in
     let d = ap (λ (q : Waiting). length q.stamps) (c.settle.ensures.queue c.if-settle.false) in omega (arith, a, b, d)) (c.settle.ensures.none_differs c.if-settle.false)
-    (let k = c.settle.ensures.counts in record { looked = k.looked; differed = k.differed; touched = k.touched }) c.settle.ensures.marks
+    (let k = c.settle.ensures.counts in record { looked = k.looked; differed = k.differed; touched = k.touched; grows = k.grows; seed = k.seed }) c.settle.ensures.marks
 
 pub returns-clause-none : goal.returns-clause-none
 returns-clause-none c = c.loop-looked.invariant.trace
@@ -134,7 +134,8 @@ pub returns-clause-marks : goal.returns-clause-marks
 returns-clause-marks c = c.loop-looked.invariant.marks
 
 pub returns-in_err-read-clause-counts : goal.returns-in_err-read-clause-counts
-returns-in_err-read-clause-counts c = let k = c.loop-looked.invariant.counts in record { looked = k.looked; differed = k.differed; touched = k.touched }
+returns-in_err-read-clause-counts c =
+    let k = c.loop-looked.invariant.counts in record { looked = k.looked; differed = k.differed; touched = k.touched; grows = k.grows; seed = k.seed }
 
 pub returns-in_err-read-clause-queued : goal.returns-in_err-read-clause-queued
 returns-in_err-read-clause-queued c = if-none c.from_residual.result
@@ -145,12 +146,14 @@ pub returns-then-settle-clause-counts : goal.returns-then-settle-clause-counts
 returns-then-settle-clause-counts c =
     let k = c.loop-looked.invariant.counts in
     let s = c.settle.ensures.counts in
-    let a = k.looked in
-    let b = s.looked in
-    let d = k.differed in
-    let e = s.differed in
-    let f = k.touched in
-    let g = s.touched in record { looked = omega (arith, a, b); differed = omega (arith, d, e); touched = omega (arith, f, g) }
+    let few = s.touched in
+    record {
+      looked = (let a = k.looked in let b = s.looked in omega (arith, a, b));
+      differed = (let a = k.differed in let b = s.differed in omega (arith, a, b));
+      touched = (let a = k.touched in omega (arith, a, few));
+      grows = λ most. grows-then c.args.self.now.trace c.loop-looked.self.trace c.settle.new.self.trace k.touched few (k.grows (omega (arith, most, few))) (s.grows most);
+      seed = s.seed ∙ k.seed;
+    }
 
 pub returns-clause-counts : goal.returns-clause-counts
 returns-clause-counts c = c.loop-looked.invariant.counts

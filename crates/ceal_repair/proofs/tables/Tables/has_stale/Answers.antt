@@ -57,7 +57,8 @@ loop-looked-preserved c =
     let e = ap (λ (q : Waiting). length q.stamps) c.differs.ensures.queue in omega (arith, a, b, d, e))
     (ap (λ (m : Contents). m.differed) c.dismiss.ensures.mods ∙ c.differs.ensures.differed)
     (counts-then c.loop-looked.self c.differs.new.self c.dismiss.new.self c.differs.ensures.counts
-    (counts-still c.differs.new.self c.dismiss.new.self c.dismiss.ensures.mods c.dismiss.ensures.trace)) (ap (λ (m : Contents). m.marked) c.dismiss.ensures.mods ∙ c.differs.ensures.marks)
+    (counts-still c.differs.new.self c.dismiss.new.self c.dismiss.ensures.mods c.dismiss.ensures.trace c.dismiss.ensures.memo))
+    (ap (λ (m : Contents). m.marked) c.dismiss.ensures.mods ∙ c.differs.ensures.marks)
 
 pub returns-clause-honest : goal.returns-clause-honest
 returns-clause-honest c = λ told s. all-honest c.loop-looked.self c.loop-looked.invariant.kept

@@ -4,7 +4,8 @@ use Rattle.ceal_trace.specs.declared.node.Node.TheVariants.{Write}
 use Rattle.ceal_repair.proofs.QueueCover.NodeChanges.{node-has}
 use Rattle.ceal_repair.proofs.TableCalls.CutKeepsTables.{same-write, held-at}
 use Rattle.std.proofs.Common.{arith}
-use Rattle.ceal_repair.proofs.TableCalls.FewLooks.{one-look}
+use Rattle.std.proofs.Common.{refl}
+use Rattle.ceal_repair.proofs.TableCalls.FewLooks.{one-look, grows-still}
 use Rattle.ceal_repair.proofs.Lists.ToldWrites.{told-step}
 use Rattle.ceal_repair.proofs.tables.Tables.is_needless.Goals as goal
 
@@ -29,4 +30,4 @@ returns-clause-looks c = let a = one-look c.args.self.now.mods c.value_at-held.n
 pub returns-clause-counts : goal.returns-clause-counts
 returns-clause-counts c =
     let a = c.value_at-held.ensures.no_fewer in
-    let b = c.value_at-held.ensures.differed in record { looked = omega (arith, a); differed = omega (arith, b); touched = omega arith }
+    let b = c.value_at-held.ensures.differed in record { looked = omega (arith, a); differed = omega (arith, b); touched = omega arith; grows = λ few. grows-still _ _ refl; seed = refl }

@@ -79,10 +79,11 @@ returns-else-unqueue-clause-marks c = ap (λ (m : Contents). m.marked) c.unqueue
 
 pub returns-then-unqueue-clause-counts : goal.returns-then-unqueue-clause-counts
 returns-then-unqueue-clause-counts c =
-    counts-then c.args.self.now c.unqueue.new.self c.settle.new.self (counts-still c.args.self.now c.unqueue.new.self c.unqueue.ensures.mods c.unqueue.ensures.trace) c.settle.ensures.counts
+    counts-then c.args.self.now c.unqueue.new.self c.settle.new.self (counts-still c.args.self.now c.unqueue.new.self c.unqueue.ensures.mods c.unqueue.ensures.trace c.unqueue.ensures.memo)
+    c.settle.ensures.counts
 
 pub returns-else-unqueue-clause-counts : goal.returns-else-unqueue-clause-counts
-returns-else-unqueue-clause-counts c = counts-still c.args.self.now c.unqueue.new.self c.unqueue.ensures.mods c.unqueue.ensures.trace
+returns-else-unqueue-clause-counts c = counts-still c.args.self.now c.unqueue.new.self c.unqueue.ensures.mods c.unqueue.ensures.trace c.unqueue.ensures.memo
 
 pub returns-then-unqueue-clause-touched : goal.returns-then-unqueue-clause-touched
 returns-then-unqueue-clause-touched c =

@@ -13,7 +13,7 @@ returns-clause-kept c =
     (c.in_ok-new-3.ensures.follows (stamps_in c.in_ok-new.field-0.nodes))
 
 pub returns-clause-looks : goal.returns-clause-looks
-returns-clause-looks c = record { looked = c.in_ok-new-2.ensures.looked; differed = c.in_ok-new-2.ensures.differed; touched = c.in_ok-new.ensures.untouched }
+returns-clause-looks c = record { looked = c.in_ok-new-2.ensures.looked; differed = c.in_ok-new-2.ensures.differed; touched = c.in_ok-new.ensures.untouched; spare = c.in_ok-new.ensures.spare }
 
 pub returns-clause-unmarked : goal.returns-clause-unmarked
 returns-clause-unmarked c = c.in_ok-new-2.ensures.marked

@@ -7,7 +7,7 @@ use Rattle.ceal_repair.proofs.QueueCover.NodeChanges.{read-has}
 use Rattle.ceal_repair.proofs.TableCalls.CallsKeepCover.{behind-put}
 use Rattle.ceal_repair.proofs.TableCalls.PutKeepsTables.{alloc-kept, no-entry}
 use Rattle.std.proofs.Common.{arith}
-use Rattle.ceal_repair.proofs.TableCalls.FewLooks.{touched-more, touched-on}
+use Rattle.ceal_repair.proofs.TableCalls.FewLooks.{touched-more, touched-on, grows-put}
 use Rattle.ceal_repair.proofs.tables.Tables.put_alloc.Goals as goal
 
 pub add-requires-clause-absent : goal.add-requires-clause-absent
@@ -41,4 +41,7 @@ returns-clause-counts c = record {
   looked = omega arith;
   differed = omega arith;
   touched = touched-on c.args.self.now.trace c.reserve.new.self c.insert_alloc-alloc.new.self c.reserve.ensures.untouched c.insert_alloc-alloc.ensures.touches;
+  grows = λ few. grows-put c.insert_alloc-alloc.result.0 c.args.self.now.trace c.reserve.new.self c.insert_alloc-alloc.new.self c.reserve.ensures.nodes c.reserve.ensures.untouched
+      c.in_ok-reserve.ensures.few c.insert_alloc-alloc.ensures.touches c.insert_alloc-alloc.ensures.inserted.others c.insert_alloc-alloc.ensures.spare few;
+  seed = c.add.ensures.seed;
 }

@@ -8,8 +8,12 @@ use Rattle.ceal_repair.proofs.TableCalls.CallsKeepCover.{behind-put}
 use Rattle.ceal_repair.proofs.TableCalls.PutKeepsTables.{write-kept, is-free, bases-same}
 use Rattle.ceal_mods.specs.Cell.{with_write}
 use Rattle.std.proofs.Common.{arith, length, ap, ◌∙◌, ◌+◌}
-use Rattle.ceal_repair.proofs.TableCalls.FewLooks.{touched-more, touched-on}
+use Rattle.ceal_repair.proofs.TableCalls.FewLooks.{touched-more, touched-on, grows-put}
+use Rattle.std.proofs.Common.{sym, subst}
+use Rattle.ceal_memo.specs.Memo.{Contents as Memo}
+use Rattle.ceal_repair.specs.Looks.{Grows}
 use Rattle.ceal_mods.specs.Mods.{Contents}
+use Rattle.ceal_mods.specs.Mods.{places_of}
 use Rattle.ceal_repair.proofs.tables.Tables.put_write.Goals as goal
 
 pub add_write-requires-clause-absent : goal.add_write-requires-clause-absent
@@ -76,10 +80,25 @@ returns-clause-counts c =
     let d = change.differed in
     let e = ap (λ (m : Contents). m.differed) c.wake_in.ensures.mods in
     let f = touched-on c.args.self.now.trace c.reserve.new.self c.insert_write-added.new.self c.reserve.ensures.untouched c.insert_write-added.ensures.touches in
-    let g = ap (λ (x : Timeline). x.touched) c.wake_in.ensures.trace in record { looked = omega (arith, a, b); differed = omega (arith, d, e); touched = omega (arith, f, g) }
+    let g = ap (λ (x : Timeline). x.touched) c.wake_in.ensures.trace in
+    record {
+      looked = omega (arith, a, b);
+      differed = omega (arith, d, e);
+      touched = omega (arith, f, g);
+      grows = λ few. subst (Grows c.args.self.now.trace) (sym c.wake_in.ensures.trace)
+          (grows-put c.insert_write-added.result.0 c.args.self.now.trace c.reserve.new.self c.insert_write-added.new.self c.reserve.ensures.nodes c.reserve.ensures.untouched
+          c.in_ok-reserve.ensures.few c.insert_write-added.ensures.touches c.insert_write-added.ensures.inserted.others c.insert_write-added.ensures.spare (omega (arith, few, g)));
+      seed = ap (λ (m : Memo). m.seed) c.wake_in.ensures.memo;
+    }
 
 pub returns-clause-touched : goal.returns-clause-touched
 returns-clause-touched c =
     let t = touched-more c.insert_write-added.result.0 c.args.self.now.trace c.reserve.new.self c.insert_write-added.new.self c.reserve.ensures.nodes c.reserve.ensures.untouched
     c.insert_write-added.ensures.touches c.insert_write-added.ensures.inserted.others in
     let e = ap (λ (x : Timeline). x.touched + length x.nodes) c.wake_in.ensures.trace in omega (arith, t, e)
+
+-- the place has a cell, and no other one comes
+pub returns-clause-cells : goal.returns-clause-cells
+returns-clause-cells c =
+    let change = rw c.order.ensures at c.in_ok-at.ensures.ok in
+    ap (λ (m : Contents). places_of m.cells) c.wake_in.ensures.mods ∙ change.places

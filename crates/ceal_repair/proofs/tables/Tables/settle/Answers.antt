@@ -4,7 +4,10 @@ use Rattle.ceal_mods.specs.Mods.{Contents}
 use Rattle.ceal_repair.proofs.QueueCover.NodeChanges.{read-has, cell-same}
 use Rattle.ceal_repair.proofs.TableCalls.CutKeepsTables.{by-queue, behind-own, follows-same, honest-read, stale-read, now-is, honest-kept, settled-kept}
 use Rattle.std.proofs.Common.{arith, length, ◌+◌}
-use Rattle.ceal_repair.proofs.TableCalls.FewLooks.{one-look, touched-same}
+use Rattle.std.proofs.Common.{refl, subst}
+use Rattle.ceal_memo.specs.Memo.{Contents as Memo}
+use Rattle.ceal_repair.specs.Looks.{Grows}
+use Rattle.ceal_repair.proofs.TableCalls.FewLooks.{one-look, touched-same, grows-still, grows-but}
 use Rattle.ceal_repair.proofs.Lists.ToldWrites.{told-step}
 use Rattle.ceal_repair.proofs.tables.Tables.settle.Goals as goal
 
@@ -106,7 +109,7 @@ returns-clause-marks c = ap (λ (m : Contents). m.marked) c.wake_in.ensures.mods
 pub returns-then-is_same-clause-counts : goal.returns-then-is_same-clause-counts
 returns-then-is_same-clause-counts c =
     let a = c.value_in-now.ensures.no_fewer in
-    let b = c.value_in-now.ensures.differed in record { looked = omega (arith, a); differed = omega (arith, b); touched = omega arith }
+    let b = c.value_in-now.ensures.differed in record { looked = omega (arith, a); differed = omega (arith, b); touched = omega arith; grows = λ few. grows-still _ _ refl; seed = refl }
 
 pub returns-clause-counts : goal.returns-clause-counts
 returns-clause-counts c =
@@ -117,7 +120,15 @@ returns-clause-counts c =
     let f = c.count_differed.ensures.no_fewer in
     let g = ap (λ (m : Contents). m.differed) c.wake_in.ensures.mods in
     let h = c.set_value.ensures.touches.no_fewer in
-    let i = ap (λ (x : Timeline). x.touched) c.wake_in.ensures.trace in record { looked = omega (arith, a, b, d); differed = omega (arith, e, f, g); touched = omega (arith, h, i) }
+    let i = ap (λ (x : Timeline). x.touched) c.wake_in.ensures.trace in
+    record {
+      looked = omega (arith, a, b, d);
+      differed = omega (arith, e, f, g);
+      touched = omega (arith, h, i);
+      grows = λ few. subst (λ (x : Timeline). Grows x c.set_value.new.self) c.wake_in.ensures.trace
+          (grows-but c.args.popped.0 c.wake_in.new.self.trace c.set_value.new.self c.set_value.ensures.touches c.set_value.ensures.others c.set_value.ensures.spare);
+      seed = ap (λ (m : Memo). m.seed) c.wake_in.ensures.memo;
+    }
 
 pub returns-then-is_same-clause-touched : goal.returns-then-is_same-clause-touched
 returns-then-is_same-clause-touched c = omega arith

@@ -1,7 +1,8 @@
 use Rattle.std.proofs.Common.{◌∙◌}
 use Rattle.ceal_repair.proofs.TableCalls.ContentAfter.{value-last, value-next}
 use Rattle.std.proofs.Common.{arith}
-use Rattle.ceal_repair.proofs.TableCalls.FewLooks.{one-look}
+use Rattle.std.proofs.Common.{refl}
+use Rattle.ceal_repair.proofs.TableCalls.FewLooks.{one-look, grows-still}
 use Rattle.ceal_repair.proofs.Lists.ToldWrites.{told-step}
 use Rattle.ceal_repair.proofs.tables.Tables.value_behind.Goals as goal
 
@@ -22,9 +23,9 @@ pub returns-in-Some-clause-looks : goal.returns-in-Some-clause-looks
 returns-in-Some-clause-looks c = let a = one-look c.args.self.now.mods c.value_in.new.self c.value_in.ensures.looked in omega (arith, a)
 
 pub returns-in-None-clause-counts : goal.returns-in-None-clause-counts
-returns-in-None-clause-counts c = record { looked = omega arith; differed = omega arith; touched = omega arith }
+returns-in-None-clause-counts c = record { looked = omega arith; differed = omega arith; touched = omega arith; grows = λ few. grows-still _ _ refl; seed = refl }
 
 pub returns-in-Some-clause-counts : goal.returns-in-Some-clause-counts
 returns-in-Some-clause-counts c =
     let a = c.value_in.ensures.no_fewer in
-    let b = c.value_in.ensures.differed in record { looked = omega (arith, a); differed = omega (arith, b); touched = omega arith }
+    let b = c.value_in.ensures.differed in record { looked = omega (arith, a); differed = omega (arith, b); touched = omega arith; grows = λ few. grows-still _ _ refl; seed = refl }

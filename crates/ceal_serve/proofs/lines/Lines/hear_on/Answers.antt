@@ -55,6 +55,7 @@ loop-self-preserved g c =
       one = later-one _ _ _ _ _ _ e.0 e.1 c.loop-self.invariant.one
           (take_rest c.rest-in-loop-self.result.now c.in-Some.before ∙ ap
           (drop c.in-Some.before) c.rest-in-loop-self.ensures.rest) c.in_default-line_end.ensures;
+      given = c.in_ok-before.ensures.given ∙ c.loop-self.invariant.given;
       reads = omega (arith, c.loop-self.invariant.reads, reads);
       writes = omega (arith, c.loop-self.invariant.writes, writes);
     }

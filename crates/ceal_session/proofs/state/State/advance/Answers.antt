@@ -2,6 +2,7 @@ use Rattle.std.proofs.Common.{◌≡◌, true, Some, is_some, ap, ◌∙◌, sym
 use Rattle.ceal_engine.specs.Cost.{CostOfCall}
 use Rattle.ceal_session.proofs.Engine.EngineKeepsPast.{after-advance}
 use Rattle.ceal_session.proofs.Moves.StateAfterRun.{advanced, holds-behind, not-new, the-call, fits-of}
+use Rattle.ceal_session.specs.Marks.{KeepsMarks}
 use Rattle.ceal_session.specs.Outcomes.{phase_after_outcome, SituationAfterOutcome}
 use Rattle.ceal_session.specs.SessionState.{situation, situation_of}
 use Rattle.ceal_session.proofs.state.State.advance.Goals as goal
@@ -47,3 +48,11 @@ returns-clause-cost c =
     let g = the-call i.engine (subst (λ m. is_some m.state.call ≡ true) (sym c.self.view_is) c.requires.called) in
     subst (λ m. CostOfCall m.engine o.new.self) c.self.view_is
     (after-advance i.engine o.new.self c.phase-before.ensures.whole g.0 g.1 c.args.reads o.result o.ensures.keeps o.ensures.outcome).cost
+
+pub returns-clause-marks : goal.returns-clause-marks
+returns-clause-marks c =
+    let i = c.self.inside in
+    let o = c.advance-came in
+    let g = the-call i.engine (subst (λ m. is_some m.state.call ≡ true) (sym c.self.view_is) c.requires.called) in
+    subst (λ m. KeepsMarks m.engine o.new.self) c.self.view_is
+    (after-advance i.engine o.new.self c.phase-before.ensures.whole g.0 g.1 c.args.reads o.result o.ensures.keeps o.ensures.outcome).marks

@@ -2,6 +2,7 @@ use Rattle.std.proofs.Common.{◌≡◌, None, refl, ap, ◌∙◌, sym, subst}
 use Rattle.ceal_engine.specs.Cost.{CostOfCall}
 use Rattle.ceal_session.proofs.Moves.StateAfterRun.{advanced, holds-behind}
 use Rattle.ceal_session.proofs.Engine.ProgramAndCode.{call-fits}
+use Rattle.ceal_session.specs.Marks.{KeepsMarks}
 use Rattle.ceal_session.specs.Outcomes.{phase_after_outcome, SituationAfterOutcome}
 use Rattle.ceal_session.specs.SessionState.{state_of, situation, situation_of}
 use Rattle.ceal_session.specs.Steps.{IsCall}
@@ -50,3 +51,8 @@ pub returns-clause-cost : goal.returns-clause-cost
 returns-clause-cost c =
     let o = c.first_run-came in
     subst (λ m. CostOfCall m.engine o.new.engine) c.self.view_is o.ensures.brings.cost
+
+pub returns-clause-marks : goal.returns-clause-marks
+returns-clause-marks c =
+    let o = c.first_run-came in
+    subst (λ m. KeepsMarks m.engine o.new.engine) c.self.view_is o.ensures.brings.marks
