@@ -49,7 +49,7 @@ status_text Done = []
 status_text Refused = []
 status_text Usage =
     codes "usage: ceal run [--fuel N] | check | list | gen KIND SEED SIZE | dump [--fuel N] | verify | many [--fuel N]"
-    ++ codes " | save [--fuel N] | resume\n"
+    ++ codes " | save [--fuel N] | resume | resave\n"
 status_text TooLong = codes "ceal: input longer than 4194304 bytes\n"
 status_text Memory = codes "ceal: out of memory\n"
 status_text ReadFault = codes "ceal: reading failed\n"

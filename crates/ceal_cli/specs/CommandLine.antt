@@ -6,7 +6,7 @@ use Rattle.ceal_cli.specs.Fuel.{DEFAULT_FUEL, SpellsFuel}
 use Rattle.ceal_cli.specs.Workloads.{NamesWorkload}
 use Rattle.ceal_cli.specs.declared.words.Mode.{Mode}
 use Rattle.ceal_cli.specs.declared.words.Mode.TheVariants.{Check, List as Listing, Run, Gen, Dump, Verify, Many, Save}
-use Rattle.ceal_cli.specs.declared.words.Mode.TheVariants.{Resume}
+use Rattle.ceal_cli.specs.declared.words.Mode.TheVariants.{Resume, Resave}
 
 -- the option `--fuel` with one value
 abbrev pub fuel_option : Rule
@@ -42,6 +42,7 @@ Chooses words option (Dump fuel) = (words ≡ codes "dump" ∷ []) × IsFuel opt
 Chooses words option (Many fuel) = (words ≡ codes "many" ∷ []) × IsFuel option fuel
 Chooses words option (Save fuel) = (words ≡ codes "save" ∷ []) × IsFuel option fuel
 Chooses words option Resume = (words ≡ codes "resume" ∷ []) × (option ≡ None)
+Chooses words option Resave = (words ≡ codes "resave" ∷ []) × (option ≡ None)
 Chooses words option (Gen kind seed size) = NamesWorkload words kind seed size × (option ≡ None)
 
 abbrev pub ChoosesNone : List (List ℕ) → Option (List ℕ) → Type 0

@@ -1,4 +1,5 @@
--- A script that is cut in two: its first lines are saved, and the session is resumed with the others.
+-- A script that is cut in two: its first lines are saved, and the session is resumed with the others, and may be saved
+-- again after them.
 use Rattle.std.specs.Prelude.{◌≡◌, ◌⊎◌, ℕ, ◌<◌, ◌^◌, true, List, [], ◌∷◌, ◌++◌, length}
 use Rattle.ceal_lex.specs.Parts.{source_of}
 use Rattle.ceal_session.specs.AfterLine.{IsAllowed}
@@ -6,12 +7,12 @@ use Rattle.ceal_session.specs.Replies.{situation_without_run, Leads}
 use Rattle.ceal_session.specs.State.{Situation}
 use Rattle.ceal_cli.specs.Lines.{script_lines}
 use Rattle.ceal_cli.specs.Output.{Programmed, IsAnswer, IsTaken, first_state, lines_after_mark}
-use Rattle.ceal_cli.specs.ReadBack.{IsSaveAfter}
+use Rattle.ceal_cli.specs.ReadBack.{IsReadableAgain, IsReadableSave, IsSaveAfter}
 use Rattle.ceal_cli.specs.Saves.{mark_line}
-use Rattle.ceal_cli.specs.declared.words.Mode.TheVariants.{Run, Resume}
+use Rattle.ceal_cli.specs.declared.words.Mode.TheVariants.{Run, Save, Resume, Resave}
 
--- What `save` wrote of an input, a line `%%` and more lines after it are an input for `resume`, and one
--- for `run` has the same source part, and the lines of both scripts.
+-- What `save` wrote of an input, a line `%%` and more lines after it are an input for `resume` and `resave`, and one
+-- for `run` and `save` has the same source part, and the lines of both scripts.
 pub record Resumes (fuel : ℕ) (input written more again long : List ℕ) : Type 0 where
   pub first : Programmed input
   pub allowed : IsAllowed fuel
@@ -31,7 +32,7 @@ pub record Resumes (fuel : ℕ) (input written more again long : List ℕ) : Typ
 -- Such an input is taken.
 abbrev pub ResumableLaw : Type 0
 ResumableLaw = (fuel : ℕ) (input written more again long : List ℕ)
-    → Resumes fuel input written more again long → IsTaken Resume again
+    → Resumes fuel input written more again long → IsTaken Resume again × IsTaken Resave again
 
 -- The text is the replies to the back lines, from the situation after the front ones; the replies to those
 -- and the text after them are what `run` writes.
@@ -49,3 +50,16 @@ abbrev pub ResumedOutputLaw : Type 0
 ResumedOutputLaw = (fuel : ℕ) (input written more again long out : List ℕ)
     → (h : Resumes fuel input written more again long) → IsAnswer Resume again out
     → Continued fuel h.whole h.front (script_lines more) out
+
+-- And `resave` writes, to the byte, what `save` writes of the lines of both scripts.
+abbrev pub ResavedOutputLaw : Type 0
+ResavedOutputLaw = (fuel : ℕ) (input written more again long out : List ℕ)
+    → Resumes fuel input written more again long → IsAnswer Resave again out
+    → IsAnswer (Save fuel) long out
+
+-- So a third script may come after that, and as many as one likes: what `resave` wrote of a run is what `save` has to
+-- have written for the next one.
+abbrev pub ResavedAgainLaw : Type 0
+ResavedAgainLaw = (fuel : ℕ) (input written more again long out : List ℕ)
+    → Resumes fuel input written more again long → IsReadableAgain again out
+    → IsReadableSave fuel long out

@@ -20,7 +20,7 @@ use Rattle.ceal_cli.specs.Output.{IsAnswer, IsGenerated, IsOutput, IsRefusal, Is
 use Rattle.ceal_cli.specs.Verdicts.{verdict_text}
 use Rattle.ceal_cli.specs.declared.words.Mode.{Mode}
 use Rattle.ceal_cli.specs.declared.words.Mode.TheVariants.{Check, List as Listing, Run, Dump, Verify, Many, Save}
-use Rattle.ceal_cli.specs.declared.words.Mode.TheVariants.{Resume}
+use Rattle.ceal_cli.specs.declared.words.Mode.TheVariants.{Resume, Resave}
 
 -- Every workload is accepted that is short enough to be an input.
 abbrev pub AcceptedLaw : Type 0
@@ -77,14 +77,17 @@ ToldLaw = (input : List ℕ) (fuel : ℕ) → IsAccepted input → (out : List �
 abbrev pub JudgedLaw : Type 0
 JudgedLaw = (input : List ℕ) → IsAccepted input → (out : List ℕ) × IsOutput Verify input out
 
--- And an input that is taken has its answer for `resume`.
+-- And an input that is taken has its answer for `resume`, and for `resave`.
 abbrev pub TakenLaw : Type 0
 TakenLaw = (input : List ℕ) → IsTaken Resume input → (out : List ℕ) × IsAnswer Resume input out
+
+abbrev pub ResavedLaw : Type 0
+ResavedLaw = (input : List ℕ) → IsTaken Resave input → (out : List ℕ) × IsAnswer Resave input out
 
 -- And an accepted input that is not taken has the line that says why not.
 abbrev pub UnresumedLaw : Type 0
 UnresumedLaw = (input : List ℕ) → IsAccepted input → ¬ IsTaken Resume input
-    → (out : List ℕ) × IsRefusal Resume input out
+    → (out : List ℕ) × IsRefusal Resume input out × IsRefusal Resave input out
 
 -- In each mode that reads, each input that is short enough has an output.
 abbrev pub SomeOutputLaw : Type 0

@@ -2,7 +2,7 @@
 use Rattle.ceal_session.specs.AfterLine.{IsAllowed}
 use Rattle.ceal_cli.specs.declared.words.Mode.{Mode}
 use Rattle.ceal_cli.specs.declared.words.Mode.TheVariants.{Check, List as Listing, Run, Gen, Dump, Verify, Many, Save}
-use Rattle.ceal_cli.specs.declared.words.Mode.TheVariants.{Resume}
+use Rattle.ceal_cli.specs.declared.words.Mode.TheVariants.{Resume, Resave}
 
 -- a run may take as many steps as a session allows
 abbrev pub KeepsLimits : Mode → Type 0
@@ -14,4 +14,5 @@ KeepsLimits Verify = Unit {0}
 KeepsLimits (Many fuel) = IsAllowed fuel
 KeepsLimits (Save fuel) = IsAllowed fuel
 KeepsLimits Resume = Unit {0}
+KeepsLimits Resave = Unit {0}
 KeepsLimits (Gen kind seed size) = Unit {0}

@@ -5,7 +5,7 @@ use Rattle.ceal_cli.specs.Fuel.{DEFAULT_FUEL, SpellsFuel}
 use Rattle.ceal_cli.specs.Workloads.{NamesWorkload}
 use Rattle.ceal_cli.specs.declared.words.Mode.{Mode}
 use Rattle.ceal_cli.specs.declared.words.Mode.TheVariants.{Check, List as Listing, Run, Gen, Dump, Verify, Many, Save}
-use Rattle.ceal_cli.specs.declared.words.Mode.TheVariants.{Resume}
+use Rattle.ceal_cli.specs.declared.words.Mode.TheVariants.{Resume, Resave}
 use Rattle.ceal_gen.specs.declared.kind.Workload.{Workload}
 
 abbrev pub Text : Type 0
@@ -50,6 +50,7 @@ Asks words (Dump fuel) = NamesFuel fuel (codes "dump") words
 Asks words (Many fuel) = NamesFuel fuel (codes "many") words
 Asks words (Save fuel) = NamesFuel fuel (codes "save") words
 Asks words Resume = AreMarked (codes "resume" ∷ []) words
+Asks words Resave = AreMarked (codes "resave" ∷ []) words
 Asks words (Gen kind seed size) =
     (plain : List Text) × NamesWorkload plain kind seed size × AreMarked plain words
 
@@ -66,6 +67,7 @@ ReadsInput Verify = Unit {0}
 ReadsInput (Many fuel) = Unit {0}
 ReadsInput (Save fuel) = Unit {0}
 ReadsInput Resume = Unit {0}
+ReadsInput Resave = Unit {0}
 ReadsInput (Gen kind seed size) = ⊥
 
 -- The words ask for an answer to the input.

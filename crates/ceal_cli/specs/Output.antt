@@ -16,13 +16,13 @@ use Rattle.ceal_cli.specs.ManySessions.{AreManyReplies}
 use Rattle.ceal_cli.specs.Dumps.{IsDumped}
 use Rattle.ceal_cli.specs.Fuel.{DEFAULT_FUEL}
 use Rattle.ceal_cli.specs.Resumed.{IsResumable, IsNotResumed, IsRepliedAfter}
-use Rattle.ceal_cli.specs.Saves.{IsSavedAfterLines}
+use Rattle.ceal_cli.specs.Saves.{IsSavedAfterLines, IsResaved}
 use Rattle.ceal_cli.specs.Lines.{script_of, script_lines}
 use Rattle.ceal_cli.specs.Modes.{ReadsInput}
 use Rattle.ceal_cli.specs.Verdicts.{IsVerdictLine}
 use Rattle.ceal_cli.specs.declared.words.Mode.{Mode}
 use Rattle.ceal_cli.specs.declared.words.Mode.TheVariants.{Check, List as Listing, Run, Gen, Dump, Verify, Many, Save}
-use Rattle.ceal_cli.specs.declared.words.Mode.TheVariants.{Resume}
+use Rattle.ceal_cli.specs.declared.words.Mode.TheVariants.{Resume, Resave}
 use Rattle.ceal_gen.specs.Text.{workload_text}
 use Rattle.ceal_gen.specs.declared.kind.Workload.{Workload}
 
@@ -99,7 +99,7 @@ IsGenerated kind seed size out = IsOutputFromRun (workload_text kind seed size) 
 -- What is written for an accepted input: `accepted`, the text of its trace code, or, from a state
 -- without inputs, the replies to the lines of its script, the dump or the save after them, or the replies
 -- of many sessions. Or it is what the checker says of the dump after the mark, or the replies to the script
--- after the save there. For a workload the input is of no account.
+-- after the save there, or the save after that script. For a workload the input is of no account.
 abbrev pub IsAnswer : Mode → List ℕ → List ℕ → Type 0
 IsAnswer Check input out = IsAccepted input × (out ≡ accepted_text)
 IsAnswer Listing input out = IsListing input out
@@ -115,16 +115,28 @@ IsAnswer (Save fuel) input out =
     × IsSavedAfterLines p.code (first_state p fuel) (source_of input p.part) (lines_after_mark p) out
 IsAnswer Resume input out =
     (p : Programmed input) × IsRepliedAfter p.program p.code (bytes_after_mark p) out
+IsAnswer Resave input out =
+    (p : Programmed input) × IsResaved p.program p.code (source_of input p.part) (bytes_after_mark p) out
 IsAnswer (Gen kind seed size) input out = IsGenerated kind seed size out
 
--- The input is taken: it is accepted and, for `resume`, there is a save after the mark, which holds.
+-- The input is accepted, and after the mark there is a save that holds.
+abbrev pub HasSession : List ℕ → Type 0
+HasSession input = (p : Programmed input) × IsResumable p.code (bytes_after_mark p)
+
+-- The input is taken: it is accepted and, for `resume` and `resave`, there is a session to continue.
 abbrev pub IsTaken : Mode → List ℕ → Type 0
-IsTaken Resume input = (p : Programmed input) × IsResumable p.code (bytes_after_mark p)
+IsTaken Resume input = HasSession input
+IsTaken Resave input = HasSession input
 IsTaken _ input = IsAccepted input
 
--- what `resume` writes for an accepted input that is not taken
+-- the line that says why an accepted input has none
+abbrev pub HasNoSession : List ℕ → List ℕ → Type 0
+HasNoSession input out = (p : Programmed input) × IsNotResumed p.code (bytes_after_mark p) out
+
+-- what these two write for an accepted input that is not taken
 abbrev pub IsUnresumed : Mode → List ℕ → List ℕ → Type 0
-IsUnresumed Resume input out = (p : Programmed input) × IsNotResumed p.code (bytes_after_mark p) out
+IsUnresumed Resume input out = HasNoSession input out
+IsUnresumed Resave input out = HasNoSession input out
 IsUnresumed _ input out = ⊥
 
 -- the line of the first fault

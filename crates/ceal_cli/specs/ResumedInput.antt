@@ -9,7 +9,9 @@ use Rattle.ceal_session.specs.State.{Situation}
 use Rattle.ceal_snap.specs.SaveText.{Save, IsSave}
 use Rattle.ceal_snap.specs.declared.read.SaveError.{SaveError}
 use Rattle.ceal_snap.specs.declared.read.SaveError.TheVariants.{Memory, Unreadable}
-use Rattle.ceal_cli.specs.Resumed.{Resumption}
+use Rattle.ceal_cli.specs.Resumed.{Resumption, unreadable_save, not_holding}
+use Rattle.ceal_cli.specs.declared.resume.NotResumed.{NotResumed}
+use Rattle.ceal_cli.specs.declared.resume.NotResumed.TheVariants.{Memory as NoMemory, Unreadable as NoSave, Unsound}
 
 -- The bytes before the second mark are the save that is read. They are unreadable where there is no such mark, or where
 -- they are none.
@@ -29,3 +31,9 @@ pub record ContinuesFromSave (program : Program) (bytes : List ℕ) (part : Spli
 -- There is a save that does not hold.
 abbrev pub IsUnsound : Code → List ℕ → Type 0
 IsUnsound code bytes = (r : Resumption bytes) × ¬ SaveHolds code r.saved
+
+-- The line says why no session continues. Where there was no memory to find out, none does.
+abbrev pub SaysWhy : NotResumed → List ℕ → Type 0
+SaysWhy NoMemory out = ⊥
+SaysWhy NoSave out = out ≡ unreadable_save
+SaysWhy Unsound out = out ≡ not_holding

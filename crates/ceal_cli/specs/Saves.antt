@@ -1,12 +1,14 @@
--- What is written to continue from later: the source part, a line `%%`, and the save of the situation after a
--- script.
+-- What is written to continue from later: the source part, a line `%%`, and the save of the situation after a script,
+-- in a new session or in one that was resumed.
 use Rattle.std.specs.Prelude.{ℕ, List, ◌++◌, codes}
 use Rattle.ceal_base.specs.declared.recorded.Record.{Record}
+use Rattle.ceal_base.specs.declared.typed.Typed.{Typed}
 use Rattle.ceal_code.specs.Program.{Code}
 use Rattle.ceal_session.specs.Replies.{situation_without_run, Leads}
 use Rattle.ceal_session.specs.State.{State, Situation, numbers_in}
 use Rattle.ceal_snap.specs.SaveText.{Save, save_text}
 use Rattle.ceal_cli.specs.Dumps.{IsWrittenOf}
+use Rattle.ceal_cli.specs.Resumed.{IsRepliedAfter}
 
 -- the save of a situation whose run has this record
 abbrev pub save_of : Situation → Record → Save
@@ -36,3 +38,9 @@ pub record IsSavedAfterLines
   pub end : Situation
   pub leads : Leads (situation_without_run code s) lines replies end
   pub save : IsSaveOf end source out
+
+-- The same, after the second script of a session that is resumed: after that script is replied to.
+pub record IsResaved (program : Typed) (code : Code) (source bytes out : List ℕ) : Type 0 where
+  pub replies : List ℕ
+  pub after : IsRepliedAfter program code bytes replies
+  pub save : IsSaveOf after.end source out

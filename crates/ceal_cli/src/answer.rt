@@ -16,6 +16,7 @@ use crate::input::Input;
 use crate::lines::{ScriptLines, script};
 use crate::many::many;
 use crate::replies::reply_all;
+use crate::resave::resave;
 use crate::resume::resume;
 use crate::save::save;
 use crate::verify::verify;
@@ -113,6 +114,7 @@ fn answer<K: Sink>(
     requires reads { ReadsInput mode }
     requires limits { KeepsLimits mode }
     requires other { mode ≢ Mode.Resume }
+    requires another { mode ≢ Mode.Resave }
     ensures writes { Writes result (K.written sink.old) (K.written sink.new)
         (K.faults sink.old) (K.faults sink.new) (IsOutput mode input.entry.bytes.now) }
     ensures readable { OnOk result (WritesReadable (K.written sink.old) (K.written sink.new)
@@ -126,11 +128,11 @@ fn answer<K: Sink>(
         Mode::Dump(fuel) => dump(alloc, fuel, input, program, sink),
         Mode::Many(fuel) => many(alloc, fuel, input, program, sink),
         Mode::Save(fuel) => save(alloc, fuel, input, program, sink),
-        Mode::Resume | Mode::Gen { .. } => unreachable!(),
+        Mode::Resume | Mode::Resave | Mode::Gen { .. } => unreachable!(),
     }
 }
 
-// Writes the output for an accepted input, and says whether it is taken: in each mode but `resume` it is.
+// Writes the output for an accepted input, and says whether it is taken: but for `resume` and `resave` it is.
 fn take<K: Sink>(
     alloc: Global,
     mode: Mode,
@@ -152,6 +154,9 @@ fn take<K: Sink>(
 {
     if let Mode::Resume = mode {
         return resume(alloc, input, program, sink);
+    }
+    if let Mode::Resave = mode {
+        return resave(alloc, input, program, sink);
     }
     answer(alloc, mode, input, program, sink)?;
     Ok(true)

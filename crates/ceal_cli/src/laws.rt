@@ -4,13 +4,13 @@
 ghost use Rattle.std.specs.Prelude.{◌≡◌};
 ghost use Rattle.ceal_many.specs.Laws.{IsDetermined, OwnRepliesLaw, RefusedLaw as Others_refused_law, AloneLaw};
 ghost use Rattle.ceal_session.specs.Replies.{Replies};
-ghost use Rattle.ceal_cli.specs.CutScripts.{ResumableLaw, ResumedOutputLaw};
+ghost use Rattle.ceal_cli.specs.CutScripts.{ResumableLaw, ResumedOutputLaw, ResavedAgainLaw, ResavedOutputLaw};
 ghost use Rattle.ceal_cli.specs.DumpLaws.{DumpVerifiedLaw, TailLaw};
 ghost use Rattle.ceal_cli.specs.ManyLaws.{ManyIsRunLaw};
 ghost use Rattle.ceal_cli.specs.StrangerOutput.{StrangerOutputLaw};
 ghost use Rattle.ceal_cli.specs.Laws.{AcceptedLaw, ShortLaw, OneOutputLaw, AnsweredLaw, UntakenLaw, CheckedLaw};
 ghost use Rattle.ceal_cli.specs.Laws.{ListedLaw, RefusedLaw, RepliedLaw, DumpedLaw, SavedLaw, ToldLaw, JudgedLaw};
-ghost use Rattle.ceal_cli.specs.Laws.{TakenLaw, UnresumedLaw, SomeOutputLaw, GeneratedLaw, VerifiedLaw};
+ghost use Rattle.ceal_cli.specs.Laws.{TakenLaw, ResavedLaw, UnresumedLaw, SomeOutputLaw, GeneratedLaw, VerifiedLaw};
 
 use crate::members::Member;
 use crate::top::INPUT_LIMIT;
@@ -74,6 +74,7 @@ pub fn some_output()
     ensures told { ToldLaw }
     ensures verdicts { JudgedLaw }
     ensures resumed { TakenLaw }
+    ensures resaved { ResavedLaw }
     ensures unresumed { UnresumedLaw }
     ensures generated { GeneratedLaw }
 {
@@ -126,7 +127,7 @@ pub fn save_tail()
     ensures law { TailLaw }
 {}
 
-/// What `save` wrote of an input, a line `%%` and more lines after it are taken by `resume`, and it writes the replies
+/// What `save` wrote of an input, a line `%%` and more lines after it are taken by `resume`, which writes the replies
 /// that `run` gives to these lines after those of the first script: a session that is saved and resumed answers as one
 /// that never stopped. That `save` writes such a text, unless it says that there is no run, is a clause of `ceal_main`
 /// (`saved`).
@@ -138,6 +139,27 @@ pub fn resumed_output()
     ceal_compile::compile::one_answer();
     ceal_compile::laws::one_code();
     ceal_compile::laws::accepted_is_compiled();
+    ceal_snap::laws::one_save_law();
+    ceal_snap::laws::no_mark_law();
+    ceal_session::laws::one_reply();
+    ceal_session::laws::one_script();
+    ceal_session::laws::some_reply();
+    ceal_session::laws::resumed_law();
+}
+
+/// To what `save` wrote of an input, with a line `%%` and more lines after it, `resave` answers, to the byte, what
+/// `save` writes of the lines of both scripts. A third script may follow that, and as many more as one likes: a session
+/// that is put away each evening is the one that never stopped. That `resave` writes such a text, unless it says that
+/// there is no run, is a clause of `ceal_main` (`resaved`).
+pub fn resaved_output()
+    ensures saves { ResavedOutputLaw }
+    ensures again { ResavedAgainLaw }
+{
+    ceal_lex::split::one_split();
+    ceal_compile::compile::one_answer();
+    ceal_compile::laws::one_code();
+    ceal_compile::laws::accepted_is_compiled();
+    ceal_record::laws::renamed_law();
     ceal_snap::laws::one_save_law();
     ceal_snap::laws::no_mark_law();
     ceal_session::laws::one_reply();

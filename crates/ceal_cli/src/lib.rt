@@ -5,8 +5,8 @@
 //! the run after the script, `ceal verify` checks such a dump, and `ceal many` replies to a script whose lines name the
 //! session that they are for. `ceal save` writes what `ceal resume` continues from: the source part, a line `%%` and
 //! the save of the session after the script; what is added after one more line `%%` is the script that `ceal resume`
-//! replies to. `ceal gen` reads no input: it replies to the script of a workload, an input that a kind, a seed and a
-//! size stand for.
+//! replies to. Of the same input `ceal resave` writes what `ceal resume` continues from after that script. `ceal gen`
+//! reads no input: it replies to the script of a workload, an input that a kind, a seed and a size stand for.
 #![tactic(auto)]
 
 mod accepted_program;
@@ -24,6 +24,7 @@ mod many;
 mod members;
 mod numerals;
 mod replies;
+mod resave;
 mod resume;
 mod save;
 mod top;

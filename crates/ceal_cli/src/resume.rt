@@ -1,12 +1,12 @@
 // The replies of a session that is resumed.
 
-ghost use Rattle.std.specs.Prelude.{◌<◌, ◌^◌, ◌↔◌, IsTrue, length, IfOk, OnOk, IsErrOf};
+ghost use Rattle.std.specs.Prelude.{◌≡◌, ◌<◌, ◌^◌, ◌↔◌, false, IsTrue, length, IfOk, OnOk, IsErrOf};
 ghost use Rattle.ceal_compile.specs.Compiled.{IsCompiled};
 ghost use Rattle.ceal_compile.specs.Source.{IsProgram};
 ghost use Rattle.ceal_lex.specs.Parts.{IsSplit};
 ghost use Rattle.ceal_session.specs.SessionState.{situation};
 ghost use Rattle.ceal_cli.specs.SinkGrowth.{Writes};
-ghost use Rattle.ceal_cli.specs.ResumedInput.{IsSaveRead, ContinuesFromSave, IsUnsound};
+ghost use Rattle.ceal_cli.specs.ResumedInput.{IsSaveRead, ContinuesFromSave, IsUnsound, SaysWhy};
 ghost use Rattle.ceal_cli.specs.Output.{IsOutput, IsTaken};
 ghost use Rattle.ceal_cli.specs.Resumed.{Resumption};
 ghost use Rattle.ceal_cli.specs.declared.words.Mode.TheVariants.{Resume};
@@ -53,8 +53,8 @@ fn save_before(alloc: Global, bytes: &[u8], part: &Split) -> Result<Saved, SaveE
     read_save(alloc, source(bytes, part))
 }
 
-// The session that continues from the save before the second mark.
-fn resumed(
+/// The session that continues from the save before the second mark.
+pub fn resumed(
     alloc: Global,
     program: Program,
     bytes: &[u8],
@@ -80,6 +80,25 @@ fn resumed(
         Err(SaveError::Unreadable) => {
             drop(program);
             Err(NotResumed::Unreadable)
+        }
+    }
+}
+
+/// Writes the line that says why no session continues, and answers that the input is not taken.
+pub fn write_why<K: Sink>(why: NotResumed, sink: &mut K) -> Result<bool, Stopped>
+    ensures taken { IfOk result (λ taken. taken ≡ false) }
+    ensures writes { Writes result (K.written sink.old) (K.written sink.new)
+        (K.faults sink.old) (K.faults sink.new) (SaysWhy why) }
+{
+    match why {
+        NotResumed::Memory => Err(Stopped::Memory),
+        NotResumed::Unreadable => {
+            write_all(sink, b"refused V1: unreadable save\n")?;
+            Ok(false)
+        }
+        NotResumed::Unsound => {
+            write_all(sink, b"refused V2: save does not hold\n")?;
+            Ok(false)
         }
     }
 }
@@ -119,14 +138,6 @@ pub fn resume<K: Sink>(
             told?;
             Ok(true)
         }
-        Err(NotResumed::Memory) => Err(Stopped::Memory),
-        Err(NotResumed::Unreadable) => {
-            write_all(sink, b"refused V1: unreadable save\n")?;
-            Ok(false)
-        }
-        Err(NotResumed::Unsound) => {
-            write_all(sink, b"refused V2: save does not hold\n")?;
-            Ok(false)
-        }
+        Err(why) => write_why(why, sink),
     }
 }

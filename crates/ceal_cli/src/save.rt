@@ -67,8 +67,8 @@ fn save_of(alloc: Global, source: &[u8], session: &Session) -> Result<Text, NoMe
     }
 }
 
-// Carries out a script, and writes the save after it.
-fn write_save<K: Sink>(
+/// Carries out a script, and writes the source part, a line `%%` and the save of the session after it.
+pub fn write_save<K: Sink>(
     alloc: Global,
     session: &mut Session,
     source: &[u8],

@@ -8,7 +8,7 @@ ghost use Rattle.ceal_cli.specs.SinkGrowth.{WritesAnswer, WritesRefusal, WritesO
 ghost use Rattle.ceal_cli.specs.SinkGrowth.{WritesGeneratedPrefix};
 ghost use Rattle.ceal_cli.specs.Limits.{KeepsLimits};
 ghost use Rattle.ceal_cli.specs.Output.{IsTaken};
-ghost use Rattle.ceal_cli.specs.ReadBack.{WritesDump, WritesSave, WritesReadable};
+ghost use Rattle.ceal_cli.specs.ReadBack.{WritesAgain, WritesDump, WritesSave, WritesReadable};
 ghost use Rattle.ceal_cli.specs.Modes.{texts, Asks, AreDefined, AskToRead, AskToGenerate, ReadsInput};
 ghost use Rattle.ceal_cli.specs.declared.words.Mode.{Mode as ModeOf};
 ghost use Rattle.ceal_gen.specs.declared.kind.Workload.{Workload as WorkloadOf};
@@ -153,13 +153,16 @@ pub fn ceal_main<S: Source, K: Sink>(
     ensures told { result ≡ Status.Refused → (mode : ModeOf) → Asks (texts words.now) mode
         → IfSome (S.left source.old)
         (λ input. WritesRefusal (K.written sink.old) (K.written sink.new) mode input) }
-    // What `dump` and `save` write of a finished run is the dump of its record, and a save of the session.
+    // What `dump`, `save` and `resave` write of a finished run is the dump of its record, and a save of the session.
     ensures dumped { result ≡ Status.Done → (fuel : ℕ) → Asks (texts words.now) (Mode.Dump fuel)
         → IfSome (S.left source.old)
         (λ input. WritesDump (K.written sink.old) (K.written sink.new) fuel input) }
     ensures saved { result ≡ Status.Done → (fuel : ℕ) → Asks (texts words.now) (Mode.Save fuel)
         → IfSome (S.left source.old)
         (λ input. WritesSave (K.written sink.old) (K.written sink.new) fuel input) }
+    ensures resaved { result ≡ Status.Done → Asks (texts words.now) Mode.Resave
+        → IfSome (S.left source.old)
+        (λ input. WritesAgain (K.written sink.old) (K.written sink.new) input) }
     // In every case nothing or a prefix of it was written.
     ensures prefix { (mode : ModeOf) → Asks (texts words.now) mode → IfSome (S.left source.old)
         (λ input. WritesPrefix (K.written sink.old) (K.written sink.new) mode input) }
@@ -234,7 +237,7 @@ pub fn status_line(status: Status) -> &'static str
     match status {
         Status::Done | Status::Refused => "",
         Status::Usage => {
-            "usage: ceal run [--fuel N] | check | list | gen KIND SEED SIZE | dump [--fuel N] | verify | many [--fuel N] | save [--fuel N] | resume\n"
+            "usage: ceal run [--fuel N] | check | list | gen KIND SEED SIZE | dump [--fuel N] | verify | many [--fuel N] | save [--fuel N] | resume | resave\n"
         }
         Status::TooLong => "ceal: input longer than 4194304 bytes\n",
         Status::Memory => "ceal: out of memory\n",

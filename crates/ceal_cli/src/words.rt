@@ -38,6 +38,8 @@ pub enum Mode {
     Save(u32),
     /// the replies to the script after the save after the mark
     Resume,
+    /// the source part and the save of the session after that script
+    Resave,
 }
 
 /// What the seed and the size of a workload are at most.
@@ -85,6 +87,7 @@ fn chosen(words: &[&str], option: Option<&str>) -> Option<Mode>
         (["many"], option) => Some(Mode::Many(fuel(option)?)),
         (["save"], option) => Some(Mode::Save(fuel(option)?)),
         (["resume"], None) => Some(Mode::Resume),
+        (["resave"], None) => Some(Mode::Resave),
         (["gen", kind, seed, size], None) => workload(kind, seed, size),
         _ => None,
     }

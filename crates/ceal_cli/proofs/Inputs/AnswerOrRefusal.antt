@@ -6,10 +6,10 @@ use Rattle.ceal_snap.specs.Answers.{OneSaveLaw}
 use Rattle.ceal_cli.specs.Laws.{AnsweredLaw, UntakenLaw}
 use Rattle.ceal_cli.specs.Lines.{script_of}
 use Rattle.ceal_cli.specs.Modes.{ReadsInput}
-use Rattle.ceal_cli.specs.Output.{IsAnswer, IsRefusal, IsTaken, IsUnresumed}
+use Rattle.ceal_cli.specs.Output.{HasNoSession, HasSession, IsAnswer, IsRefusal, IsTaken, IsUnresumed}
 use Rattle.ceal_cli.specs.Resumed.{IsResumable}
 use Rattle.ceal_cli.specs.declared.words.Mode.{Mode}
-use Rattle.ceal_cli.specs.declared.words.Mode.TheVariants.{Check, List as Listing, Run, Gen, Dump, Verify, Many, Save, Resume}
+use Rattle.ceal_cli.specs.declared.words.Mode.TheVariants.{Check, List as Listing, Run, Gen, Dump, Verify, Many, Save, Resume, Resave}
 use Rattle.ceal_cli.proofs.Inputs.OneResumed.{resumed-or-not}
 use Rattle.ceal_cli.proofs.Inputs.OneReading.{SplitLaw, AnswerLaw, no-fault, one-reading, read-again}
 
@@ -22,6 +22,7 @@ taken-accepted (Dump fuel) input h = h
 taken-accepted (Many fuel) input h = h
 taken-accepted (Save fuel) input h = h
 taken-accepted Resume input h = (h.0.program, h.0.reads)
+taken-accepted Resave input h = (h.0.program, h.0.reads)
 taken-accepted (Gen kind seed size) input h = h
 
 pub answer-taken : (mode : Mode) (input out : List ℕ) → ReadsInput mode → IsAnswer mode input out → IsTaken mode input
@@ -33,6 +34,7 @@ answer-taken (Dump fuel) input out reads h = (h.0.program, h.0.reads)
 answer-taken (Many fuel) input out reads h = (h.0.program, h.0.reads)
 answer-taken (Save fuel) input out reads h = (h.0.program, h.0.reads)
 answer-taken Resume input out reads h = (h.0, (h.1.from, h.1.holds))
+answer-taken Resave input out reads h = (h.0, (h.1.after.from, h.1.after.holds))
 answer-taken (Gen kind seed size) input out reads h = absurd reads
 
 pub unresumed-accepted : (mode : Mode) (input out : List ℕ) → IsUnresumed mode input out → IsAccepted input
@@ -44,10 +46,16 @@ unresumed-accepted (Dump fuel) input out h = absurd h
 unresumed-accepted (Many fuel) input out h = absurd h
 unresumed-accepted (Save fuel) input out h = absurd h
 unresumed-accepted Resume input out h = (h.0.program, h.0.reads)
+unresumed-accepted Resave input out h = (h.0.program, h.0.reads)
 unresumed-accepted (Gen kind seed size) input out h = absurd h
 
 module _ (split : SplitLaw) (answer : AnswerLaw) (code : OneCodeLaw) (save : OneSaveLaw) where
   -- a save that is taken is not refused
+  has-or-not : (input out : List ℕ) → HasSession input → HasNoSession input out → ⊥
+  has-or-not input out (p, taken) (q, none) =
+      resumed-or-not split save q.code (script_of input q.part) out
+      (read-again (λ part program c. IsResumable c (script_of input part)) input p q (one-reading split answer code input p q) taken) none
+
   not-unresumed : (mode : Mode) (input out : List ℕ) → IsTaken mode input → IsUnresumed mode input out → ⊥
   not-unresumed Check input out h k = absurd k
   not-unresumed Listing input out h k = absurd k
@@ -56,9 +64,8 @@ module _ (split : SplitLaw) (answer : AnswerLaw) (code : OneCodeLaw) (save : One
   not-unresumed (Dump fuel) input out h k = absurd k
   not-unresumed (Many fuel) input out h k = absurd k
   not-unresumed (Save fuel) input out h k = absurd k
-  not-unresumed Resume input out (p, taken) (q, none) =
-      resumed-or-not split save q.code (script_of input q.part) out
-      (read-again (λ part program c. IsResumable c (script_of input part)) input p q (one-reading split answer code input p q) taken) none
+  not-unresumed Resume input out h k = has-or-not input out h k
+  not-unresumed Resave input out h k = has-or-not input out h k
   not-unresumed (Gen kind seed size) input out h k = absurd k
 
   -- an input is not both taken and refused

@@ -41,8 +41,9 @@ module _ (split : SplitLaw) (save : OneSaveLaw) where
   one-refused code bytes a b (inr (r, none, e)) (inl (too, f)) = absurd (too r)
   one-refused code bytes a b (inr (r, none, e)) (inr (s, too, f)) = e ∙ sym f
 
-  -- the second script has one text of replies
-  pub one-after : OneScriptLaw → (program : Typed) (code : Code) (bytes a b : List ℕ) → IsRepliedAfter program code bytes a → IsRepliedAfter program code bytes b → a ≡ b
+  -- the second script has one text of replies, and one situation after it
+  pub one-after : OneScriptLaw → (program : Typed) (code : Code) (bytes a b : List ℕ) (h : IsRepliedAfter program code bytes a) (k : IsRepliedAfter program code bytes b)
+      → (a ≡ b) × (h.end ≡ k.end)
   one-after script program code bytes a b h k =
       let parts = one-part bytes h.from k.from in
       let saves = one-saved bytes h.from k.from in
@@ -51,4 +52,4 @@ module _ (split : SplitLaw) (save : OneSaveLaw) where
       let here = subst (λ (part : Split). Leads (situation_of_save program code h.from.saved h.trace) (script_lines (script_of bytes part)) a h.end) parts h.leads in
       let there = subst (λ (v : Save). Leads (situation_of_save program code v h.trace) (script_lines (script_of bytes k.from.part)) a h.end) saves here in
       let same = subst (λ (l : Trace). Leads (situation_of_save program code k.from.saved l) (script_lines (script_of bytes k.from.part)) a h.end) traces there in
-      (script (situation_of_save program code k.from.saved k.trace) (script_lines (script_of bytes k.from.part)) a b h.end k.end same k.leads).0
+      script (situation_of_save program code k.from.saved k.trace) (script_lines (script_of bytes k.from.part)) a b h.end k.end same k.leads

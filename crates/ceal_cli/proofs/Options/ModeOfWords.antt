@@ -4,7 +4,7 @@ use Rattle.ceal_cli.specs.Modes.{AreMarked, Asks, HaveOption, NamesFuel, Text}
 use Rattle.ceal_cli.specs.Fuel.{SpellsFuel}
 use Rattle.ceal_cli.specs.CommandLine.{Chooses, IsFuel}
 use Rattle.ceal_cli.specs.declared.words.Mode.{Mode}
-use Rattle.ceal_cli.specs.declared.words.Mode.TheVariants.{Check, List as Listing, Run, Gen, Dump, Verify, Many, Save, Resume}
+use Rattle.ceal_cli.specs.declared.words.Mode.TheVariants.{Check, List as Listing, Run, Gen, Dump, Verify, Many, Save, Resume, Resave}
 use Rattle.ceal_cli.proofs.Options.FoundWords.{Reads}
 
 -- the first of the values
@@ -116,5 +116,7 @@ asked_for words plain values (Dump fuel) reads few (is, chosen) = named_fuel wor
 asked_for words plain values (Many fuel) reads few (is, chosen) = named_fuel words plain values fuel (codes "many") reads few is chosen
 asked_for words plain values (Save fuel) reads few (is, chosen) = named_fuel words plain values fuel (codes "save") reads few is chosen
 asked_for words plain values Resume reads few (is, none) =
+    subst (λ (l : List Text). AreMarked l words) is (marked words plain values (none_is values none) reads)
+asked_for words plain values Resave reads few (is, none) =
     subst (λ (l : List Text). AreMarked l words) is (marked words plain values (none_is values none) reads)
 asked_for words plain values (Gen kind seed size) reads few (names, none) = (plain, names, marked words plain values (none_is values none) reads)

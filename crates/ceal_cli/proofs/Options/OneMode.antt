@@ -9,7 +9,7 @@ use Rattle.ceal_cli.specs.Modes.{Asks, AskToGenerate, AskToRead, NamesFuel, Read
 use Rattle.ceal_cli.specs.declared.words.Mode.{Mode}
 use Rattle.ceal_gen.specs.declared.kind.Workload.{Workload}
 use Rattle.ceal_session.specs.AfterLine.{IsAllowed}
-use Rattle.ceal_cli.specs.declared.words.Mode.TheVariants.{Check, List as Listing, Run, Gen, Dump, Verify, Many, Save, Resume}
+use Rattle.ceal_cli.specs.declared.words.Mode.TheVariants.{Check, List as Listing, Run, Gen, Dump, Verify, Many, Save, Resume, Resave}
 use Rattle.ceal_gen.specs.declared.kind.Workload.TheVariants.{List as OfList, Tree as OfTree}
 use Rattle.ceal_cli.proofs.Options.ParserTakes.{taken}
 
@@ -31,6 +31,7 @@ named (word ∷ []) value =
     else if bytes_eq word (codes "many") then Many (fuel_of value)
     else if bytes_eq word (codes "save") then Save (fuel_of value)
     else if bytes_eq word (codes "resume") then Resume
+    else if bytes_eq word (codes "resave") then Resave
     else Run (fuel_of value)
 named (word ∷ kind ∷ seed ∷ size ∷ []) value = Gen (if bytes_eq kind (codes "list") then OfList else OfTree) (digits_value 10 seed) (digits_value 10 size)
 named words value = Check
@@ -44,6 +45,7 @@ is_named plain value (Dump n) h = ap Dump (fuel_is value n h.1) ∙ ap (λ (l : 
 is_named plain value (Many n) h = ap Many (fuel_is value n h.1) ∙ ap (λ (l : List (List ℕ)). named l value) (sym h.0)
 is_named plain value (Save n) h = ap Save (fuel_is value n h.1) ∙ ap (λ (l : List (List ℕ)). named l value) (sym h.0)
 is_named plain value Resume h = ap (λ (l : List (List ℕ)). named l value) (sym h.0)
+is_named plain value Resave h = ap (λ (l : List (List ℕ)). named l value) (sym h.0)
 is_named plain value (Gen OfList seed size) (names, none) = ap₂ (Gen OfList) names.seed_is.value names.size_is.value ∙ ap (λ (l : List (List ℕ)). named l value) (sym names.same)
 is_named plain value (Gen OfTree seed size) (names, none) = ap₂ (Gen OfTree) names.seed_is.value names.size_is.value ∙ ap (λ (l : List (List ℕ)). named l value) (sym names.same)
 
@@ -67,6 +69,7 @@ of_workload P (Dump fuel) = Unit {0}
 of_workload P (Many fuel) = Unit {0}
 of_workload P (Save fuel) = Unit {0}
 of_workload P Resume = Unit {0}
+of_workload P Resave = Unit {0}
 of_workload P (Gen kind seed size) = P kind seed size
 
 -- words ask for one workload at most
@@ -92,4 +95,5 @@ keeps_limits words (Dump fuel) asks = allowed fuel (codes "dump") words asks
 keeps_limits words (Many fuel) asks = allowed fuel (codes "many") words asks
 keeps_limits words (Save fuel) asks = allowed fuel (codes "save") words asks
 keeps_limits words Resume asks = tt
+keeps_limits words Resave asks = tt
 keeps_limits words (Gen kind seed size) asks = tt

@@ -10,7 +10,7 @@ use Rattle.ceal_cli.specs.Fuel.{SpellsFuel}
 use Rattle.ceal_cli.specs.Workloads.{NamesWorkload, SpellsSeed, SpellsSize, kind_word}
 use Rattle.ceal_cli.specs.CommandLine.{Chooses, IsFuel, ceal_command}
 use Rattle.ceal_cli.specs.declared.words.Mode.{Mode}
-use Rattle.ceal_cli.specs.declared.words.Mode.TheVariants.{Check, List as Listing, Run, Gen, Dump, Verify, Many, Save, Resume}
+use Rattle.ceal_cli.specs.declared.words.Mode.TheVariants.{Check, List as Listing, Run, Gen, Dump, Verify, Many, Save, Resume, Resave}
 use Rattle.ceal_gen.specs.declared.kind.Workload.{Workload}
 use Rattle.ceal_gen.specs.declared.kind.Workload.TheVariants.{List as OfList, Tree as OfTree}
 use Rattle.ceal_cli.proofs.Options.FoundWords.{plain_of}
@@ -49,6 +49,9 @@ VERIFY = codes "verify"
 abbrev RESUME : Text
 RESUME = codes "resume"
 
+abbrev RESAVE : Text
+RESAVE = codes "resave"
+
 check_alone : (words : List Text) → AreMarked (CHECK ∷ []) words → Takes (CHECK ∷ []) None words
 unfolding clap_on_literals
 check_alone = takes_plain CHECK [] refl refl refl (record { dashes = refl; long = refl; short = refl }, tt)
@@ -64,6 +67,10 @@ verify_alone = takes_plain VERIFY [] refl refl refl (record { dashes = refl; lon
 resume_alone : (words : List Text) → AreMarked (RESUME ∷ []) words → Takes (RESUME ∷ []) None words
 unfolding clap_on_literals
 resume_alone = takes_plain RESUME [] refl refl refl (record { dashes = refl; long = refl; short = refl }, tt)
+
+resave_alone : (words : List Text) → AreMarked (RESAVE ∷ []) words → Takes (RESAVE ∷ []) None words
+unfolding clap_on_literals
+resave_alone = takes_plain RESAVE [] refl refl refl (record { dashes = refl; long = refl; short = refl }, tt)
 
 no_hyphen : (d : ℕ) → digit_value d < 10 → eqb d 45 ≡ false
 no_hyphen d h = go (eqb d 45) refl
@@ -197,6 +204,9 @@ taken words (Save fuel) asks =
     record { none = t.none; chooses = (t.word_is, t.fuel_is) }
 taken words Resume asks =
     let t = resume_alone words asks in
+    record { none = t.taken; chooses = (t.plain_words, t.value_is) }
+taken words Resave asks =
+    let t = resave_alone words asks in
     record { none = t.taken; chooses = (t.plain_words, t.value_is) }
 taken words (Gen kind seed size) (plain, names, marked) =
     let t = generated words plain kind seed size names marked in

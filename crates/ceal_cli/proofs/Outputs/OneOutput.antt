@@ -15,16 +15,16 @@ use Rattle.ceal_cli.specs.Fuel.{DEFAULT_FUEL}
 use Rattle.ceal_cli.specs.Laws.{OneOutputLaw}
 use Rattle.ceal_cli.specs.Lines.{script_of, script_lines}
 use Rattle.ceal_code.specs.Program.{Code}
-use Rattle.ceal_cli.specs.Output.{LeadsFromRun, IsRepliedFromRun, Programmed, first_state, lines_after_mark, bytes_after_mark, IsListing, IsAnswer, IsRefusal, IsUnresumed}
+use Rattle.ceal_cli.specs.Output.{LeadsFromRun, IsRepliedFromRun, Programmed, first_state, lines_after_mark, bytes_after_mark, HasNoSession, IsListing, IsAnswer, IsRefusal, IsUnresumed}
 use Rattle.ceal_cli.specs.ManySessions.{AreManyReplies}
 use Rattle.ceal_cli.specs.Dumps.{IsDumped}
 use Rattle.ceal_cli.specs.Verdicts.{IsVerdictLine}
 use Rattle.ceal_cli.specs.declared.words.Mode.{Mode}
-use Rattle.ceal_cli.specs.declared.words.Mode.TheVariants.{Check, List as Listing, Run, Gen, Dump, Verify, Many, Save, Resume}
+use Rattle.ceal_cli.specs.declared.words.Mode.TheVariants.{Check, List as Listing, Run, Gen, Dump, Verify, Many, Save, Resume, Resave}
 use Rattle.ceal_gen.specs.Text.{workload_text}
 use Rattle.ceal_cli.specs.Resumed.{IsNotResumed, IsRepliedAfter}
-use Rattle.ceal_cli.specs.Saves.{IsSavedAfterLines}
-use Rattle.ceal_cli.proofs.Outputs.OneRecord.{Once, one-dumped, one-saved, one-verdict, one-many}
+use Rattle.ceal_cli.specs.Saves.{IsSavedAfterLines, IsResaved}
+use Rattle.ceal_cli.proofs.Outputs.OneRecord.{Once, one-dumped, one-resaved, one-saved, one-verdict, one-many}
 use Rattle.ceal_cli.proofs.Inputs.OneResumed.{one-after, one-refused}
 use Rattle.ceal_cli.proofs.Inputs.OneReading.{SplitLaw, AnswerLaw, one-program, one-fault, no-fault, one-reading, read-again}
 use Rattle.ceal_cli.proofs.Inputs.AnswerOrRefusal.{answer-taken, unresumed-accepted, not-refused}
@@ -77,7 +77,12 @@ module _ (split : SplitLaw) (answer : AnswerLaw) (code : OneCodeLaw) (reply : On
 
   one-resumed : (input a b : List ℕ) → IsAnswer Resume input a → IsAnswer Resume input b → a ≡ b
   one-resumed input a b (p, h) (q, k) =
-      one-after split known.saves script q.program q.code (bytes_after_mark q) a b (again (λ part program c. IsRepliedAfter program c (script_of input part) a) input p q h) k
+      (one-after split known.saves script q.program q.code (bytes_after_mark q) a b (again (λ part program c. IsRepliedAfter program c (script_of input part) a) input p q h) k).0
+
+  one-save-again : (input a b : List ℕ) → IsAnswer Resave input a → IsAnswer Resave input b → a ≡ b
+  one-save-again input a b (p, h) (q, k) =
+      one-resaved known.records script split known.saves q.program q.code (source_of input q.part) (bytes_after_mark q) a b
+      (again (λ part program c. IsResaved program c (source_of input part) (script_of input part) a) input p q h) k
 
   one-answer : (mode : Mode) (input a b : List ℕ) → IsAnswer mode input a → IsAnswer mode input b → a ≡ b
   one-answer Check input a b h k = h.1 ∙ sym k.1
@@ -88,12 +93,17 @@ module _ (split : SplitLaw) (answer : AnswerLaw) (code : OneCodeLaw) (reply : On
   one-answer (Many fuel) input a b h k = one-run AreManyReplies (one-many reply known.sessions) input fuel a b h.0 k.0 h.1 k.1
   one-answer (Save fuel) input a b h k = one-save input fuel a b h k
   one-answer Resume input a b h k = one-resumed input a b h k
+  one-answer Resave input a b h k = one-save-again input a b h k
   one-answer (Gen kind seed size) input a b h k =
       one-run IsRepliedFromRun (one-from-run reply script) (workload_text kind seed size) DEFAULT_FUEL a b h.0 k.0 h.1 k.1
 
   -- an input is not both answered and refused
   not-both : (mode : Mode) (input a b : List ℕ) → IsAnswer mode input a → IsRefusal mode input b → ⊥
   not-both mode input a b h k = not-refused split answer code known.saves mode input b (answer-taken mode input a k.0 h) k
+
+  one-why : (input a b : List ℕ) → HasNoSession input a → HasNoSession input b → a ≡ b
+  one-why input a b (p, h) (q, k) =
+      one-refused split known.saves q.code (bytes_after_mark q) a b (again (λ part program c. IsNotResumed c (script_of input part) a) input p q h) k
 
   one-unresumed : (mode : Mode) (input a b : List ℕ) → IsUnresumed mode input a → IsUnresumed mode input b → a ≡ b
   one-unresumed Check input a b h k = absurd h
@@ -103,8 +113,8 @@ module _ (split : SplitLaw) (answer : AnswerLaw) (code : OneCodeLaw) (reply : On
   one-unresumed Verify input a b h k = absurd h
   one-unresumed (Many fuel) input a b h k = absurd h
   one-unresumed (Save fuel) input a b h k = absurd h
-  one-unresumed Resume input a b (p, h) (q, k) =
-      one-refused split known.saves q.code (bytes_after_mark q) a b (again (λ part program c. IsNotResumed c (script_of input part) a) input p q h) k
+  one-unresumed Resume input a b h k = one-why input a b h k
+  one-unresumed Resave input a b h k = one-why input a b h k
   one-unresumed (Gen kind seed size) input a b h k = absurd h
 
   one-refusal : (mode : Mode) (input a b : List ℕ) → IsRefusal mode input a → IsRefusal mode input b → a ≡ b

@@ -2,6 +2,7 @@
 use Rattle.std.proofs.Common.{◌≡◌, inl, inr, ℕ, Option, Some, None, List, [], ◌∷◌, sym, ap, ap₂, ◌∙◌, subst}
 use Rattle.ceal_base.specs.declared.call.Call.{Call}
 use Rattle.ceal_base.specs.declared.recorded.Record.{Record}
+use Rattle.ceal_base.specs.declared.typed.Typed.{Typed}
 use Rattle.ceal_code.specs.Program.{Code}
 use Rattle.ceal_dump.specs.Answers.{OneRecordLaw as One_dump_law}
 use Rattle.ceal_dump.specs.DumpText.{dump_text}
@@ -22,8 +23,10 @@ use Rattle.ceal_traceck.specs.Laws.{OneVerdictLaw}
 use Rattle.ceal_traceck.specs.Verdicts.{Means}
 use Rattle.ceal_cli.specs.ManySessions.{joined_texts, AreManyReplies}
 use Rattle.ceal_cli.specs.Dumps.{IsRecordIn, IsWrittenBy, IsDumpOf, IsDumped}
-use Rattle.ceal_cli.specs.Saves.{save_of, with_source, IsSaveOf, IsSavedAfterLines}
+use Rattle.ceal_cli.specs.Saves.{save_of, with_source, IsSaveOf, IsResaved, IsSavedAfterLines}
 use Rattle.ceal_cli.specs.Verdicts.{verdict_text, IsVerdictLine}
+use Rattle.ceal_cli.proofs.Inputs.OneReading.{SplitLaw}
+use Rattle.ceal_cli.proofs.Inputs.OneResumed.{one-after}
 
 -- what is known of one record, dump, verdict and save, and of many sessions
 pub record Once : Type 0 where
@@ -60,6 +63,13 @@ module _ (records : OneRecordLaw) (script : OneScriptLaw) where
   one-saved source code s lines a b h k =
       let same : h.end ≡ k.end = (script (situation_without_run code s) lines h.replies k.replies h.end k.end h.leads k.leads).1 in
       text-by records (λ kept. with_source source (save_of k.end kept)) (reply_to_query k.end.state Steps) k.end a b (subst (λ m. IsSaveOf m source a) same h.save) k.save
+
+  pub one-resaved : SplitLaw → OneSaveLaw → (program : Typed) (code : Code) (source bytes a b : List ℕ)
+      → IsResaved program code source bytes a → IsResaved program code source bytes b → a ≡ b
+  one-resaved split saves program code source bytes a b h k =
+      let same : h.after.end ≡ k.after.end = (one-after split saves script program code bytes h.replies k.replies h.after k.after).1 in
+      let end = k.after.end in
+      text-by records (λ kept. with_source source (save_of end kept)) (reply_to_query end.state Steps) end a b (subst (λ m. IsSaveOf m source a) same h.save) k.save
 
 -- a session has one reply, and leaves one situation
 pub determined : OneReplyLaw → IsDetermined Replies

@@ -29,16 +29,16 @@ use Rattle.ceal_session.specs.declared.reply.Reply.TheVariants.{Refused, Told}
 use Rattle.ceal_theory.specs.Pasts.{Past, NoTrace, Traced, Going}
 use Rattle.ceal_traceck.specs.Laws.{SomeVerdictLaw}
 use Rattle.ceal_cli.specs.Dumps.{IsRecordIn, IsWrittenBy, IsWrittenOf, no_run_text}
-use Rattle.ceal_cli.specs.Resumed.{IsResumable, lines_after}
+use Rattle.ceal_cli.specs.Resumed.{IsRepliedAfter, IsResumable, lines_after}
 use Rattle.ceal_cli.specs.Saves.{save_of, with_source}
-use Rattle.ceal_cli.specs.Laws.{AcceptedLaw, CheckedLaw, DumpedLaw, GeneratedLaw, JudgedLaw, ListedLaw, RefusedLaw, RepliedLaw, SavedLaw, TakenLaw, ToldLaw}
+use Rattle.ceal_cli.specs.Laws.{AcceptedLaw, CheckedLaw, DumpedLaw, GeneratedLaw, JudgedLaw, ListedLaw, RefusedLaw, RepliedLaw, ResavedLaw, SavedLaw, TakenLaw, ToldLaw}
 use Rattle.ceal_cli.proofs.Sessions.ManyReplies.{told-for}
 use Rattle.ceal_cli.proofs.Sessions.ReplyPrefixes.{some-from-run}
 use Rattle.ceal_cli.proofs.Inputs.OneReading.{SplitLaw, AnswerLaw, one-reading, read-again}
 use Rattle.ceal_cli.specs.Fuel.{DEFAULT_FUEL}
 use Rattle.ceal_cli.specs.Verdicts.{verdict_text, unreadable_text, IsVerdictLine}
 use Rattle.ceal_cli.specs.Lines.{script_of, script_lines}
-use Rattle.ceal_cli.specs.Output.{IsRefusal, IsOutput, Programmed, accepted_text}
+use Rattle.ceal_cli.specs.Output.{HasSession, IsRefusal, IsOutput, Programmed, accepted_text, bytes_after_mark}
 use Rattle.ceal_cli.specs.declared.words.Mode.TheVariants.{Check, List as Listing}
 
 -- the law that an input has a result
@@ -135,15 +135,39 @@ saved compiled begins scripts records input fuel accepted =
     )
 
 -- a save that holds is gone on from
-pub taken : SplitLaw → AnswerLaw → OneCodeLaw → SomeCompiledLaw → SomeScriptLaw → HeldLaw → TakenLaw
-taken split answer code compiled scripts held input (p, here) =
+record GoesOn (input : List ℕ) : Type 0 where
+  reading : Programmed input
+  replies : List ℕ
+  after : IsRepliedAfter reading.program reading.code (bytes_after_mark reading) replies
+  stands : IsConsistent after.end
+
+goes-on : SplitLaw → AnswerLaw → OneCodeLaw → SomeCompiledLaw → SomeScriptLaw → HeldLaw → (input : List ℕ) → HasSession input → GoesOn input
+goes-on split answer code compiled scripts held input (p, here) =
     let c = compiled input (p.program, p.reads) in
     let q : Programmed input = record { part = c.1.part; split = c.1.split; program = c.0.typed; reads = c.1; code = c.0.code; is_code = c.2.code } in
     let same = one-reading split answer code input p q in
     let found = read-again (λ part program k. IsResumable k (script_of input part)) input p q same here in
     let there = held c.0 found.0.saved c.2 found.1 in
     let w = scripts (situation_of_save c.0.typed c.0.code found.0.saved there.0) (lines_after found.0) there.2 in
-    (w.out, (q, record { from = found.0; holds = found.1; trace = there.0; items = there.1; end = w.end; leads = w.leads }))
+    record {
+      reading = q;
+      replies = w.out;
+      after = record { from = found.0; holds = found.1; trace = there.0; items = there.1; end = w.end; leads = w.leads };
+      stands = w.stands;
+    }
+
+pub taken : SplitLaw → AnswerLaw → OneCodeLaw → SomeCompiledLaw → SomeScriptLaw → HeldLaw → TakenLaw
+taken split answer code compiled scripts held input h =
+    let w = goes-on split answer code compiled scripts held input h in
+    (w.replies, (w.reading, w.after))
+
+-- and saved again
+pub resaved : SplitLaw → AnswerLaw → OneCodeLaw → SomeCompiledLaw → SomeScriptLaw → HeldLaw → SomeRecordLaw → ResavedLaw
+resaved split answer code compiled scripts held records input h =
+    let w = goes-on split answer code compiled scripts held input h in
+    let source = source_of input w.reading.part in
+    let text = some-written records (λ kept. with_source source (save_of w.after.end kept)) w.after.end w.stands in
+    (text.0, (w.reading, record { replies = w.replies; after = w.after; save = text.1 }))
 
 pub told : SomeCompiledLaw → BegunLaw → SomeReplyLaw → OneReplyLaw → KeptLaw IsConsistent Replies → Many_law IsConsistent Replies → ToldLaw
 told compiled begins reply once kept some input fuel accepted =

@@ -1,4 +1,4 @@
--- An accepted input has its output for `resume`, and so each input has one in each mode that reads.
+-- An accepted input has its output for `resume` and `resave`, and so each input has one in each mode that reads.
 use Rattle.std.proofs.Common.{◌≡◌, ◌⊎◌, ◌<◌, ◌^◌, inl, inr, ℕ, Bool, true, false, Result, Ok, Err, List, length, refl, sym, ap, ◌∙◌, subst, arith}
 use Rattle.std.proofs.lemmas.List.{length-drop}
 use Rattle.ceal_base.specs.declared.fault.Fault.{Fault}
@@ -13,13 +13,13 @@ use Rattle.ceal_session.specs.SessionSave.{SaveHolds}
 use Rattle.ceal_snap.specs.Answers.{OneSaveLaw, SaveOrNoneLaw}
 use Rattle.ceal_snap.specs.SaveText.{Save, IsSave}
 use Rattle.ceal_traceck.specs.Laws.{OneVerdictLaw, SomeVerdictLaw}
-use Rattle.ceal_cli.specs.Laws.{CheckedLaw, DumpedLaw, JudgedLaw, ListedLaw, RefusedLaw, RepliedLaw, SavedLaw, SomeOutputLaw, TakenLaw, ToldLaw, UnresumedLaw}
+use Rattle.ceal_cli.specs.Laws.{CheckedLaw, DumpedLaw, JudgedLaw, ListedLaw, RefusedLaw, RepliedLaw, ResavedLaw, SavedLaw, SomeOutputLaw, TakenLaw, ToldLaw, UnresumedLaw}
 use Rattle.ceal_cli.specs.Lines.{script_of}
 use Rattle.ceal_cli.specs.Modes.{ReadsInput}
 use Rattle.ceal_cli.specs.Output.{IsOutput, Programmed, bytes_after_mark}
 use Rattle.ceal_cli.specs.Resumed.{Resumption, IsNotResumed, IsResumable, not_holding, unreadable_save}
 use Rattle.ceal_cli.specs.declared.words.Mode.{Mode}
-use Rattle.ceal_cli.specs.declared.words.Mode.TheVariants.{Check, List as Listing, Run, Gen, Dump, Verify, Many, Save as SaveMode, Resume}
+use Rattle.ceal_cli.specs.declared.words.Mode.TheVariants.{Check, List as Listing, Run, Gen, Dump, Verify, Many, Save as SaveMode, Resume, Resave}
 use Rattle.ceal_cli.proofs.Inputs.OneReading.{SplitLaw, AnswerLaw, no-fault, one-reading, read-again}
 use Rattle.ceal_cli.proofs.Inputs.OneResumed.{one-saved}
 use Rattle.ceal_cli.proofs.Outputs.HoldsOrNot.{holds-or-not}
@@ -84,7 +84,7 @@ pub unresumed : SplitLaw → SomeSplitLaw → SaveOrNoneLaw → SomeCompiledLaw 
 unresumed split some saves compiled input accepted none =
     let p = with-code compiled input accepted in
     let line = not-resumed split some saves (bytes_after_mark p) (behind-small input p) p.code (λ h. none (p, h)) in
-    (line.0, (tt, inr (p, line.1)))
+    (line.0, (tt, inr (p, line.1)), (tt, inr (p, line.1)))
 
 -- what is known of saves and of the checker
 pub record Judged : Type 0 where
@@ -98,6 +98,11 @@ pub record Judged : Type 0 where
   pub answer : AnswerLaw
   pub code : OneCodeLaw
   pub taken : TakenLaw
+  pub resaved : ResavedLaw
+
+-- what there is for `resume`, and for `resave`
+abbrev pub Both : List ℕ → Type 0
+Both input = ((out : List ℕ) × IsOutput Resume input out) × ((out : List ℕ) × IsOutput Resave input out)
 
 module _ (known : Judged) (input : List ℕ) (accepted : IsAccepted input) where
   abbrev p : Programmed input
@@ -106,11 +111,16 @@ module _ (known : Judged) (input : List ℕ) (accepted : IsAccepted input) where
   there : (q : Programmed input) → IsResumable q.code (bytes_after_mark q) → IsResumable p.code (bytes_after_mark p)
   there q h = read-again (λ part program k. IsResumable k (script_of input part)) input q p (one-reading known.split known.answer known.code input q p) h
 
-  by-test : Decided (IsResumable p.code (bytes_after_mark p)) → (out : List ℕ) × IsOutput Resume input out
-  by-test (inl h) = let w = known.taken input (p, h) in (w.0, inl w.1)
-  by-test (inr none) = let w = unresumed known.split known.some known.saves known.compiled input accepted (λ h. none (there h.0 h.1)) in (w.0, inr w.1)
+  by-test : Decided (IsResumable p.code (bytes_after_mark p)) → Both input
+  by-test (inl h) =
+      let w = known.taken input (p, h) in
+      let v = known.resaved input (p, h) in
+      ((w.0, inl w.1), (v.0, inl v.1))
+  by-test (inr none) =
+      let w = unresumed known.split known.some known.saves known.compiled input accepted (λ h. none (there h.0 h.1)) in
+      ((w.0, inr w.1), (w.0, inr w.2))
 
-  pub resumed : (out : List ℕ) × IsOutput Resume input out
+  pub resumed : Both input
   resumed = by-test (resumed-or-not known.split known.some known.saves (bytes_after_mark p) (behind-small input p) known.one p.code (holds-or-not known.verdicts known.verdict p.code))
 
 -- an input is accepted, or it is not
@@ -131,7 +141,7 @@ pub record Parts : Type 0 where
   pub saves : SavedLaw
   pub told : ToldLaw
   pub verdicts : JudgedLaw
-  pub resumed : (input : List ℕ) → IsAccepted input → (out : List ℕ) × IsOutput Resume input out
+  pub resumed : (input : List ℕ) → IsAccepted input → Both input
 
 pub some-output : ComingLaw → AnswerLaw → Parts → SomeOutputLaw
 some-output comes answer parts mode input reads small = by-test (accepted-or-not comes answer input small)
@@ -144,7 +154,8 @@ some-output comes answer parts mode input reads small = by-test (accepted-or-not
     accepted Verify r a = parts.verdicts input a
     accepted (Many fuel) r a = parts.told input fuel a
     accepted (SaveMode fuel) r a = parts.saves input fuel a
-    accepted Resume r a = parts.resumed input a
+    accepted Resume r a = (parts.resumed input a).0
+    accepted Resave r a = (parts.resumed input a).1
     accepted (Gen kind seed size) r a = absurd r
 
     by-test : Decided (IsAccepted input) → (out : List ℕ) × IsOutput mode input out

@@ -20,15 +20,16 @@ use Rattle.ceal_session.specs.Runs.{state_at_start}
 use Rattle.ceal_session.specs.SaveLaws.{SavedLaw}
 use Rattle.ceal_session.specs.SessionSave.{IsSaved}
 use Rattle.ceal_session.specs.Consistency.{IsIn, IsSamePast, IsConsistent}
-use Rattle.ceal_session.specs.State.{State, Situation, trace_in_past, last, numbers_in}
+use Rattle.ceal_session.specs.State.{State, Situation, latest_work, trace_in_past, last, numbers_in}
 use Rattle.ceal_session.specs.Steps.{reply_to_query, call_of, has_no_run}
 use Rattle.ceal_session.specs.declared.refusal.Refusal.TheVariants.{C7, C8}
 use Rattle.ceal_session.specs.declared.reply.Query.TheVariants.{Steps}
+use Rattle.ceal_session.specs.declared.reply.Reply.{Reply}
 use Rattle.ceal_session.specs.declared.reply.Reply.TheVariants.{Refused, Told}
 use Rattle.ceal_snap.specs.SaveText.{Save}
 use Rattle.ceal_theory.specs.Computed.{Repaired}
 use Rattle.ceal_theory.specs.Laws.{RenamedRepair}
-use Rattle.ceal_theory.specs.Pasts.{Past, SamePast, goes}
+use Rattle.ceal_theory.specs.Pasts.{Past, NoTrace, Traced, Going, SamePast, goes}
 use Rattle.ceal_cli.specs.Dumps.{IsRecordIn, IsWrittenBy, IsWrittenOf, IsDumpOf, no_run_text}
 use Rattle.ceal_cli.specs.Saves.{save_of, with_source, IsSaveOf}
 use Rattle.ceal_cli.specs.ServedLines.{IsDumpFrom, IsSaveFrom}
@@ -84,6 +85,19 @@ module _ (renamed : RenamedLaw) (m s : Situation) (h : IsIn m s) where
       subst (λ x. IsRecordOf x s.state.inputs k.call k.run.items r) h.code (subst (λ (x : State). IsRecordOf m.code x.inputs k.call k.run.items r) h.state k.is) in
       (rw (ready.run, ready.edited) refl, by-call r k.call k.run is s.state.call (ap (λ (x : State). x.call) (sym h.state) ∙ k.called) s.past m.past h.past k.traced)
 
+  -- What is a record in the one situation is one in the other.
+  pub record-again : (r : Record) → IsRecordIn m m.state.call (last m) r → IsRecordIn s s.state.call (last s) r
+  record-again r is = by-parts m.state.call refl m.past refl is
+    where
+      by-parts : (c : Option Call) → m.state.call ≡ c → (q : Past) → m.past ≡ q → IsRecordIn m c (trace_in_past q) r → IsRecordIn s s.state.call (last s) r
+      by-parts None e q f is = absurd is
+      by-parts (Some call) e NoTrace f is = absurd is
+      by-parts (Some call) e (Going x) f is = absurd is
+      by-parts (Some call) e (Traced l) f is =
+          let there : IsRecordOf s.code s.state.inputs call l.items r =
+          subst (λ x. IsRecordOf x s.state.inputs call l.items r) h.code (subst (λ (x : State). IsRecordOf m.code x.inputs call l.items r) h.state is) in
+          by-call r call l there s.state.call (ap (λ (x : State). x.call) (sym h.state) ∙ e) s.past m.past h.past (ap trace_in_past f)
+
   -- and so is what is written of it
   module _ (write : Record → List ℕ) (out : List ℕ) where
     none-ready : (IsReady m.state → ⊥) → out ≡ no_run_text → IsWrittenOf s write out
@@ -119,6 +133,37 @@ pub save-in : RenamedLaw → SavedLaw → (source : List ℕ) (m s : Situation) 
 save-in renamed saved source m s h out (inl (absent, e)) = none-ready renamed m s h (λ kept. with_source source (save_of s kept)) out absent e
 save-in renamed saved source m s h out (inr (v, k, is, e)) =
     recorded-in renamed m s h (λ kept. with_source source (save_of s kept)) out v.kept k.kept (e ∙ ap (with_source source) (same-save s v (saved m s v h k)))
+
+-- Of situations that are the same up to the numbers of core blocks one save is written.
+module _ (renamed : RenamedLaw) (m s : Situation) (h : IsIn m s) where
+  work-of-repair : (o q : Option Repaired) → RenamedRepair o q → latest_work o ≡ latest_work q
+  work-of-repair _ _ RenamedRepair.none = refl
+  work-of-repair _ _ (RenamedRepair.some ps one alike work) = work
+
+  work-of-past : (f : ℕ) (args : List Word) (p q : Past) → SamePast s.code s.state.inputs f args p q → latest_work (trace_in_past p) ≡ latest_work (trace_in_past q)
+  work-of-past f args _ _ SamePast.none = refl
+  work-of-past f args _ _ (SamePast.traced {a = a} {b = b} alike) = work-of-repair (Some a) (Some b) alike
+  work-of-past f args _ _ (SamePast.going sound carried) = refl
+
+  work-of-call : (c : Option Call) (p q : Past) → IsSamePast s.code s.state.inputs c p q → latest_work (trace_in_past p) ≡ latest_work (trace_in_past q)
+  work-of-call None p q same = ap (λ x. latest_work (trace_in_past x)) same.0 ∙ sym (ap (λ x. latest_work (trace_in_past x)) same.1)
+  work-of-call (Some c) p q same = work-of-past c.function c.args p q same
+
+  pub save-again : (r : Record) → save_of m r ≡ save_of s r
+  unfolding save-with
+  save-again r =
+      ap (λ (x : State). save-with x.fuel (numbers_in m).work m.bound x.names r) h.state
+      ∙ (ap (λ n. save-with s.state.fuel n m.bound s.state.names r) (sym (work-of-call s.state.call s.past m.past h.past))
+      ∙ ap (λ n. save-with s.state.fuel (numbers_in s).work n s.state.names r) h.bound)
+
+  by-reply : (reply : Reply) (source out : List ℕ) → IsWrittenBy reply m (λ kept. with_source source (save_of m kept)) out
+      → IsWrittenBy reply s (λ kept. with_source source (save_of s kept)) out
+  by-reply (Told q) source out (r, is, e) = (r, record-again renamed m s h r is, e ∙ ap (with_source source) (save-again r))
+  by-reply _ source out e = e
+
+  pub written-again : (source out : List ℕ) → IsSaveOf m source out → IsSaveOf s source out
+  written-again source out is =
+      subst (λ (x : State). IsWrittenBy (reply_to_query x Steps) s (λ kept. with_source source (save_of s kept)) out) h.state (by-reply (reply_to_query m.state Steps) source out is)
 
 -- what a session answers, and what is left of it, for each situation that it is in
 module _ {E : Type 0} (r : Result (List ℕ) E) (old new : Situation) (line : List ℕ) where

@@ -1,4 +1,4 @@
-use Rattle.ceal_cli.proofs.Outputs.OutputExists.{checked, listed, refused, replied, dumped, saved, told, judged, taken, generated}
+use Rattle.ceal_cli.proofs.Outputs.OutputExists.{checked, listed, refused, replied, dumped, saved, told, judged, taken, resaved, generated}
 use Rattle.ceal_cli.proofs.Outputs.SomeResumed.{Judged, Parts, resumed, some-output, unresumed}
 use Rattle.ceal_cli.proofs.laws.some_output.Goals as goal
 
@@ -9,6 +9,7 @@ returns c =
     let begun = c.some_reply.ensures.begun in
     let script = c.some_reply.ensures.script in
     let going = taken c.one_split.ensures c.one_answer.ensures.law c.one_code.ensures.law compiled script c.held_law.ensures.law in
+    let saving = resaved c.one_split.ensures c.one_answer.ensures.law c.one_code.ensures.law compiled script c.held_law.ensures.law c.some_record_law.ensures.law in
     let judging : Judged = record {
       split = c.one_split.ensures;
       some = c.some_split.ensures;
@@ -20,6 +21,7 @@ returns c =
       answer = c.one_answer.ensures.law;
       code = c.one_code.ensures.law;
       taken = going;
+      resaved = saving;
     } in
     let parts : Parts = record {
       check = checked c.some_answer.ensures.law;
@@ -43,6 +45,7 @@ returns c =
       told = parts.told;
       verdicts = parts.verdicts;
       resumed = going;
+      resaved = saving;
       unresumed = unresumed c.one_split.ensures c.some_split.ensures c.save_or_none.ensures.law compiled;
       generated = generated c.accepted_law.ensures.law compiled begun c.some_reply.ensures.reply script;
     }

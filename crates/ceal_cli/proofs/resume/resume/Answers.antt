@@ -1,10 +1,10 @@
 use Rattle.std.proofs.Common.{rules, inr, Ok, refl}
 use Rattle.ceal_session.specs.SessionState.{situation}
-use Rattle.ceal_cli.specs.Output.{IsOutput}
-use Rattle.ceal_cli.specs.Resumed.{unreadable_save, not_holding}
+use Rattle.ceal_cli.specs.Output.{HasSession}
+use Rattle.ceal_cli.specs.ResumedInput.{SaysWhy}
 use Rattle.ceal_cli.specs.declared.words.Mode.TheVariants.{Resume}
-use Rattle.ceal_cli.proofs.Sessions.GrowingReplies.{writes_text}
-use Rattle.ceal_cli.proofs.Outputs.ResumedOutput.{is-unreadable, is-unsound, replied, taken}
+use Rattle.ceal_cli.proofs.Sessions.GrowingReplies.{writes_as}
+use Rattle.ceal_cli.proofs.Outputs.ResumedOutput.{none-there, replied, taken, untaken}
 use Rattle.ceal_cli.proofs.Inputs.AnswerOrRefusal.{not-refused}
 use Rattle.ceal_cli.proofs.resume.resume.Goals as goal
 
@@ -36,48 +36,14 @@ returns-in_ok-told-in-Ok-clause-taken g c = (
   λ _. refl,
 )
 
--- the save is unreadable, and the sink took a part of the line that says so
-pub returns-in_err-write_all-in-Err-Unreadable-clause-writes : goal.returns-in_err-write_all-in-Err-Unreadable-clause-writes
-returns-in_err-write_all-in-Err-Unreadable-clause-writes g c =
-    let why = rw c.in-Err-Unreadable.field-0-is at c.in-Err-Unreadable.ensures.unreadable in
-    let w = writes_text c.write_all.result _ _ _ _ (IsOutput Resume c.args.input.bytes.now) unreadable_save
-    (inr (is-unreadable c.args.input.bytes.now c.args.input.part c.requires.split c.args.program c.requires.program c.requires.compiled c.script-bytes.result.now c.script-bytes.ensures (why refl)))
-    c.write_all.ensures.all c.write_all.ensures.prefix c.write_all.ensures.fault c.write_all.ensures.later in
-    record { all = search rules; part = w.part; fault = search rules; later = w.later }
-
--- the save is unreadable, and the line says so
-pub returns-in_ok-write_all-in-Err-Unreadable-clause-writes : goal.returns-in_ok-write_all-in-Err-Unreadable-clause-writes
-returns-in_ok-write_all-in-Err-Unreadable-clause-writes g c =
-    let why = rw c.in-Err-Unreadable.field-0-is at c.in-Err-Unreadable.ensures.unreadable in
-    let w = writes_text _ _ _ _ _ (IsOutput Resume c.args.input.bytes.now) unreadable_save
-    (inr (is-unreadable c.args.input.bytes.now c.args.input.part c.requires.split c.args.program c.requires.program c.requires.compiled c.script-bytes.result.now c.script-bytes.ensures (why refl)))
-    c.in_ok-write_all-in-Err-Unreadable.ensures.all c.in_ok-write_all-in-Err-Unreadable.ensures.prefix
-    c.in_ok-write_all-in-Err-Unreadable.ensures.fault c.in_ok-write_all-in-Err-Unreadable.ensures.later in
-    record { all = w.all; part = w.part; fault = search rules; later = w.later }
-
--- the save does not hold, and the sink took a part of the line that says so
-pub returns-in_err-write_all-in-Err-Unsound-clause-writes : goal.returns-in_err-write_all-in-Err-Unsound-clause-writes
-returns-in_err-write_all-in-Err-Unsound-clause-writes g c =
-    let why = rw c.in-Err-Unsound.field-0-is at c.in-Err-Unsound.ensures.unsound in
-    let w = writes_text c.write_all-in-Err-Unsound.result _ _ _ _ (IsOutput Resume c.args.input.bytes.now) not_holding
-    (inr (is-unsound c.args.input.bytes.now c.args.input.part c.requires.split c.args.program c.requires.program c.requires.compiled c.script-bytes.result.now c.script-bytes.ensures (why refl)))
-    c.write_all-in-Err-Unsound.ensures.all c.write_all-in-Err-Unsound.ensures.prefix c.write_all-in-Err-Unsound.ensures.fault c.write_all-in-Err-Unsound.ensures.later in
-    record { all = search rules; part = w.part; fault = search rules; later = w.later }
-
--- the save does not hold, and the line says so
-pub returns-in_ok-write_all-in-Err-Unsound-clause-writes : goal.returns-in_ok-write_all-in-Err-Unsound-clause-writes
-returns-in_ok-write_all-in-Err-Unsound-clause-writes g c =
-    let why = rw c.in-Err-Unsound.field-0-is at c.in-Err-Unsound.ensures.unsound in
-    let w = writes_text _ _ _ _ _ (IsOutput Resume c.args.input.bytes.now) not_holding
-    (inr (is-unsound c.args.input.bytes.now c.args.input.part c.requires.split c.args.program c.requires.program c.requires.compiled c.script-bytes.result.now c.script-bytes.ensures (why refl)))
-    c.in_ok-write_all-in-Err-Unsound.ensures.all c.in_ok-write_all-in-Err-Unsound.ensures.prefix c.in_ok-write_all-in-Err-Unsound.ensures.fault c.in_ok-write_all-in-Err-Unsound.ensures.later in
-    record { all = w.all; part = w.part; fault = search rules; later = w.later }
-
--- the save does not hold, so none of the lines is answered
-pub returns-in_ok-write_all-in-Err-Unsound-clause-taken : goal.returns-in_ok-write_all-in-Err-Unsound-clause-taken
-returns-in_ok-write_all-in-Err-Unsound-clause-taken g c =
-    let why = rw c.in-Err-Unsound.field-0-is at c.in-Err-Unsound.ensures.unsound in (
-      (λ t. absurd (cc t)),
-      λ h. absurd (not-refused c.one_split.ensures c.one_answer.ensures.law c.one_code.ensures.law c.one_save_law.ensures.law Resume c.args.input.bytes.now not_holding h
-          (is-unsound c.args.input.bytes.now c.args.input.part c.requires.split c.args.program c.requires.program c.requires.compiled c.script-bytes.result.now c.script-bytes.ensures (why refl))),
-    )
+-- there is no session, and the line says why
+pub returns-in-Err : goal.returns-in-Err
+returns-in-Err g c =
+    let why = none-there c.args.input.bytes.now c.args.input.part c.requires.split c.args.program c.requires.program c.requires.compiled c.script-bytes.result.now c.script-bytes.ensures
+    _ c.in-Err.why refl c.in-Err.ensures.unreadable c.in-Err.ensures.unsound in
+    record {
+      taken = untaken c.write_why.result _ _ (SaysWhy c.in-Err.why) (HasSession c.args.input.bytes.now)
+          (λ out says h. not-refused c.one_split.ensures c.one_answer.ensures.law c.one_code.ensures.law c.one_save_law.ensures.law Resume c.args.input.bytes.now out h (tt, inr (why out says)))
+          c.write_why.ensures.taken c.write_why.ensures.writes.all;
+      writes = writes_as c.write_why.result _ _ _ _ _ _ (λ out says. inr (tt, inr (why out says))) c.write_why.ensures.writes;
+    }

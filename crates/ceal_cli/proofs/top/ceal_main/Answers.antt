@@ -2,7 +2,7 @@ use Rattle.std.proofs.Common.{IfSome, sym, subst}
 use Rattle.ceal_cli.specs.Answers.{IsWhole}
 use Rattle.ceal_cli.specs.SinkGrowth.{WritesGenerated, WritesGeneratedPrefix}
 use Rattle.ceal_cli.specs.ReadBack.{WritesReadable}
-use Rattle.ceal_cli.specs.declared.words.Mode.TheVariants.{Gen, Dump, Save}
+use Rattle.ceal_cli.specs.declared.words.Mode.TheVariants.{Gen, Dump, Save, Resave}
 use Rattle.ceal_cli.proofs.Options.OneMode.{one_mode, one_workload, not_both, keeps_limits, small_size}
 use Rattle.ceal_cli.proofs.Outputs.OutputOfBytes.{any_answer, any_output, any_prefix, loses_none, no_refusal}
 use Rattle.ceal_cli.proofs.top.ceal_main.Goals as goal
@@ -86,6 +86,11 @@ returns-in-Ok-Some-Gen-clause-saved g c =
     let asked = rw (c.in-Ok-Some-Gen.field-0-is, c.in-Ok-Some-Gen.field-0-0-is) at c.in-Ok-Some-Gen.ensures in
     λ _ fuel asks. absurd (not_both _ (c.in-Ok-Some-Gen.kind, c.in-Ok-Some-Gen.seed, c.in-Ok-Some-Gen.size, asked) (Save fuel, asks, tt))
 
+pub returns-in-Ok-Some-Gen-clause-resaved : goal.returns-in-Ok-Some-Gen-clause-resaved
+returns-in-Ok-Some-Gen-clause-resaved g c =
+    let asked = rw (c.in-Ok-Some-Gen.field-0-is, c.in-Ok-Some-Gen.field-0-0-is) at c.in-Ok-Some-Gen.ensures in
+    λ _ asks. absurd (not_both _ (c.in-Ok-Some-Gen.kind, c.in-Ok-Some-Gen.seed, c.in-Ok-Some-Gen.size, asked) (Resave, asks, tt))
+
 pub returns-in-Ok-Some-Gen-clause-lost : goal.returns-in-Ok-Some-Gen-clause-lost
 returns-in-Ok-Some-Gen-clause-lost g c = loses_none _ _
 
@@ -110,6 +115,9 @@ returns-in-Ok-Some g c =
       saved = λ is fuel asks.
           subst (λ mode. IfSome (g.S.Source.left c.args.source.now) (λ input. WritesReadable (g.K.Sink.written c.args.sink.now) (g.K.Sink.written c.answer_input.new.sink) mode input))
           (one_mode _ c.in-Ok-Some.mode (Save fuel) asked asks) (c.answer_input.ensures.readable is);
+      resaved = λ is asks.
+          subst (λ mode. IfSome (g.S.Source.left c.args.source.now) (λ input. WritesReadable (g.K.Sink.written c.args.sink.now) (g.K.Sink.written c.answer_input.new.sink) mode input))
+          (one_mode _ c.in-Ok-Some.mode Resave asked asks) (c.answer_input.ensures.readable is);
       read = λ whole _. c.answer_input.ensures.read whole;
       within = λ whole _. c.answer_input.ensures.within whole;
       prefix = λ mode asks. rw (one_mode _ mode c.in-Ok-Some.mode asks asked) c.answer_input.ensures.prefix;
