@@ -239,7 +239,7 @@ class Session:
         return bool(status == OK)
 
     def save(self) -> bytes:
-        """The text of the session's save, which `Session(.., save=..)` continues from."""
+        """The text of the session's save, which `Session(.., save=..)` continues from; that session may be saved again."""
         self._look(self._lib.ceal_save(self._session), 'save')
         return self.reply()
 

@@ -95,6 +95,13 @@ class Calls(unittest.TestCase):
             again.propagate()
             self.assertEqual(again.get_named('b'), 2)
             self.assertEqual(self.session.get_named('b'), 5)
+            put_away = again.save()
+        self.session.set(self.session.find('a'), 1)
+        self.session.propagate()
+        self.assertEqual(put_away, self.session.save())
+        with Session(INC, save=put_away) as third:
+            self.assertEqual(third.get_named('b'), 2)
+            self.assertEqual(put_away, third.save())
         with self.assertRaises(Refused) as told:
             Session(INC, save=save[:-1])
         self.assertEqual(told.exception.status, 'UNREADABLE')

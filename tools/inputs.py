@@ -134,7 +134,7 @@ def inputs(mode, names):
     given = [opened(name) for name in names]
     if mode == 'verify' and len(given) == 2:
         return [joined(*given)]
-    if mode == 'resume' and len(given) in (2, 3):
+    if mode in scripts.AFTER_SAVE and len(given) in (2, 3):
         return [resumed(*given)]
     made = []
     while given:

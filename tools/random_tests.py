@@ -79,6 +79,8 @@ def differences(program, source, inputs, draws):
         resumed = answer([program, 'resume'], saved, [*done[before:], *inputs.questions])
         if tail(resumed, len(done) - before) != asked:
             yield 'a resumed session', done
+        if answer([program, 'resave'], saved, done[before:]) != answer(save, source, done):
+            yield 'a session that was saved again', done
 
 
 def tail(replies, count):

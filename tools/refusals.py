@@ -207,7 +207,7 @@ def explained(given, output, mode):
     for number, (line, taken) in enumerate(scripts.replies(script, output, mode), own):
         session, words = scripts.session_and_words(line, mode)
         words, why = [it.decode(errors='replace') for it in words], None
-        if taken and words and reading and mode != 'resume':
+        if taken and words and reading and mode not in scripts.AFTER_SAVE:
             state = sessions.setdefault(session, Session(reading.program))
             why = answered(state, number, words, taken[0].decode(errors='replace'), session.decode(errors='replace'))
             why = OF_MANY if mode == 'many' and scripts.REFUSED.match(taken[0]) and not taken[0].startswith(session[1:] + b': ') else why

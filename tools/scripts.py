@@ -8,6 +8,8 @@ FAULT = re.compile(rb'fault (\w+) at (\d+):(\d+): (.*)\n')
 REFUSED = re.compile(rb'(?:\w+: )?refused \w+: ')
 BLANK = re.compile(rb'[ \t\r\n]+|//[^\n]*|/\*.*?\*/', re.S)
 WORD = re.compile(rb'@|(?!mod\s+(?:int|struct)\b)[\w-]+')  # (a `mod int` begins no line of a script)
+# The modes whose script comes after a save.
+AFTER_SAVE = ('resume', 'resave')
 # What the first word of a file says of it.
 OF_SOURCE = ('struct', 'ceal', 'init')
 FIRST_WORDS = {
@@ -24,10 +26,10 @@ def parts(text):
 
 
 def script_of(text, mode):
-    """The number of the first line of an input's script, and the script; with `resume` a save and a second line %% come before it."""
+    """The number of the first line of an input's script, and the script; with `resume` and `resave` a save and a second line %% come before it."""
     source, mark, script = parts(text)
     first = source.count(b'\n') + 2
-    if mode == 'resume':
+    if mode in AFTER_SAVE:
         save, mark, script = parts(script)
         first += save.count(b'\n') + 1
     return first, script

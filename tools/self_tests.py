@@ -35,6 +35,7 @@ def refused_at_once(folder):
         ('a fuel that is no number', ['run', '--fuel=much', example], 64, '--fuel goes with'),
         ('a fuel for check', ['check', '--fuel', '5', example], 64, '--fuel goes with'),
         ('a fuel for resume', ['resume', '--fuel', '5', example], 64, '--fuel goes with'),
+        ('--beside for resave', ['resave', '--beside', example], 64, '--beside does not go with resave'),
         ('a workload of an unknown kind', ['gen', 'lst', '1', '3'], 64, 'gen takes'),
         ('a workload that is too large', ['gen', 'list', '1', '40001'], 64, 'gen takes'),
         ('a graph of check', ['--dot', 'check', example], 64, '--dot does not go with check'),
@@ -199,6 +200,7 @@ def strict(made, folder):
     told = f'run: {more}:2: frob: refused C1: unreadable line\n'
     call('--strict resume', ['resume', '--strict', str(saved), str(more)], 67, b'2\nrefused C1: unreadable line\n', told)
     shown = call('--beside resume', ['resume', '--beside', str(saved), str(more)], 0)
+    call('--strict resave', ['resave', '--strict', str(saved), str(more)], 67, None, told)
     tell('the lines of --beside resume', [] if shown.startswith(b'1  get b ') and b'\n2  frob ' in shown else [f'wrote {shown!r}'])
 
 
@@ -230,7 +232,7 @@ def worked(made):
     tell('the first table of --work', [] if f':34: propagate: work 10 of 23 steps\n{table}' in told else [f'wrote {told!r}'])
     for example in EXAMPLES:
         text = example.read_text()
-        if re.search(r'^(@|save)|^// \./run (many|resume|save|dump)', text, re.M):
+        if re.search(r'^(@|save)|^// \./run (many|resume|resave|save|dump)', text, re.M):
             continue
         told = call(f'--work of {example.name}', ['--work', f'examples/{example.name}'], 0).decode()
         updates = re.split(r'(?m)^(?=\S)', told)
@@ -268,9 +270,33 @@ def saves(folder, made):
     call('resume with a script in a file', ['resume', f'{folder}/saved', str(more)], 0, reply)
     call('resume with a save in a file', ['resume', made['source.ceal'], f'{folder}/save', str(more)], 0, reply)
     call('resume with what was saved in a file', ['resume', made['source.ceal'], f'{folder}/saved', str(more)], 0, reply)
+    evenings(folder, made['source.ceal'], saved, first, more)
     pathlib.Path(folder, 'save').write_bytes(scripts.parts(saved)[2].replace(b'\ni 4\n', b'\ni 7\n', 1))
     call('resume with a changed save', ['resume', made['source.ceal'], f'{folder}/save', str(more)], 1, b'refused V2: save does not hold\n')
     call('resume without a save', ['resume', made['source.ceal'], str(more)], 1, b'refused V1: unreadable save\n')
+
+
+def evenings(folder, source, saved, *days):
+    """A session that is put away each evening for three days, from one file, from two and from three, is the one that never stopped."""
+    third, whole, unfinished = (pathlib.Path(folder, it) for it in ('third', 'three_days', 'unfinished'))
+    third.write_bytes(b'mod c int 7\nget a\nset a -3\npropagate 1\npropagate\nget b\nbound\n')
+    unfinished.write_bytes(b'set a 2\n')
+    whole.write_bytes(days[0].read_bytes())
+    for day in (days[1], third):
+        whole.write_bytes(whole.read_bytes() + day.read_bytes())
+        written = call(f'save of the days until {day.name}', ['save', source, str(whole)], 0)
+        pathlib.Path(folder, 'evening').write_bytes(saved)
+        pathlib.Path(folder, 'evening_save').write_bytes(scripts.parts(saved)[2])
+        pathlib.Path(folder, 'evening_whole').write_bytes(saved + b'%%\n' + day.read_bytes())
+        saved = call(f'resave after {day.name}', ['resave', f'{folder}/evening', str(day)], 0, written)
+        call(f'resave with a save in a file after {day.name}', ['resave', source, f'{folder}/evening_save', str(day)], 0, written)
+        call(f'resave of one file after {day.name}', ['resave', f'{folder}/evening_whole'], 0, written)
+    pathlib.Path(folder, 'evening').write_bytes(saved)
+    call('resume on the fourth day', ['resume', f'{folder}/evening', str(days[1])], 0, b'-2\nok\nok\n10\n1\n')
+    call('resave with an edit that is pending', ['resave', f'{folder}/evening', str(unfinished)], 0, b'no finished run\n')
+    told = f'run: {folder}/evening: there is nothing to save: no finished run\n'
+    call('--strict resave with an edit that is pending', ['resave', '--strict', f'{folder}/evening', str(unfinished)], 67, b'no finished run\n', told)
+    call('resave without a save', ['resave', source, str(days[1])], 1, b'refused V1: unreadable save\n')
 
 
 def pages():
@@ -334,7 +360,7 @@ def some_rows():
             seen[kind] = seen.get(kind, 0) + 1
             if kind[0] in ('check', 'list') and not scripts.parts(row.given())[1]:
                 continue  # (./run puts the line %% after a source text by itself)
-            if kind[0] in ('run', 'check', 'list', 'dump', 'verify', 'many', 'save', 'resume') and row.status in (0, 1) and seen[kind] <= 5 and '' not in words:
+            if kind[0] in ('run', 'check', 'list', 'dump', 'verify', 'many', 'save', 'resume', 'resave') and row.status in (0, 1) and seen[kind] <= 5 and '' not in words:
                 pathlib.Path(file.name).write_bytes(row.given())
                 call(f'row {row.name}', [*words, file.name], row.status, b''.join(row.output))
 

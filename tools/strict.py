@@ -2,6 +2,8 @@
 from tools import refusals, scripts
 
 UNFINISHED = b'no finished run\n'
+# The modes that carry out a script without its replies, each with the one that writes these.
+UNANSWERED = {'save': 'run', 'dump': 'run', 'resave': 'resume'}
 
 
 def failures(mode, given, output, replies):
@@ -17,8 +19,8 @@ def failures(mode, given, output, replies):
             yield f'{place}: {scripts.printable(line.strip())}: {scripts.printable(taken[0])}'
             yield from (f'  {it}' for it in [why] if it)
     yield from out_of_fuel(lines, mode)
-    if mode in ('save', 'dump') and output == UNFINISHED:
-        yield f'{given.name}: there is nothing to {mode}: no finished run'
+    if mode in UNANSWERED and output == UNFINISHED:
+        yield f'{given.name}: there is nothing to {"dump" if mode == "dump" else "save"}: no finished run'
 
 
 def out_of_fuel(lines, mode):

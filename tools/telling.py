@@ -4,6 +4,9 @@ import sys
 from tools import answers, scripts
 from tools.inputs import LONGEST_INPUT
 
+# The modes that write a save.
+SAVING = ('save', 'resave')
+
 
 def tell(lines):
     for line in lines:
@@ -23,6 +26,6 @@ def hand_on(given, answer, shown=None):
 
 def unresumable(mode, status, output):
     """What there is to tell of a save that no `resume` reads, since an input has a limit."""
-    if mode != 'save' or status or len(output) <= LONGEST_INPUT:
+    if mode not in SAVING or status or len(output) <= LONGEST_INPUT:
         return []
     return [f'the save has {len(output):,} bytes, and `./run resume` reads at most {LONGEST_INPUT:,}: this one can not be resumed']

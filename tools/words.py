@@ -5,10 +5,11 @@ from tools.answers import Fault
 
 USAGE = """usage: ./run FILE ..                   runs programs with their scripts
        ./run FILE SCRIPT               the same, where source text and script are two files
-       ./run MODE FILE ..              by a mode of the program: check, list, verify, resume, or run, dump, many, save
+       ./run MODE FILE ..              by a mode of the program: check, list, verify, resume, resave, or run, dump, many, save
        ./run verify FILE DUMP          checks a dump in a separate file
        ./run resume SAVED SCRIPT       goes on with a script from what ./run save printed
        ./run resume FILE SAVE SCRIPT   the same, where source text and save are two files
+       ./run resave SAVED SCRIPT       carries out the script, and prints what to go on from after it; also FILE SAVE SCRIPT
        ./run gen KIND SEED SIZE        runs a generated workload: list or tree
        ./run --test                    runs the tests that need no proof
        ./run --draft                   compiles the program and the server once, with no proof, and keeps them
@@ -18,19 +19,19 @@ USAGE = """usage: ./run FILE ..                   runs programs with their scrip
 FILE may be - for standard input. Options come before, between or after the other words; what comes after a word -- is no option:
        --fuel N    a run takes at most N steps: with run, dump, many, save
        --strict    fails, and says why, if a line was refused or the last run was out of fuel, if there is nothing to save or to dump,
-                   and if a dump is not verified: with run, many, resume, save, dump, verify
+                   and if a dump is not verified: with run, many, resume, save, resave, dump, verify
        --beside    each line of the script with its number, and its reply beside it: with run, many, resume
        --dot       the last graph of the replies in the language of Graphviz: with run
        --trace     a picture of the trace, and of what the last update did to it: with run
        --time      how long each run and each update takes: with run
        --work      which lines of the source text each update re-executed, and which reads were stale: with run
 Of --beside, --dot, --trace, --time and --work a call takes one; --strict goes with --beside and with --dot."""
-MODES = ('run', 'check', 'list', 'dump', 'verify', 'many', 'save', 'resume')
+MODES = ('run', 'check', 'list', 'dump', 'verify', 'many', 'save', 'resume', 'resave')
 WITH_FUEL = ('run', 'dump', 'many', 'save')
 # What each option takes: the modes that it goes with.
 OPTIONS = {
     '--beside': ('run', 'many', 'resume'),
-    '--strict': ('run', 'many', 'resume', 'save', 'dump', 'verify'),
+    '--strict': ('run', 'many', 'resume', 'save', 'resave', 'dump', 'verify'),
     '--dot': ('run',),
     '--trace': ('run',),
     '--time': ('run',),

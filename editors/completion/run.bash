@@ -1,7 +1,7 @@
 # Completion of ./run for bash: source editors/completion/run.bash
 _ceal_run() {
     local word=${COMP_WORDS[COMP_CWORD]} before=${COMP_WORDS[COMP_CWORD - 1]}
-    local modes='run check list dump verify many save resume gen'
+    local modes='run check list dump verify many save resume resave gen'
     local options='--fuel --strict --beside --dot --trace --time --work --test --draft --build --install --version --help'
     COMPREPLY=()
     case $before in
