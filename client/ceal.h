@@ -25,7 +25,7 @@
  *      or is never used again: two copies are one session that would be freed twice.
  *   2. Bytes, as (source, size), are `size` bytes that may be read, fewer than 2^63. The pointer is not NULL, not even
  *      for no bytes. They may be any bytes, need no 0 at the end, and are not kept after the call.
- *   3. What a call writes to (`out`, `fault`, `handle`, `number`, `length`, `count`) is not NULL, is aligned, may be
+ *   3. What a call writes to (`out`, `fault`, `handle`, `handles`, `number`, `length`, `count`) is not NULL, is aligned, may be
  *      written, and is apart from all other arguments.
  *   4. One call at a time works on one session, on the thread that opened it. Calls on different sessions may be made
  *      at the same time, if several threads may call malloc.
@@ -79,7 +79,8 @@ enum {
     CEAL_NO_NUMBER = 17,  /* ceal_ask: the line was carried out, and its reply is no number */
     CEAL_NOT_READY = 18,  /* there is no run, it was out of fuel, or edits or a repair are pending */
     CEAL_UNREADABLE = 19, /* ceal_resume: the bytes are no save */
-    CEAL_UNSOUND = 20     /* ceal_resume: the save does not hold for this source text */
+    CEAL_UNSOUND = 20,    /* ceal_resume: the save does not hold for this source text */
+    CEAL_NOT_MARKED = 21  /* ceal_changed: no ceal_mark came since the call was run from nothing */
 };
 #define CEAL_LARGEST_FUEL 4194304
 #define CEAL_FAULT_SIZE 128
@@ -119,6 +120,18 @@ ceal_status ceal_get_named(ceal *c, const char *name, size_t size, int64_t *numb
  * as `propagate READS` does: CEAL_MORE while more is left. Its reply is not kept. */
 ceal_status ceal_propagate(ceal *c);
 ceal_status ceal_propagate_part(ceal *c, uint32_t reads);
+
+/* From now on `ceal_changed` compares with what the modifiables of inputs hold now. Refused as ceal_get is: CEAL_C7 without
+ * a finished run, CEAL_C8 while edits or a repair are pending. */
+ceal_status ceal_mark(ceal *c);
+
+/* The modifiables of inputs that hold something else than at the last `ceal_mark`, by their inputs and fields: `count`
+ * is how many they are; the first of `handles`, which has room for `room` of them, are their handles, and those after
+ * them are 0. What does not fit is cut off, so call again with room for `count`. One that came after the mark counts as
+ * 0 then, and a pointer holds something else if it points to another block. CEAL_NOT_MARKED after a run from nothing,
+ * as the first one is and the one after CEAL_OUT_OF_FUEL. Refused as ceal_mark is. It takes the time of what was edited
+ * or written since the mark, however large the inputs are. */
+ceal_status ceal_changed(ceal *c, uint64_t *handles, size_t room, size_t *count);
 
 /* Carries out a line, and tells the number that its reply is: "steps", "work", "bound", "blocks", "get a". Its reply is
  * not kept. */

@@ -32,7 +32,7 @@ VERSION = 1
 #: The names of the statuses, by their numbers.
 STATUSES = (
     'OK', 'C1', 'C2', 'C3', 'C4', 'C5', 'C6', 'C7', 'C8', 'OUT_OF_FUEL', 'MORE', 'NO_MEMORY', 'FAULT', 'CLOSED', 'IS_OPEN',
-    'BAD_FUEL', 'TOO_LONG', 'NO_NUMBER', 'NOT_READY', 'UNREADABLE', 'UNSOUND',
+    'BAD_FUEL', 'TOO_LONG', 'NO_NUMBER', 'NOT_READY', 'UNREADABLE', 'UNSOUND', 'NOT_MARKED',
 )  # fmt: skip
 OK, MORE, NO_MEMORY, FAULT, NOT_READY = (STATUSES.index(it) for it in ('OK', 'MORE', 'NO_MEMORY', 'FAULT', 'NOT_READY'))
 FAULT_SIZE = 128
@@ -61,6 +61,8 @@ _CALLS: dict[str, list[type]] = {
     'ceal_propagate_part': [_SESSION, c_uint32],
     'ceal_ask': [_SESSION, *_BYTES, _NUMBER],
     'ceal_ready': [_SESSION],
+    'ceal_mark': [_SESSION],
+    'ceal_changed': [_SESSION, _HANDLE, c_size_t, _SIZE],
     'ceal_save': [_SESSION],
     'ceal_resume': [_SESSION, *_BYTES, *_BYTES, *_BYTES],
     'ceal_version': [],
@@ -237,6 +239,20 @@ class Session:
         if status != NOT_READY:
             self._look(status, 'ready')
         return bool(status == OK)
+
+    def mark(self) -> None:
+        """From now on `changed` compares with what the modifiables of inputs hold now."""
+        self._look(self._lib.ceal_mark(self._session), 'mark')
+
+    def changed(self) -> list[int]:
+        """The handles of the modifiables that hold something else than at the last `mark`."""
+        room = 16
+        while True:
+            handles = (c_uint64 * room)()
+            self._look(self._lib.ceal_changed(self._session, handles, room, self._size), 'changed')
+            if self._length.value <= room:
+                return handles[: self._length.value]
+            room = self._length.value
 
     def save(self) -> bytes:
         """The text of the session's save, which `Session(.., save=..)` continues from."""

@@ -79,6 +79,8 @@ static void try_closed(ceal *c) {
     IS(ceal_propagate_part(c, 1), CEAL_CLOSED);
     IS(ceal_ask(c, "steps", 5, &number), CEAL_CLOSED);
     IS(ceal_ready(c), CEAL_CLOSED);
+    IS(ceal_mark(c), CEAL_CLOSED);
+    IS(ceal_changed(c, &handle, 1, &length), CEAL_CLOSED);
     IS(ceal_save(c), CEAL_CLOSED);
     IS(ceal_close(c), CEAL_CLOSED);
     IS(strcmp(out, "abc"), 0);
@@ -265,6 +267,59 @@ static void try_parts(void) {
     IS(ceal_close(&c), CEAL_OK);
 }
 
+/* What has changed since a mark: each place once, by inputs, and nothing where all is as it was. */
+static void try_marks(void) {
+    ceal c = CEAL_INIT;
+    uint64_t a = 0, b = 0, d = 0, e = 0, found[4] = {77, 77, 77, 77};
+    size_t count = 79;
+    IS(begin(&c, PAIR), CEAL_OK);
+    line(&c, "mod a int 1");
+    line(&c, "mod b int 0");
+    line(&c, "mod c int 2");
+    line(&c, "mod d int 0");
+    IS(ceal_mark(&c), CEAL_C7);
+    IS(ceal_changed(&c, found, 4, &count), CEAL_C7);
+    IS(line(&c, "run both a b c d"), CEAL_OK);
+    IS(ceal_changed(&c, found, 4, &count), CEAL_NOT_MARKED);
+    ceal_find(&c, "a", 1, &a);
+    ceal_find(&c, "b", 1, &b);
+    ceal_find(&c, "d", 1, &d);
+    IS(ceal_mark(&c), CEAL_OK);
+    IS(ceal_set(&c, a, 10), CEAL_OK);
+    IS(ceal_mark(&c), CEAL_C8);
+    IS(ceal_changed(&c, found, 4, &count), CEAL_C8);
+    IS(count, 79);
+    IS(found[0], 77);
+    IS(ceal_propagate(&c), CEAL_OK);
+    IS(ceal_changed(&c, found, 3, &count), CEAL_OK);
+    IS(count, 2);
+    IS(found[0], a);
+    IS(found[1], b);
+    IS(found[2], 0);
+    IS(found[3], 77);
+    IS(ceal_changed(&c, found, 0, &count), CEAL_OK);
+    IS(count, 2);
+    IS(found[0], a);
+    line(&c, "set c 9");
+    line(&c, "set a 1");
+    IS(ceal_propagate(&c), CEAL_OK);
+    IS(ceal_changed(&c, found, 1, &count), CEAL_OK);
+    IS(count, 2);
+    IS(found[1], b);
+    IS(ceal_changed(&c, found, 2, &count), CEAL_OK);
+    IS(found[1], d);
+    IS(ceal_mark(&c), CEAL_OK);
+    IS(ceal_changed(&c, found, 2, &count), CEAL_OK);
+    IS(count, 0);
+    line(&c, "mod e int 5");
+    IS(ceal_propagate(&c), CEAL_OK);
+    ceal_find(&c, "e", 1, &e);
+    IS(ceal_changed(&c, found, 2, &count), CEAL_OK);
+    IS(count, 1);
+    IS(found[0], e);
+    IS(ceal_close(&c), CEAL_OK);
+}
+
 /* A run out of fuel, and a graph by a second call with the size that was told. */
 static void try_runs(void) {
     ceal c = CEAL_INIT;
@@ -363,6 +418,7 @@ int main(int count, char **words) {
     try_deepest();
     try_handles();
     try_parts();
+    try_marks();
     try_runs();
     try_saves();
     try_many(sessions);

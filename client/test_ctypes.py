@@ -87,6 +87,23 @@ class Calls(unittest.TestCase):
         with self.assertRaises(ValueError):
             self.session.propagate(2**32)
 
+    def test_marks(self) -> None:
+        a, b = self.session.find('a'), self.session.find('b')
+        self.refused('NOT_MARKED', self.session.changed)
+        self.session.mark()
+        self.assertEqual(self.session.changed(), [])
+        self.session.set(a, 9)
+        self.refused('C8', self.session.changed)
+        self.session.propagate()
+        self.assertEqual(self.session.changed(), [a, b])
+        self.session.set(a, 4)
+        self.session.propagate()
+        self.assertEqual(self.session.changed(), [])
+        for number in range(40):
+            self.session.line(f'mod c{number} int {number}')
+        self.session.propagate()
+        self.assertEqual(self.session.changed(), [self.session.find(f'c{number}') for number in range(1, 40)])
+
     def test_saves(self) -> None:
         save = self.session.save()
         with Session(INC, save=save) as again:

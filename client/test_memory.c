@@ -72,7 +72,19 @@ static ceal_status run(ceal *c) {
     return status == CEAL_C7 ? line(c, "run inc a b") : status;
 }
 
+/* What has changed, of which both modifiables are told. After a propagate that ran the call from nothing there is no mark. */
+static int is_anew;
+static ceal_status changed(ceal *c) {
+    uint64_t handles[2];
+    size_t count = 0;
+    ceal_status status = ceal_changed(c, handles, 2, &count);
+    if (status == CEAL_NOT_MARKED && is_anew) return CEAL_OK;
+    wrong += status == CEAL_OK && count != 2;
+    return status;
+}
+
 static void go_on(ceal *c) {
+    long before;
     static char save[4096];
     uint64_t a = 0, b = 0;
     int64_t number = 0;
@@ -84,8 +96,12 @@ static void go_on(ceal *c) {
     need(TRY(line(c, "show b")), "show");
     need(TRY(ceal_find(c, "a", 1, &a)), "find a");
     need(TRY(ceal_find(c, "b", 1, &b)), "find b");
+    need(TRY(ceal_mark(c)), "mark");
     need(TRY(ceal_set(c, a, 41)), "set");
+    before = refused;
     need(TRY(ceal_propagate(c)), "propagate");
+    is_anew = refused > before;
+    need(TRY(changed(c)), "changed");
     need(ceal_get(c, b, &number), "get");
     wrong += number != 42;
     need(TRY(ceal_ask(c, "work", 4, &number)), "work");

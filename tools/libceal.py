@@ -28,11 +28,11 @@ Libs: -L${{pcfiledir}} -lceal
 """
 CALLS = re.compile(r'pub extern "C" fn (\w+)\((.*?)\)\s*->', re.S)
 GIVEN = {'Global': 'rt.alloc()', '&mut Ceal': '&mut ceal', '&[u8]': 'b""', '&mut [u8]': '&mut room', 'u32': '1', 'u64': '1', 'i64': '1'}
-GIVEN |= {'&mut usize': '&mut size', '&mut u64': '&mut handle', '&mut i64': '&mut number'}
+GIVEN |= {'&mut usize': '&mut size', '&mut u64': '&mut handle', '&mut i64': '&mut number', '&mut [u64]': '&mut handles'}
 MAIN = """
 fn main(rt: HostRuntime) {{
     let mut ceal = Ceal::closed();
-    let (mut room, mut size, mut handle, mut number) = ([0u8; 1], 0usize, 0u64, 0i64);
+    let (mut room, mut handles, mut size, mut handle, mut number) = ([0u8; 1], [0u64; 1], 0usize, 0u64, 0i64);
 {calls}}}
 """
 EXPORTED = re.compile(rb'^define internal [^\n@]*@"%s::(ceal_\w+)"\(' % CRATE.name.encode(), re.M)

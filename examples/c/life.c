@@ -2,8 +2,9 @@
  *
  *     cc -I client examples/c/life.c libceal.a -o life && ./life [EDITS [SEED]]
  *
- * The simulation is examples/life/life.ceal. Cells of the beginning are turned at random; after each update every cell
- * at every time is compared with a computation in C. With one edit the last time is drawn.
+ * The simulation is examples/life/life.ceal. Cells of the beginning are turned at random. After each update every cell
+ * at every time is compared with a computation in C, and so is which of them have changed. With one edit the last time
+ * is drawn.
  */
 #include "ceal.h"
 
@@ -18,7 +19,7 @@
 #define TIMES 21
 
 static ceal session = CEAL_INIT;
-static int64_t world[TIMES][CELLS];
+static int64_t world[TIMES][CELLS], before[TIMES][CELLS];
 static uint64_t handles[TIMES][CELLS];
 static uint32_t seed = 1;
 
@@ -121,6 +122,29 @@ static long compare(void) {
     return (long)TIMES * CELLS;
 }
 
+/* Compares the cells that have changed since the mark, by their order; tells how many they are, and marks them again. */
+static size_t compare_changes(void) {
+    static uint64_t changed[TIMES * CELLS];
+    size_t count = 0, at = 0;
+    need(ceal_changed(&session, changed, TIMES * CELLS, &count), "what has changed");
+    for (int cell = 0; cell < CELLS; cell++)
+        for (int time = 0; time < TIMES; time++) {
+            if (world[time][cell] == before[time][cell]) continue;
+            if (at < count && changed[at] == handles[time][cell]) {
+                at++;
+                continue;
+            }
+            fprintf(stderr, "life: cell %d at time %d has changed, and is not told\n", cell, time);
+            exit(1);
+        }
+    if (at != count) {
+        fprintf(stderr, "life: a cell is told, and has not changed\n");
+        exit(1);
+    }
+    need(ceal_mark(&session), "a mark");
+    return count;
+}
+
 static void draw(void) {
     for (int y = 0; y < HEIGHT; y++) {
         for (int x = 0; x < WIDTH; x++) putchar(world[TIMES - 1][y * WIDTH + x] ? '#' : '.');
@@ -135,20 +159,25 @@ int main(int count, char **words) {
     make_inputs();
     find_handles();
     long answers = compare();
+    size_t changes = 0;
     int64_t steps, work, all = 0;
+    need(ceal_mark(&session), "a mark");
     for (int edit = 0; edit < edits; edit++) {
         int cell = (int)below(CELLS);
+        memcpy(before, world, sizeof world);
         world[0][cell] = 1 - world[0][cell];
         need(ceal_set(&session, handles[0][cell], world[0][cell]), "an edit");
         need(ceal_propagate(&session), "an update");
         need(ceal_ask(&session, "work", 4, &work), "work");
         all += work;
         answers += compare();
+        changes += compare_changes();
     }
     need(ceal_ask(&session, "steps", 5, &steps), "steps");
     if (edits == 1) draw();
-    printf("%d edits: %ld answers are as computed in C; a run takes %" PRId64 " steps, an update %" PRId64 "\n", edits,
-           answers, steps, edits ? all / edits : 0);
+    printf("%d edits: %ld answers and %zu changes are as computed in C; a run takes %" PRId64 " steps, an update %" PRId64
+           "\n",
+           edits, answers, changes, steps, edits ? all / edits : 0);
     need(ceal_close(&session), "closing");
     return 0;
 }

@@ -7,7 +7,7 @@ use Rattle.ceal_c.specs.Statuses.{IsToldOf}
 use Rattle.ceal_c.specs.declared.open.Open.{Open}
 use Rattle.ceal_c.specs.declared.status.Status.{Status}
 use Rattle.ceal_c.specs.declared.status.Status.TheVariants.{Done, Refused, OutOfFuel, More, NoMemory, Fault, Closed, IsOpen}
-use Rattle.ceal_c.specs.declared.status.Status.TheVariants.{BadFuel, TooLong, NoNumber, NotReady, Unreadable, Unsound}
+use Rattle.ceal_c.specs.declared.status.Status.TheVariants.{BadFuel, TooLong, NoNumber, NotReady, Unreadable, Unsound, NotMarked}
 
 module _ (old new : Open) (line text : List ℕ) (before number : ℤ) (answers : AnswersLine old.session line text new.session) (kept : new.reply ≡ old.reply) where
   -- where the reply is no number
@@ -26,6 +26,7 @@ module _ (old new : Open) (line text : List ℕ) (before number : ℤ) (answers 
   other NotReady told e = absurd told
   other Unreadable told e = absurd told
   other Unsound told e = absurd told
+  other NotMarked told e = absurd told
 
   -- by what was found in the reply
   pub asked : (found : Option ℤ) (status result : Status) → IsToldOf text status → IfSome found (λ n. text ≡ signed_decimal n ++ codes "\n")

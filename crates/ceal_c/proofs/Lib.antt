@@ -1,3 +1,4 @@
 mod Asked
+mod Changes
 mod InputHandles
 mod Values

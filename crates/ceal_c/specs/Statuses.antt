@@ -6,7 +6,7 @@ use Rattle.ceal_session.specs.declared.refusal.Refusal.TheVariants.{C1, C2, C3, 
 use Rattle.ceal_c.specs.declared.status.Status.{Status}
 use Rattle.ceal_c.specs.declared.status.Status.TheVariants.{Done, Refused, OutOfFuel, More, NoMemory, Fault, Closed}
 use Rattle.ceal_c.specs.declared.status.Status.TheVariants.{IsOpen, BadFuel, TooLong, NoNumber, NotReady, Unreadable}
-use Rattle.ceal_c.specs.declared.status.Status.TheVariants.{Unsound}
+use Rattle.ceal_c.specs.declared.status.Status.TheVariants.{Unsound, NotMarked}
 
 -- the code of a refusal
 abbrev pub code_number : Refusal → ℕ
@@ -35,6 +35,7 @@ status_number NoNumber = 17
 status_number NotReady = 18
 status_number Unreadable = 19
 status_number Unsound = 20
+status_number NotMarked = 21
 
 -- the reply is no refusal
 abbrev pub IsNoRefusal : List ℕ → Type 0
@@ -62,6 +63,7 @@ IsToldOf reply NoNumber = ⊥
 IsToldOf reply NotReady = ⊥
 IsToldOf reply Unreadable = ⊥
 IsToldOf reply Unsound = ⊥
+IsToldOf reply NotMarked = ⊥
 
 -- the version of the interface, which counts up with each change of ceal.h that a caller has to know
 abbrev pub version : ℕ

@@ -10,6 +10,7 @@ ghost use Rattle.ceal_script.specs.declared.command.Command.{Command as CommandO
 ghost use Rattle.ceal_session.specs.Replies.{Reads};
 ghost use Rattle.ceal_c.specs.Calls.{OnOpen, LineDone, LineTold, LineAsked, Found, Told, ToldOf, HasSet, HasReady};
 ghost use Rattle.ceal_c.specs.Calls.{closing, OpensFrom, part_text};
+ghost use Rattle.ceal_c.specs.Marks.{HasMarked, HasToldChanges};
 ghost use Rattle.ceal_c.specs.Saves.{HasSaved, ResumesFrom};
 ghost use Rattle.ceal_c.specs.Statuses.{status_number, version};
 ghost use Rattle.ceal_c.specs.Texts.{filled};
@@ -275,6 +276,42 @@ pub extern "C" fn ceal_ready(alloc: Global, ceal: &mut Ceal) -> u32
         return number_of(Status::Closed);
     };
     let status = session.ready();
+    ceal.put(session);
+    number_of(status)
+}
+
+/// Marks what the modifiables of inputs hold.
+#[unsafe(no_mangle)]
+pub extern "C" fn ceal_mark(alloc: Global, ceal: &mut Ceal) -> u32
+    ensures done { OnOpen ceal.old.kept result ceal.new.kept
+        (λ old status new. HasMarked old status new) }
+{
+    let Some(mut session) = ceal.take(alloc) else {
+        return number_of(Status::Closed);
+    };
+    let status = session.mark();
+    ceal.put(session);
+    number_of(status)
+}
+
+/// Tells the modifiables that hold something else than when they were marked, by their handles.
+#[unsafe(no_mangle)]
+pub extern "C" fn ceal_changed(
+    alloc: Global,
+    ceal: &mut Ceal,
+    handles: &mut [u64],
+    count: &mut usize,
+) -> u32
+    ensures done { OnOpen ceal.old.kept result ceal.new.kept
+        (λ old status new. HasToldChanges old handles.old count.old status handles.new count.new
+        × (new ≡ old)) }
+    ensures closed { ceal.old.kept ≡ None
+        → (handles.new ≡ handles.old) × (count.new ≡ count.old) }
+{
+    let Some(session) = ceal.take(alloc) else {
+        return number_of(Status::Closed);
+    };
+    let status = session.changed(alloc, handles, count);
     ceal.put(session);
     number_of(status)
 }

@@ -6,12 +6,13 @@ ghost use Rattle.ceal_c.specs.declared.status.Status.TheVariants.{Done};
 ghost use Rattle.ceal_script.specs.declared.command.Command.{Command as CommandOf};
 ghost use Rattle.ceal_session.specs.Replies.{Reads};
 ghost use Rattle.ceal_c.specs.Calls.{LineDone, LineTold, LineAsked, Found, Told, ToldOf, HasSet, HasReady, part_text};
+ghost use Rattle.ceal_c.specs.Marks.{HasMarked, HasToldChanges};
 ghost use Rattle.ceal_c.specs.Saves.{HasSaved};
 
-use crate::handle::{handle_of, number_of};
+use crate::handle::{handle_of, number_of, numbers_of};
 use crate::saves::save_text_of;
 use crate::status::{Status, status_of_reply};
-use crate::texts::number_in;
+use crate::texts::{fill_numbers, number_in};
 use ceal_base::no_memory::NoMemory;
 use ceal_base::text::Text;
 use ceal_script::line::command_or_none;
@@ -144,6 +145,41 @@ impl Open {
     {
         match self.session.set_number(handle_of(handle), number) {
             Ok(()) => Status::Done,
+            Err(ValueError::Memory) => Status::NoMemory,
+            Err(ValueError::Refused(refusal)) => Status::Refused(refusal),
+        }
+    }
+
+    /// Marks what the modifiables of inputs hold.
+    pub fn mark(&mut self) -> Status
+        ensures { HasMarked self.old result self.new }
+    {
+        match self.session.mark() {
+            Ok(()) => Status::Done,
+            Err(ValueError::Memory) => Status::NoMemory,
+            Err(ValueError::Refused(refusal)) => Status::Refused(refusal),
+        }
+    }
+
+    /// Tells the modifiables of inputs that hold something else than when they were marked, by their handles.
+    pub fn changed(&self, alloc: Global, handles: &mut [u64], count: &mut usize) -> Status
+        ensures { HasToldChanges self.now handles.old count.old result handles.new count.new }
+    {
+        match self.session.changed() {
+            Ok(Some(found)) => match numbers_of(alloc, found.as_slice()) {
+                Ok(numbers) => {
+                    fill_numbers(handles, numbers.as_slice());
+                    *count = numbers.len();
+                    drop(numbers);
+                    drop(found);
+                    Status::Done
+                }
+                Err(NoMemory) => {
+                    drop(found);
+                    Status::NoMemory
+                }
+            },
+            Ok(None) => Status::NotMarked,
             Err(ValueError::Memory) => Status::NoMemory,
             Err(ValueError::Refused(refusal)) => Status::Refused(refusal),
         }

@@ -37,6 +37,8 @@ pub enum Status {
     Unreadable,
     /// a save that does not hold
     Unsound,
+    /// nothing was marked
+    NotMarked,
 }
 
 // The code of a refusal.
@@ -74,6 +76,7 @@ pub fn number_of(status: Status) -> u32
         Status::NotReady => 18,
         Status::Unreadable => 19,
         Status::Unsound => 20,
+        Status::NotMarked => 21,
     }
 }
 

@@ -20,6 +20,20 @@ pub fn fill(out: &mut [u8], bytes: &[u8])
     }
 }
 
+/// The same for numbers.
+pub fn fill_numbers(out: &mut [u64], numbers: &[u64])
+    ensures { out.new ≡ filled (length out.old) numbers.now }
+{
+    if numbers.len() < out.len() {
+        let count = numbers.len();
+        out[..count].copy_from_slice(numbers);
+        out[count..].fill(0);
+    } else {
+        let room = out.len();
+        out.copy_from_slice(&numbers[..room]);
+    }
+}
+
 // The number of digits, with a sign before them or not, if it is a small one. What is no digit counts as one.
 fn value(text: &[u8]) -> i64 {
     let mut number: i64 = 0;
