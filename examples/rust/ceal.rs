@@ -92,7 +92,8 @@ impl Session {
         answered(status, Session { ceal })
     }
 
-    /// Carries out a line of a script, and returns its reply; a refusal is an error.
+    /// Carries out a line of a script, and returns its reply. Any other status than that of an answer is an error, so
+    /// not only a refusal: `more` and `out of fuel` are, too.
     pub fn line(&mut self, line: &str) -> Result<Vec<u8>, Error> {
         answered(
             unsafe { ceal_line(&mut self.ceal, line.as_ptr(), line.len()) },
